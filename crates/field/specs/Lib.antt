@@ -1,0 +1,5 @@
+pub mod Modulus
+pub mod Inverse
+pub mod Table
+pub mod Column
+pub mod Cases

@@ -1,0 +1,83 @@
+// The inverse modulo p of a number, and of each cell in a column of a buffer. Inverses of 0 to 1,023 are looked up, others computed.
+use crate::felt::Felt;
+use crate::felt::reduce;
+use crate::table::INVERSES;
+ghost use mathlib.Core.Path.{_≡_};
+ghost use Prim.Native.Nat.{_<_};
+ghost use Rattle.field.specs.Modulus.{P};
+ghost use Rattle.field.specs.Inverse.{inverseOf};
+ghost use Rattle.field.specs.Table.{TableRule};
+ghost use Rattle.field.specs.Column.{invertColumn};
+
+// The inverse of a number from 1 to p - 1, by Euclid's algorithm without signs: x·s is -u and x·t is v modulo p.
+fn euclid_inverse(x: u64) -> u64
+    requires { ⌜ (0 < x) × (x < P) ⌝ }
+    ensures { λ r. ⌜ r ≡ inverseOf x ⌝ }
+{
+    let mut u = Felt::MODULUS;
+    let mut v = x;
+    let mut s: u64 = 0;
+    let mut t: u64 = 1;
+    while v > 1 {
+        s = s + u / v * t;
+        u = u % v;
+        if u == 1 {
+            return Felt::MODULUS - s;
+        }
+        t = t + v / u * s;
+        v = v % u;
+    }
+    t
+}
+
+// The table. A constant array is built anew where it is named, so a loop makes it once and lends it.
+fn inverses() -> [u64; 1024]
+    ensures { λ r. ⌜ TableRule r ⌝ }
+{
+    INVERSES
+}
+
+// The inverse of any number, with the table lent.
+fn inverse_in(table: &[u64; 1024], x: u64) -> u64
+    requires { ⌜ TableRule (now table) ⌝ }
+    ensures { λ r. ⌜ r ≡ inverseOf x ⌝ }
+{
+    let y = reduce(x);
+    if y < 1024 {
+        table[y as usize]
+    } else {
+        euclid_inverse(y)
+    }
+}
+
+// The inverse of any number: 0 for a multiple of p.
+pub fn inverse(x: u64) -> u64
+    ensures { λ r. ⌜ r ≡ inverseOf x ⌝ }
+{
+    let table = inverses();
+    inverse_in(&table, x)
+}
+
+// Replaces by its inverse each cell in the given column of the first `rows` rows of `width` cells. Rows that the buffer does not
+// hold, and a column that a row does not have, are left out.
+pub fn invert_column(cells: &mut [u64], rows: usize, width: usize, column: usize)
+    ensures { λ _. ⌜ now (cells .exit) ≡ invertColumn (now (cells .entry)) rows width column ⌝ }
+{
+    if width <= column {
+        return;
+    }
+    let table = inverses();
+    let mut row = 0;
+    let mut at = column;
+    while row < rows {
+        if cells.len() <= at {
+            return;
+        }
+        cells[at] = inverse_in(&table, cells[at]);
+        if cells.len() - at <= width {
+            return;
+        }
+        at += width;
+        row += 1;
+    }
+}
