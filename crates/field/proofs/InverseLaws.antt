@@ -150,6 +150,9 @@ pub inverse-mod : (x : ℕ) → inverseOf (x % P) ≡ inverseOf x
 unfolding inverseOf
 inverse-mod x = ap (λ (n : ℕ). euclid n P n 0 1) (mod-mod x P)
 
+pub inverse-reduced : (x y : ℕ) → y ≡ x % P → inverseOf y ≡ inverseOf x
+inverse-reduced x y e = ap inverseOf e ∙ inverse-mod x
+
 pub inverse-zero : inverseOf 0 ≡ 0
 unfolding inverseOf euclid
 inverse-zero = refl

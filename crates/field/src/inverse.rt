@@ -54,8 +54,12 @@ fn inverse_in(table: &[u64; 1024], x: u64) -> u64
 pub fn inverse(x: u64) -> u64
     ensures { λ r. ⌜ r ≡ inverseOf x ⌝ }
 {
+    let y = reduce(x);
+    if 1024 <= y {
+        return euclid_inverse(y);
+    }
     let table = inverses();
-    inverse_in(&table, x)
+    inverse_in(&table, y)
 }
 
 // Replaces by its inverse each cell in the given column of the first `rows` rows of `width` cells. Rows that the buffer does not

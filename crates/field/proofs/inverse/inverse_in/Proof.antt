@@ -1,12 +1,8 @@
 -- `inverse::inverse_in` meets its contract: an entry of the table, or what Euclid's algorithm finds.
-use mathlib.Core.Path.{_≡_, sym, ap, _∙_}
-use Prim.Native.Nat.{ℕ, _%_}
+use mathlib.Core.Path.{_∙_}
 use denote.Ref.{now}
-use lib.ListN.{getD}
-use Rattle.field.specs.Modulus.{P}
-use Rattle.field.specs.Inverse.{inverseOf}
 use Rattle.field.proofs.Entries.{entry-inverse}
-use Rattle.field.proofs.InverseLaws.{inverse-mod}
+use Rattle.field.proofs.InverseLaws.{inverse-reduced}
 use borrow.Author.Needs.{needs}
 use Rattle.field.proofs.inverse.inverse_in.Statement.{statement}
 use Rattle.field.proofs.inverse.inverse_in.Tie as tie
@@ -23,20 +19,16 @@ element-copy-out-result c = search needs
 euclid-inverse-requires : tie.Need-euclid-inverse-requires
 euclid-inverse-requires c κs = search needs
 
--- the number modulo p has the number's inverse
-reduced : (x y : ℕ) → y ≡ x % P → inverseOf y ≡ inverseOf x
-reduced x y e = ap inverseOf e ∙ inverse-mod x
-
 returns : tie.Need-returns
 returns c =
     let s = c .before .before .before in
     entry-inverse (now (s .args .table)) (s .pre) (c .before .before .reduce .result) (c .before .if1 .taken)
-    ∙ reduced (s .args .x) (c .before .before .reduce .result) (c .before .before .reduce .ensures)
+    ∙ inverse-reduced (s .args .x) (c .before .before .reduce .result) (c .before .before .reduce .ensures)
 
 returns-2 : tie.Need-returns-2
 returns-2 c =
     c .euclid-inverse .ensures
-    ∙ reduced (c .before .before .before .args .x) (c .before .before .reduce .result) (c .before .before .reduce .ensures)
+    ∙ inverse-reduced (c .before .before .before .args .x) (c .before .before .reduce .result) (c .before .before .reduce .ensures)
 
 pub inverse-in-spec : {M : Type 1} → statement M
 inverse-in-spec =
