@@ -1,4 +1,5 @@
 // A file of decimal numbers, read into an array.
+use field::cell::cell;
 ghost use Prim.Native.Nat.{_≤_};
 
 fn wide(b: u8) -> u64 {
@@ -67,4 +68,12 @@ pub fn one_if(holds: bool) -> u64
     ensures { λ r. ⌜ r ≤ 1 ⌝ }
 {
     if holds { 1 } else { 0 }
+}
+
+// Number i of the record that begins at `at`, 0 past the end.
+pub fn item(v: &[u64], at: usize, i: usize) -> u64 {
+    if v.len() <= at {
+        return 0;
+    }
+    cell(&v[at..], i)
 }

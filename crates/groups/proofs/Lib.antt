@@ -1,0 +1,6 @@
+pub mod Starts
+pub mod OneGroup
+pub mod Sums
+pub mod RoundUp
+pub mod Contexts
+pub mod FamilyLaws

@@ -1,0 +1,89 @@
+-- `BasicBlockContext::new_at_op` meets its contract.
+use borrow.Author.Needs.{needs}
+use Rattle.groups.specs.Contexts.{contextAtOp}
+use Rattle.groups.proofs.Contexts.{in-batch}
+use Rattle.groups.proofs.context.BasicBlockContext.new_at_op.Statement.{statement}
+use Rattle.groups.proofs.context.BasicBlockContext.new_at_op.Tie as tie
+
+batch-at-requires : tie.Need-batch-at-requires
+batch-at-requires c κs = search needs
+
+enum-known-batch : tie.Need-enum-known-batch
+enum-known-batch c = search needs
+
+enum-told : tie.Need-enum-told
+enum-told c = search needs
+
+returns : tie.Need-returns
+unfolding contextAtOp
+returns c = rw (← (c .before .before .batch-at .ensures), c .enum-told .given .1)
+
+has-big-group-requires : tie.Need-has-big-group-requires
+has-big-group-requires c κs = search needs
+
+returns-2 : tie.Need-returns-2
+unfolding contextAtOp
+returns-2 c =
+    let h = c .before in
+    let b = h .before .before in
+    rw (← (b .before .before .batch-at .ensures), b .batch .given .1, ← (h .has-big-group .ensures), c .if1 .taken)
+
+starts-at-requires : tie.Need-starts-at-requires
+starts-at-requires c κs = search needs
+
+op-idx-in-batch-to-group-requires : tie.Need-op-idx-in-batch-to-group-requires
+op-idx-in-batch-to-group-requires c κs = search needs
+
+enum-known-place : tie.Need-enum-known-place
+enum-known-place c = search needs
+
+enum-told-2 : tie.Need-enum-told-2
+enum-told-2 c = search needs
+
+returns-3 : tie.Need-returns-3
+unfolding contextAtOp
+returns-3 c =
+    let o = c .before .before in
+    let s = o .before in
+    let i = s .before in
+    let h = i .before in
+    let b = h .before .before in
+    rw (← (b .before .before .batch-at .ensures), b .batch .given .1, ← (h .has-big-group .ensures), i .if1 .left, ← (s .starts-at .ensures), ← (o .op-idx-in-batch-to-group .ensures), c .enum-told2 .given .1)
+
+in-group-requires : tie.Need-in-group-requires
+in-group-requires c κs =
+    let p = c .before in
+    let o = p .before .before in
+    let s = o .before in
+    let b = s .before .before .before .before in
+    let a = b .before .before .before .before .before .args in
+    in-batch (a .batches .now) (a .block) (a .index) (b .batch .given .0 .0 .«num_ops») (a .op) (s .starts-at .result) (o .op-idx-in-batch-to-group .result) (p .place .given .0 .0) (s .starts-at .ensures) (o .op-idx-in-batch-to-group .ensures) (p .place .given .1)
+
+returns-4 : tie.Need-returns-4
+unfolding contextAtOp
+returns-4 c =
+    let p = c .before .before in
+    let o = p .before .before in
+    let s = o .before in
+    let i = s .before in
+    let h = i .before in
+    let b = h .before .before in
+    rw (← (b .before .before .batch-at .ensures), b .batch .given .1, ← (h .has-big-group .ensures), i .if1 .left, ← (s .starts-at .ensures), ← (o .op-idx-in-batch-to-group .ensures), p .place .given .1) (c .in-group .ensures)
+
+pub new-at-op-spec : {M : Type 1} → statement M
+new-at-op-spec =
+    tie.close
+    (tie.spec
+    batch-at-requires
+    enum-known-batch
+    enum-told
+    returns
+    has-big-group-requires
+    returns-2
+    starts-at-requires
+    op-idx-in-batch-to-group-requires
+    enum-known-place
+    enum-told-2
+    returns-3
+    in-group-requires
+    returns-4)

@@ -1,0 +1,22 @@
+-- `limbs` meets its contract.
+use mathlib.Core.Path.{sym, _∙_}
+use borrow.Author.Needs.{needs}
+use borrow.Author.Tests.{not-true, not-false}
+use Rattle.groups.specs.Helpers.{allBelow}
+use Rattle.groups.specs.Families.{foundOf}
+use Rattle.groups.proofs.helpers.limbs.Statement.{statement}
+use Rattle.groups.proofs.helpers.limbs.Tie as tie
+
+returns : tie.Need-returns
+unfolding allBelow foundOf
+returns c =
+    rw (sym (c .before .all-below .ensures) ∙ not-true _ (c .if1 .taken))
+
+returns-2 : tie.Need-returns-2
+unfolding allBelow foundOf
+returns-2 c =
+    let s = c .before in
+    rw (c .are .ensures, sym (s .before .all-below .ensures) ∙ not-false _ (s .if1 .left))
+
+pub limbs-spec : {M : Type 1} → statement M
+limbs-spec = tie.close (tie.spec (λ c κs. search needs) returns (λ c κs. search needs) returns-2)

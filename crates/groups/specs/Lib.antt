@@ -1,0 +1,11 @@
+pub mod Answer
+pub mod Words
+pub mod Batches
+pub mod Flags
+pub mod GroupsLeft
+pub mod GroupOfOperation
+pub mod Contexts
+pub mod CasesGroups
+pub mod Helpers
+pub mod CasesHelpers
+pub mod Families

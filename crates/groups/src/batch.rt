@@ -1,0 +1,98 @@
+// The batches of a block, as lent: twelve numbers a batch in `batches` (group count, nine group starts, number of operations,
+// first operation) and eight cells a batch in `groups`. Batch `index` of a block is record first_batch + index of both.
+use crate::number::number;
+use crate::word::Word;
+use crate::word::is_beyond;
+use crate::word::word_at;
+ghost use mathlib.Core.Path.{_≡_};
+ghost use Rattle.groups.specs.Batches.{batchAt, toldBatch, startsAt, lentBatches, bigGroup};
+
+// A block: its total of groups as `num_op_groups` answers, the record of its first batch, and how many batches it has.
+pub struct Block {
+    pub total: u32,
+    pub first_batch: u32,
+    pub batches: u32,
+}
+
+// A batch: its group count, number of operations and first operation, its record's number, and its eight group cells.
+pub struct Batch {
+    pub group_count: u32,
+    pub num_ops: u32,
+    pub first_op: u32,
+    pub place: usize,
+    pub low: Word,
+    pub high: Word,
+}
+
+pub enum BatchFound {
+    At(Batch),
+    Missing,
+}
+
+// Batch `index` of the block, or 5: the block has no such batch, or its records do not lie whole in the slices.
+pub fn batch_at(batches: &[u32], groups: &[u64], block: Block, index: u32) -> BatchFound
+    ensures { λ r. ⌜ toldBatch r ≡ batchAt (now (batches .entry)) (now (groups .entry)) block index ⌝ }
+{
+    if block.batches <= index {
+        return BatchFound::Missing;
+    }
+    let record = block.first_batch as usize + index as usize;
+    if batches.len() < 12 * record + 12 {
+        return BatchFound::Missing;
+    }
+    if groups.len() < 8 * record + 8 {
+        return BatchFound::Missing;
+    }
+    BatchFound::At(Batch {
+        group_count: number(batches, 12 * record),
+        num_ops: number(batches, 12 * record + 10),
+        first_op: number(batches, 12 * record + 11),
+        place: record,
+        low: word_at(groups, 8 * record),
+        high: word_at(groups, 8 * record + 4),
+    })
+}
+
+// Whether one of the batch's eight group cells is p or above.
+pub fn has_big_group(batch: Batch) -> bool
+    ensures { λ r. ⌜ r ≡ bigGroup batch ⌝ }
+{
+    if is_beyond(batch.low) {
+        return true;
+    }
+    is_beyond(batch.high)
+}
+
+// The nine group starts of batch `index`.
+pub fn starts_at(batches: &[u32], block: Block, index: u32) -> [u32; 9]
+    ensures { λ r. ⌜ r ≡ startsAt (now (batches .entry)) block index ⌝ }
+{
+    let at = 12 * (block.first_batch as usize + index as usize);
+    [
+        number(batches, at + 1),
+        number(batches, at + 2),
+        number(batches, at + 3),
+        number(batches, at + 4),
+        number(batches, at + 5),
+        number(batches, at + 6),
+        number(batches, at + 7),
+        number(batches, at + 8),
+        number(batches, at + 9),
+    ]
+}
+
+// How many of the block's batches have their twelve numbers in the slice.
+pub fn lent_batches(batches: &[u32], block: Block) -> u32
+    ensures { λ r. ⌜ r ≡ lentBatches (now (batches .entry)) block ⌝ }
+{
+    let records = batches.len() / 12;
+    let first = block.first_batch as usize;
+    if first + block.batches as usize <= records {
+        return block.batches;
+    }
+    if records <= first {
+        0
+    } else {
+        (records - first) as u32
+    }
+}

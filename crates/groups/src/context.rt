@@ -1,0 +1,166 @@
+// What a row in a basic block says of the block's groups.
+use crate::batch::Batch;
+use crate::batch::BatchFound;
+use crate::batch::Block;
+use crate::batch::batch_at;
+use crate::batch::has_big_group;
+use crate::batch::lent_batches;
+use crate::batch::starts_at;
+use crate::flags::BatchFlags;
+use crate::flags::FlagsFound;
+use crate::flags::batch_flags;
+use crate::group::GroupFound;
+use crate::group::OpPlace;
+use crate::group::op_idx_in_batch_to_group;
+use crate::sum::push_count;
+use crate::sum::sum_groups;
+use field::cell::cell;
+ghost use mathlib.Core.Path.{_≡_};
+ghost use Prim.Native.Nat.{_+_, _*_, _/_, _^_, _≤_};
+ghost use Rattle.groups.specs.Contexts.{tooLarge, contextInGroup, contextAtOp, toldOp, contextAtBatchStart, toldBatchStart};
+
+// The current group, from the next operation on, and how many groups of the block are left.
+pub struct BasicBlockContext {
+    pub current_op_group: u64,
+    pub group_count_in_block: u64,
+}
+
+// The context at an operation, the batch and the operation's place in it.
+pub struct OpContext {
+    pub context: BasicBlockContext,
+    pub batch: Batch,
+    pub place: OpPlace,
+}
+
+pub enum OpContextFound {
+    At(OpContext),
+    Refused(u32),
+}
+
+// The context at the start of a batch, the batch and its flags.
+pub struct BatchContext {
+    pub context: BasicBlockContext,
+    pub batch: Batch,
+    pub flags: BatchFlags,
+}
+
+pub enum BatchContextFound {
+    At(BatchContext),
+    Refused(u32),
+}
+
+// The group from the operation after that at `index` on: an operation takes 7 bits.
+fn after_op(group: u64, index: u64) -> u64
+    requires { ⌜ index ≤ 8 ⌝ }
+    ensures { λ r. ⌜ r ≡ group / 2 ^ (7 * (index + 1)) ⌝ }
+{
+    group >> (7 * (index + 1))
+}
+
+// Whether the block has too many batches, or the batch or one of the others added up has too many groups.
+fn is_too_large(block: Block, batch: Batch, above8: bool) -> bool
+    ensures { λ r. ⌜ r ≡ tooLarge block batch above8 ⌝ }
+{
+    if 4096 < block.batches {
+        return true;
+    }
+    if 8 < batch.group_count {
+        return true;
+    }
+    above8
+}
+
+// The context at an operation whose place in the batch is known, or 8 or 11.
+fn in_group(
+    push: u8,
+    block: Block,
+    batches: &[u32],
+    groups: &[u64],
+    index: u32,
+    batch: Batch,
+    place: OpPlace,
+) -> OpContextFound
+    requires { ⌜ (place .group ≤ 7) × (place .index ≤ 8) ⌝ }
+    ensures { λ r. ⌜ toldOp r ≡ contextInGroup push block (now (batches .entry)) (now (groups .entry)) index batch place ⌝ }
+{
+    let sum = sum_groups(batches, block.first_batch, 0, index, true);
+    let record = block.first_batch as usize + index as usize;
+    let group = cell(groups, 8 * record + place.group as usize);
+    let consumed = sum.groups + push_count(push, group, place.index) + place.group + 1;
+    let total = block.total as u64;
+    if total < consumed {
+        return OpContextFound::Refused(8);
+    }
+    if is_too_large(block, batch, sum.above8) {
+        return OpContextFound::Refused(11);
+    }
+    let context = BasicBlockContext {
+        current_op_group: after_op(group, place.index),
+        group_count_in_block: total - consumed,
+    };
+    OpContextFound::At(OpContext {
+        context,
+        batch,
+        place,
+    })
+}
+
+impl BasicBlockContext {
+    // The context at operation `op` of batch `index`, or the lowest number of 1, 5, 6, 8 and 11 that holds.
+    pub fn new_at_op(
+        push: u8,
+        block: Block,
+        batches: &[u32],
+        groups: &[u64],
+        index: u32,
+        op: u32,
+    ) -> OpContextFound
+        ensures { λ r. ⌜ toldOp r ≡ contextAtOp push block (now (batches .entry)) (now (groups .entry)) index op ⌝ }
+    {
+        let BatchFound::At(batch) = batch_at(batches, groups, block, index) else {
+            return OpContextFound::Refused(5);
+        };
+        if has_big_group(batch) {
+            return OpContextFound::Refused(1);
+        }
+        let starts = starts_at(batches, block, index);
+        let GroupFound::In(place) = op_idx_in_batch_to_group(starts, batch.num_ops, op) else {
+            return OpContextFound::Refused(6);
+        };
+        in_group(push, block, batches, groups, index, batch, place)
+    }
+
+    // The context at the start of batch `index`, or the lowest number of 1, 5, 7 and 11 that holds.
+    pub fn new_at_batch_start(
+        block: Block,
+        batches: &[u32],
+        groups: &[u64],
+        index: u32,
+    ) -> BatchContextFound
+        ensures { λ r. ⌜ toldBatchStart r ≡ contextAtBatchStart block (now (batches .entry)) (now (groups .entry)) index ⌝ }
+    {
+        let BatchFound::At(batch) = batch_at(batches, groups, block, index) else {
+            return BatchContextFound::Refused(5);
+        };
+        if has_big_group(batch) {
+            return BatchContextFound::Refused(1);
+        }
+        let lent = lent_batches(batches, block);
+        let sum = sum_groups(batches, block.first_batch, index, lent, false);
+        let FlagsFound::Are(flags) = batch_flags(sum.groups) else {
+            return BatchContextFound::Refused(7);
+        };
+        if is_too_large(block, batch, sum.above8) {
+            return BatchContextFound::Refused(11);
+        }
+        let context = BasicBlockContext {
+            current_op_group: batch.low.0,
+            group_count_in_block: sum.groups,
+        };
+        BatchContextFound::At(BatchContext {
+            context,
+            batch,
+            flags,
+        })
+    }
+}

@@ -1,0 +1,271 @@
+// The helper registers of an operation: what a cycle captures of it, and the six cells h2 to h7 that its row shows.
+use crate::word::QuadFelt;
+use crate::word::Word;
+use field::felt::Felt;
+use field::felt::sub;
+use field::inverse::inverse;
+ghost use mathlib.Core.Path.{_≡_};
+ghost use mathlib.Core.List.{[], _∷_};
+ghost use Rattle.field.specs.Modulus.{P};
+ghost use Rattle.groups.specs.Helpers.{allBelow, registerCells, six, helpersAnswer, toldHelpers};
+ghost use Rattle.groups.specs.Families.{familyOf, cellsOf, foundOf};
+
+// What a cycle captures of its operation. Numbers are cells.
+pub enum OperationHelperRegisters {
+    // EQ: the second and the first stack element before it.
+    Eq {
+        stack_second: u64,
+        stack_first: u64,
+    },
+    // U32SPLIT: the low and the high 32 bits of the top element.
+    U32Split {
+        lo: u64,
+        hi: u64,
+    },
+    // EQZ: the top element before it.
+    Eqz {
+        top: u64,
+    },
+    // EXPACC: what the accumulator is multiplied by.
+    Expacc {
+        acc_update_val: u64,
+    },
+    // FRI_EXT2FOLD4: alpha / x, its square, the domain point x, and the inverse of x.
+    FriExt2Fold4 {
+        ev: QuadFelt,
+        es: QuadFelt,
+        x: u64,
+        x_inv: u64,
+    },
+    // U32ADD: the low and the high 32 bits of a + b.
+    U32Add {
+        sum: u64,
+        carry: u64,
+    },
+    // U32ADD3: the low and the high 32 bits of a + b + c.
+    U32Add3 {
+        sum: u64,
+        carry: u64,
+    },
+    // U32SUB: the difference, which stands second afterwards.
+    U32Sub {
+        second_new: u64,
+    },
+    // U32MUL: the low and the high 32 bits of a * b.
+    U32Mul {
+        lo: u64,
+        hi: u64,
+    },
+    // U32MADD: the low and the high 32 bits of a * b + c.
+    U32Madd {
+        lo: u64,
+        hi: u64,
+    },
+    // U32DIV: quotient, remainder, and divisor - remainder - 1.
+    U32Div {
+        quotient: u64,
+        remainder: u64,
+        remainder_diff: u64,
+    },
+    // U32ASSERT2: the first and the second stack element.
+    U32Assert2 {
+        first: u64,
+        second: u64,
+    },
+    // HPERM: the hasher's address of the permutation.
+    HPerm {
+        addr: u64,
+    },
+    // MPVERIFY and MRUPDATE: the hasher's address of the path.
+    MerklePath {
+        addr: u64,
+    },
+    // HORNER_EVAL_BASE: the evaluation point, and the results of levels 1 and 2.
+    HornerEvalBase {
+        alpha: QuadFelt,
+        tmp0: QuadFelt,
+        tmp1: QuadFelt,
+    },
+    // HORNER_EVAL_EXT: the evaluation point, and the accumulator half way.
+    HornerEvalExt {
+        alpha: QuadFelt,
+        acc_tmp: QuadFelt,
+    },
+    // LOG_DEFERRED: the hasher's address of the permutation, and the deferred root before it.
+    LogDeferred {
+        addr: u64,
+        state_prev: Word,
+    },
+    // Every other operation.
+    Empty,
+}
+
+// The cells h2 to h7 of an operation's row.
+pub struct UserOpHelpers {
+    pub h2: u64,
+    pub h3: u64,
+    pub h4: u64,
+    pub h5: u64,
+    pub h6: u64,
+    pub h7: u64,
+}
+
+// The helpers, or the number of the refusal.
+pub enum HelpersFound {
+    Are(UserOpHelpers),
+    Refused(u32),
+}
+
+// The ways in which helpers are made.
+enum Family {
+    // Cells as they stand.
+    Cells(u64, u64, u64, u64, u64, u64),
+    // The inverse of first - second.
+    Inverse(u64, u64),
+    // Three values of 32 bits, each by its low and its high 16 bits.
+    Limbs(u64, u64, u64),
+    // Two such values, low and high, and the inverse of 2^32 - 1 - high.
+    LimbsAndInverse(u64, u64),
+}
+
+// Three elements of the extension as six cells.
+fn pairs(a: QuadFelt, b: QuadFelt, c: QuadFelt) -> Family
+    ensures { λ r. ⌜ r ≡ Family.Cells (a .0) (a .1) (b .0) (b .1) (c .0) (c .1) ⌝ }
+{
+    Family::Cells(a.0, a.1, b.0, b.1, c.0, c.1)
+}
+
+// An address and a word as five cells.
+fn addressed(addr: u64, w: Word) -> Family
+    ensures { λ r. ⌜ r ≡ Family.Cells addr (w .0) (w .1) (w .2) (w .3) 0 ⌝ }
+{
+    Family::Cells(addr, w.0, w.1, w.2, w.3, 0)
+}
+
+// Whether six numbers are all below the limit.
+fn all_below(limit: u64, a: u64, b: u64, c: u64, d: u64, e: u64, f: u64) -> bool
+    ensures { λ r. ⌜ r ≡ allBelow limit (a ∷ b ∷ c ∷ d ∷ e ∷ f ∷ []) ⌝ }
+{
+    (a < limit) & ((b < limit) & ((c < limit) & ((d < limit) & ((e < limit) & (f < limit)))))
+}
+
+// The helpers in order.
+fn are(h2: u64, h3: u64, h4: u64, h5: u64, h6: u64, h7: u64) -> HelpersFound
+    ensures { λ r. ⌜ r ≡ HelpersFound.Are (six h2 h3 h4 h5 h6 h7) ⌝ }
+{
+    HelpersFound::Are(UserOpHelpers {
+        h2,
+        h3,
+        h4,
+        h5,
+        h6,
+        h7,
+    })
+}
+
+// The helpers of three values of 32 bits, or 9.
+fn limbs(a: u64, b: u64, c: u64) -> HelpersFound
+    ensures { λ r. ⌜ toldHelpers r ≡ foundOf (Family.Limbs a b c) ⌝ }
+{
+    if !all_below(0x1_0000_0000, a, b, c, 0, 0, 0) {
+        return HelpersFound::Refused(9);
+    }
+    are(
+        a % 65536,
+        a / 65536,
+        b % 65536,
+        b / 65536,
+        c % 65536,
+        c / 65536,
+    )
+}
+
+// The helpers of two values of 32 bits and the inverse, or 9.
+fn limbs_and_inverse(lo: u64, hi: u64) -> HelpersFound
+    ensures { λ r. ⌜ toldHelpers r ≡ foundOf (Family.LimbsAndInverse lo hi) ⌝ }
+{
+    if !all_below(0x1_0000_0000, lo, hi, 0, 0, 0, 0) {
+        return HelpersFound::Refused(9);
+    }
+    let flag = inverse(sub(0xffff_ffff, hi));
+    are(lo % 65536, lo / 65536, hi % 65536, hi / 65536, flag, 0)
+}
+
+impl Family {
+    // Whether all its cells are below p.
+    fn in_field(self) -> bool
+        ensures { λ r. ⌜ r ≡ allBelow P (cellsOf self) ⌝ }
+    {
+        let p = Felt::MODULUS;
+        match self {
+            Self::Cells(a, b, c, d, e, f) => all_below(p, a, b, c, d, e, f),
+            Self::Inverse(first, second) => all_below(p, first, second, 0, 0, 0, 0),
+            Self::Limbs(a, b, c) => all_below(p, a, b, c, 0, 0, 0),
+            Self::LimbsAndInverse(lo, hi) => all_below(p, lo, hi, 0, 0, 0, 0),
+        }
+    }
+
+    // Its helpers, or 9.
+    fn helpers(self) -> HelpersFound
+        ensures { λ r. ⌜ toldHelpers r ≡ foundOf self ⌝ }
+    {
+        match self {
+            Self::Cells(a, b, c, d, e, f) => are(a, b, c, d, e, f),
+            Self::Inverse(first, second) => are(inverse(sub(first, second)), 0, 0, 0, 0, 0),
+            Self::Limbs(a, b, c) => limbs(a, b, c),
+            Self::LimbsAndInverse(lo, hi) => limbs_and_inverse(lo, hi),
+        }
+    }
+}
+
+impl OperationHelperRegisters {
+    // The register set by the way in which its helpers are made.
+    fn family(self) -> Family
+        ensures { λ r. ⌜ r ≡ familyOf self ⌝ }
+    {
+        match self {
+            Self::Eq {
+                stack_second,
+                stack_first,
+            } => Family::Inverse(stack_first, stack_second),
+            Self::U32Split { lo, hi } => Family::LimbsAndInverse(lo, hi),
+            Self::Eqz { top } => Family::Inverse(top, 0),
+            Self::Expacc { acc_update_val } => Family::Cells(acc_update_val, 0, 0, 0, 0, 0),
+            Self::FriExt2Fold4 { ev, es, x, x_inv } => pairs(ev, es, QuadFelt(x, x_inv)),
+            Self::U32Add { sum, carry } => Family::Limbs(sum, carry, 0),
+            Self::U32Add3 { sum, carry } => Family::Limbs(sum, carry, 0),
+            Self::U32Sub { second_new } => Family::Limbs(second_new, 0, 0),
+            Self::U32Mul { lo, hi } => Family::LimbsAndInverse(lo, hi),
+            Self::U32Madd { lo, hi } => Family::LimbsAndInverse(lo, hi),
+            Self::U32Div {
+                quotient,
+                remainder,
+                remainder_diff,
+            } => Family::Limbs(quotient, remainder, remainder_diff),
+            Self::U32Assert2 { first, second } => Family::Limbs(second, first, 0),
+            Self::HPerm { addr } => Family::Cells(addr, 0, 0, 0, 0, 0),
+            Self::MerklePath { addr } => Family::Cells(addr, 0, 0, 0, 0, 0),
+            Self::HornerEvalBase { alpha, tmp0, tmp1 } => pairs(alpha, tmp1, tmp0),
+            Self::HornerEvalExt { alpha, acc_tmp } => pairs(alpha, QuadFelt(0, 0), acc_tmp),
+            Self::LogDeferred { addr, state_prev } => addressed(addr, state_prev),
+            Self::Empty => Family::Cells(0, 0, 0, 0, 0, 0),
+        }
+    }
+
+    // Whether all cells of the register set are below p.
+    pub fn cells_in_field(self) -> bool
+        ensures { λ r. ⌜ r ≡ allBelow P (registerCells self) ⌝ }
+    {
+        self.family().in_field()
+    }
+
+    // The cells h2 to h7, or the lowest refusal that holds: 1 for a cell from p on, 9 for a 32-bit value from 2^32 on.
+    pub fn to_user_op_helpers(self) -> HelpersFound
+        ensures { λ r. ⌜ toldHelpers r ≡ helpersAnswer self ⌝ }
+    {
+        if !self.cells_in_field() {
+            return HelpersFound::Refused(1);
+        }
+        self.family().helpers()
+    }
+}

@@ -1,0 +1,278 @@
+// The lists of the groups layer: helpers, flags, places and contexts. A record is what the call is given, and then the answer's number
+// and six values (0 where there are fewer).
+use crate::text;
+use crate::text::item;
+use groups::batch::Block;
+use groups::context::BasicBlockContext;
+use groups::context::BatchContextFound;
+use groups::context::OpContextFound;
+use groups::flags::FlagsFound;
+use groups::flags::batch_flags;
+use groups::group::GroupFound;
+use groups::group::op_idx_in_batch_to_group;
+use groups::helpers::HelpersFound;
+use groups::helpers::OperationHelperRegisters;
+use groups::word::QuadFelt;
+use groups::word::Word;
+ghost use Prim.Native.Nat.{_<_};
+
+// The number and the values of an answer.
+pub struct Told(
+    pub u64,
+    pub u64,
+    pub u64,
+    pub u64,
+    pub u64,
+    pub u64,
+    pub u64,
+);
+
+fn refused(n: u32) -> Told {
+    Told(n as u64, 0, 0, 0, 0, 0, 0)
+}
+
+fn low32(x: u64) -> u32 {
+    (x % 0x1_0000_0000) as u32
+}
+
+fn low8(x: u64) -> u8 {
+    (x % 256) as u8
+}
+
+// The first nine cases by their number.
+fn early_case(n: u64, a: u64, b: u64, c: u64, d: u64, e: u64, f: u64) -> OperationHelperRegisters {
+    match n {
+        0 => OperationHelperRegisters::Eq {
+            stack_second: a,
+            stack_first: b,
+        },
+        1 => OperationHelperRegisters::U32Split { lo: a, hi: b },
+        2 => OperationHelperRegisters::Eqz { top: a },
+        3 => OperationHelperRegisters::Expacc { acc_update_val: a },
+        4 => OperationHelperRegisters::FriExt2Fold4 {
+            ev: QuadFelt(a, b),
+            es: QuadFelt(c, d),
+            x: e,
+            x_inv: f,
+        },
+        5 => OperationHelperRegisters::U32Add { sum: a, carry: b },
+        6 => OperationHelperRegisters::U32Add3 { sum: a, carry: b },
+        7 => OperationHelperRegisters::U32Sub { second_new: a },
+        _ => OperationHelperRegisters::U32Mul { lo: a, hi: b },
+    }
+}
+
+// The last nine.
+fn late_case(n: u64, a: u64, b: u64, c: u64, d: u64, e: u64, f: u64) -> OperationHelperRegisters {
+    match n {
+        9 => OperationHelperRegisters::U32Madd { lo: a, hi: b },
+        10 => OperationHelperRegisters::U32Div {
+            quotient: a,
+            remainder: b,
+            remainder_diff: c,
+        },
+        11 => OperationHelperRegisters::U32Assert2 {
+            first: a,
+            second: b,
+        },
+        12 => OperationHelperRegisters::HPerm { addr: a },
+        13 => OperationHelperRegisters::MerklePath { addr: a },
+        14 => OperationHelperRegisters::HornerEvalBase {
+            alpha: QuadFelt(a, b),
+            tmp0: QuadFelt(c, d),
+            tmp1: QuadFelt(e, f),
+        },
+        15 => OperationHelperRegisters::HornerEvalExt {
+            alpha: QuadFelt(a, b),
+            acc_tmp: QuadFelt(c, d),
+        },
+        16 => OperationHelperRegisters::LogDeferred {
+            addr: a,
+            state_prev: Word(b, c, d, e),
+        },
+        _ => OperationHelperRegisters::Empty,
+    }
+}
+
+fn registers(n: u64, a: u64, b: u64, c: u64, d: u64, e: u64, f: u64) -> OperationHelperRegisters {
+    if n < 9 {
+        return early_case(n, a, b, c, d, e, f);
+    }
+    late_case(n, a, b, c, d, e, f)
+}
+
+// A record: the case, and six numbers of which it takes the first ones.
+fn helpers(v: &[u64], at: usize) -> Told {
+    let set = registers(
+        item(v, at, 0),
+        item(v, at, 1),
+        item(v, at, 2),
+        item(v, at, 3),
+        item(v, at, 4),
+        item(v, at, 5),
+        item(v, at, 6),
+    );
+    let found = set.to_user_op_helpers();
+    match found {
+        HelpersFound::Refused(n) => refused(n),
+        HelpersFound::Are(h) => Told(0, h.h2, h.h3, h.h4, h.h5, h.h6, h.h7),
+    }
+}
+
+// A record: the count.
+fn flags(v: &[u64], at: usize) -> Told {
+    let found = batch_flags(item(v, at, 0));
+    match found {
+        FlagsFound::Refused => refused(7),
+        FlagsFound::Are(f) => Told(0, f.0, f.1, f.2, 0, 0, 0),
+    }
+}
+
+// A record: nine starts, the number of operations, the operation.
+fn places(v: &[u64], at: usize) -> Told {
+    let starts = [
+        low32(item(v, at, 0)),
+        low32(item(v, at, 1)),
+        low32(item(v, at, 2)),
+        low32(item(v, at, 3)),
+        low32(item(v, at, 4)),
+        low32(item(v, at, 5)),
+        low32(item(v, at, 6)),
+        low32(item(v, at, 7)),
+        low32(item(v, at, 8)),
+    ];
+    let found = op_idx_in_batch_to_group(starts, low32(item(v, at, 9)), low32(item(v, at, 10)));
+    match found {
+        GroupFound::Refused => refused(6),
+        GroupFound::In(place) => Told(0, place.group, place.index, 0, 0, 0, 0),
+    }
+}
+
+// Copies the numbers of a record from place i on.
+fn copy_numbers(v: &[u64], at: usize, i: usize, out: &mut [u32; 36])
+    requires { ⌜ i < 4096 ⌝ }
+{
+    let mut k = 0;
+    while k < 36 {
+        out[k] = low32(item(v, at, i + k));
+        k += 1;
+    }
+}
+
+fn copy_cells(v: &[u64], at: usize, i: usize, out: &mut [u64; 24])
+    requires { ⌜ i < 4096 ⌝ }
+{
+    let mut k = 0;
+    while k < 24 {
+        out[k] = item(v, at, i + k);
+        k += 1;
+    }
+}
+
+fn op_context(
+    push: u8,
+    batches: &[u32; 36],
+    groups: &[u64; 24],
+    block: Block,
+    index: u32,
+    op: u32,
+) -> Told {
+    let found = BasicBlockContext::new_at_op(push, block, batches, groups, index, op);
+    match found {
+        OpContextFound::Refused(n) => refused(n),
+        OpContextFound::At(c) => Told(
+            0,
+            c.context.current_op_group,
+            c.context.group_count_in_block,
+            c.place.index,
+            c.place.group,
+            0,
+            0,
+        ),
+    }
+}
+
+fn batch_context(batches: &[u32; 36], groups: &[u64; 24], block: Block, index: u32) -> Told {
+    let found = BasicBlockContext::new_at_batch_start(block, batches, groups, index);
+    match found {
+        BatchContextFound::Refused(n) => refused(n),
+        BatchContextFound::At(c) => Told(
+            0,
+            c.context.current_op_group,
+            c.context.group_count_in_block,
+            c.flags.0,
+            c.flags.1,
+            c.flags.2,
+            0,
+        ),
+    }
+}
+
+// A record: 0 for an operation and 1 for the start of a batch, PUSH, the block (total, first batch, batches), the batch, the operation,
+// the 36 numbers of three batches, and their 24 groups.
+fn contexts(v: &[u64], at: usize) -> Told {
+    let mut batches = [0u32; 36];
+    let mut groups = [0u64; 24];
+    copy_numbers(v, at, 7, &mut batches);
+    copy_cells(v, at, 43, &mut groups);
+    let block = Block {
+        total: low32(item(v, at, 2)),
+        first_batch: low32(item(v, at, 3)),
+        batches: low32(item(v, at, 4)),
+    };
+    let index = low32(item(v, at, 5));
+    if item(v, at, 0) == 0 {
+        return op_context(
+            low8(item(v, at, 1)),
+            &batches,
+            &groups,
+            block,
+            index,
+            low32(item(v, at, 6)),
+        );
+    }
+    batch_context(&batches, &groups, block, index)
+}
+
+pub enum List {
+    Helpers,
+    Flags,
+    Places,
+    Contexts,
+}
+
+fn computed(list: List, v: &[u64], at: usize) -> Told {
+    match list {
+        List::Helpers => helpers(v, at),
+        List::Flags => flags(v, at),
+        List::Places => places(v, at),
+        List::Contexts => contexts(v, at),
+    }
+}
+
+fn same(v: &[u64], at: usize, r: Told) -> bool {
+    (item(v, at, 0) == r.0)
+        & ((item(v, at, 1) == r.1)
+            & ((item(v, at, 2) == r.2)
+                & ((item(v, at, 3) == r.3)
+                    & ((item(v, at, 4) == r.4)
+                        & ((item(v, at, 5) == r.5) & (item(v, at, 6) == r.6))))))
+}
+
+// How many records of `given` numbers and an answer come out right.
+pub fn right(list: List, given: usize, v: &[u64], all: u64) -> u64
+    requires { ⌜ given < 4096 ⌝ }
+{
+    let mut right: u64 = 0;
+    let mut k: u64 = 0;
+    let mut at: usize = 0;
+    while k < all {
+        if v.len() <= at {
+            return right;
+        }
+        right += text::one_if(same(v, at + given, computed(list, v, at)));
+        at += given + 7;
+        k += 1;
+    }
+    right
+}
