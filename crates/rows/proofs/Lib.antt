@@ -1,0 +1,4 @@
+pub mod AnyFrom
+pub mod Bits
+pub mod EndQueue
+pub mod Steps

@@ -1,0 +1,34 @@
+-- `scan::cycle_big` meets its contract.
+use mathlib.Core.Bool.{or-assoc}
+use borrow.Author.Needs.{needs}
+use Rattle.groups.specs.Helpers.{registerCells}
+use Rattle.rows.specs.Scans.{cycleBig, cycleCells}
+use Rattle.rows.proofs.AnyFrom.{any-append, any-all}
+use Rattle.rows.proofs.scan.cycle_big.Statement.{statement}
+use Rattle.rows.proofs.scan.cycle_big.Tie as tie
+
+returns : tie.Need-returns
+unfolding cycleBig cycleCells
+returns c =
+    let b = c .before .before in
+    simp (any-append, or-assoc)
+    (rw (
+      any-all _ (registerCells _),
+      ← (b .before .before .before .before .fixed-cells .ensures),
+      ← (b .before .any-big .ensures),
+      ← (b .cells-in-field .ensures),
+      ← (c .before .callee-big .ensures),
+      ← (c .info-big .ensures),
+    ))
+
+pub cycle-big-spec : {M : Type 1} → statement M
+cycle-big-spec =
+    tie.close
+    (tie.spec
+    (λ c κs. search needs)
+    (λ c. search needs)
+    (λ c κs. search needs)
+    (λ c κs. search needs)
+    (λ c κs. search needs)
+    (λ c κs. search needs)
+    returns)

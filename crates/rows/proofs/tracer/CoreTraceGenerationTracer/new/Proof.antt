@@ -1,0 +1,12 @@
+-- `CoreTraceGenerationTracer::new` meets its contract.
+use borrow.Author.Needs.{needs}
+use Rattle.rows.specs.Cycles.{fresh}
+use Rattle.rows.proofs.tracer.CoreTraceGenerationTracer.new.Statement.{statement}
+use Rattle.rows.proofs.tracer.CoreTraceGenerationTracer.new.Tie as tie
+
+returns : tie.Need-returns
+unfolding fresh
+returns c = rw (c .before .zeros .ensures, c .zeros2 .ensures)
+
+pub new-spec : {M : Type 1} → statement M
+new-spec = tie.close (tie.spec (λ c κs. search needs) (λ c κs. search needs) returns)

@@ -1,0 +1,17 @@
+-- Document 01, "The row": "49 cells in the documentation's order".
+use mathlib.Core.List.{List, _++_}
+use Prim.Native.Nat.{ℕ, _+_, _*_}
+use lib.ListN.{take, drop}
+use Rattle.rows.specs.declared.decoder_row.DecoderRow.{DecoderRow}
+use Rattle.rows.specs.declared.state.SystemCols.{SystemCols}
+use Rattle.rows.specs.declared.state.StackCols.{StackCols}
+use Rattle.rows.specs.DecoderRows.{decoderCells}
+use Rattle.rows.specs.Built.{systemCells, stackCells}
+
+-- 6 system cells, 24 decoder cells, 19 stack cells
+unfoldable pub rowCells : SystemCols → DecoderRow → StackCols → List ℕ
+rowCells system row stack = systemCells system ++ decoderCells row ++ stackCells stack
+
+-- a buffer with the given cells in the place of row r
+unfoldable pub putRow : List ℕ → (r : ℕ) → (cells : List ℕ) → List ℕ
+putRow buffer r cells = take (49 * r) buffer ++ cells ++ drop (49 * r + 49) buffer

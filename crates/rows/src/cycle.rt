@@ -1,0 +1,283 @@
+// One cycle: the stored continuation becomes one row of the lent fragment, or a refusal is kept.
+use crate::continuation::CalleeWord;
+use crate::continuation::Captured;
+use crate::continuation::ContextInfo;
+use crate::continuation::LoopCondition;
+use crate::continuation::Used;
+use crate::made::Made;
+use crate::made::MadeRow;
+use crate::made::make;
+use crate::profile::Profile;
+use crate::row::write_row;
+use crate::scan::Scan;
+use crate::scan::cycle_big;
+use crate::scan::fragment_wrong;
+use crate::scan::scan_lent;
+use crate::state::StackCols;
+use crate::state::StackState;
+use crate::state::SystemCols;
+use crate::state::SystemState;
+use crate::tracer::CoreTraceGenerationTracer;
+use crate::tracer::StoredContinuation;
+use groups::helpers::OperationHelperRegisters;
+ghost use mathlib.Core.Path.{_≡_};
+ghost use Prim.Native.Nat.{_+_, _*_, _/_, _≤_, _<_};
+ghost use lib.ListN.{length};
+ghost use Rattle.groups.specs.Answer.{number, accepted};
+ghost use Rattle.rows.specs.Forests.{forest};
+ghost use Rattle.rows.specs.Addresses.{queues};
+ghost use Rattle.rows.specs.Made.{toldMade};
+ghost use Rattle.rows.specs.Scans.{scanOf};
+ghost use Rattle.rows.specs.Cycles.{cycleWith, HasRoom, cycle, leftAfter, keeping, tracerAfter, fragmentAfter};
+
+// What a finish answers: 0 or the refusal's number, and the tracer.
+pub struct Finished {
+    pub number: u32,
+    pub tracer: CoreTraceGenerationTracer,
+}
+
+// What is left of the captured values.
+fn left_after(used: Used, captured: Captured) -> Captured
+    ensures { λ r. ⌜ r ≡ leftAfter used captured ⌝ }
+{
+    let condition = captured.condition;
+    let callee = captured.callee;
+    let info = captured.info;
+    match used {
+        Used::Nothing => captured,
+        Used::Condition => Captured {
+            condition: LoopCondition::Absent,
+            callee,
+            info,
+        },
+        Used::Callee => Captured {
+            condition,
+            callee: CalleeWord::Absent,
+            info,
+        },
+        Used::CalleeAndInfo => Captured {
+            condition,
+            callee: CalleeWord::Absent,
+            info: ContextInfo::Absent,
+        },
+    }
+}
+
+// Every check of a finish in its order, and what the continuation makes.
+fn checked(
+    scan: Scan,
+    cells: usize,
+    nodes: &[u32],
+    digests: &[u64],
+    batches: &[u32],
+    groups: &[u64],
+    ops: &[u8],
+    addresses: &[u64],
+    parents: &[u64],
+    ends: &[u64],
+    profile: Profile,
+    system: SystemState,
+    stack: StackState,
+    registers: OperationHelperRegisters,
+    tracer: CoreTraceGenerationTracer,
+) -> Made
+    ensures { λ r. ⌜ toldMade r ≡ cycleWith scan profile (forest (now (nodes .entry)) (now (digests .entry)) (now (batches .entry)) (now (groups .entry)) (now (ops .entry))) (queues (now (addresses .entry)) (now (parents .entry)) (now (ends .entry))) system stack registers cells tracer ⌝ }
+    ensures { λ r. ⌜ HasRoom r cells (tracer .rows) ⌝ }
+{
+    if tracer.refusal != 0 {
+        return Made::Refused(tracer.refusal);
+    }
+    let stored = tracer.stored;
+    let StoredContinuation::Is(continuation) = stored else {
+        return Made::Refused(23);
+    };
+    if scan.big | cycle_big(system, stack, registers, tracer) {
+        return Made::Refused(1);
+    }
+    if scan.profile_wrong {
+        return Made::Refused(2);
+    }
+    if scan.too_large | fragment_wrong(cells, tracer.rows) {
+        return Made::Refused(11);
+    }
+    if stack.stack_depth < 16 {
+        return Made::Refused(10);
+    }
+    let captured = tracer.captured;
+    let state = tracer.state;
+    let at = tracer.at;
+    let made = make(
+        nodes,
+        digests,
+        batches,
+        groups,
+        ops,
+        addresses,
+        parents,
+        ends,
+        profile,
+        registers,
+        continuation,
+        tracer.is_loop_body,
+        captured,
+        state,
+        at,
+    );
+    match made {
+        Made::Refused(n) => Made::Refused(n),
+        Made::Row(row) => {
+            if cells / 49 <= tracer.rows {
+                return Made::Refused(24);
+            }
+            Made::Row(row)
+        }
+    }
+}
+
+// The tracer with a refusal's number.
+fn kept(n: u32, tracer: CoreTraceGenerationTracer) -> CoreTraceGenerationTracer
+    ensures { λ r. ⌜ r ≡ keeping n tracer ⌝ }
+{
+    let mut t = tracer;
+    t.refusal = n;
+    t
+}
+
+// The tracer after a row.
+fn moved(
+    row: MadeRow,
+    system: SystemState,
+    stack: StackState,
+    tracer: CoreTraceGenerationTracer,
+) -> CoreTraceGenerationTracer
+    requires { ⌜ tracer .rows + 1 < 18446744073709551616 ⌝ }
+    ensures { λ r. ⌜ r ≡ tracerAfter system stack tracer (accepted row) ⌝ }
+{
+    let stored = tracer.stored;
+    let before = tracer.captured;
+    let used = row.used;
+    let captured = left_after(used, before);
+    let state = row.state;
+    let at = row.at;
+    let built_system = SystemCols::build(system);
+    let built_stack = StackCols::build(stack);
+    CoreTraceGenerationTracer {
+        refusal: 0,
+        rows: tracer.rows + 1,
+        stored,
+        is_loop_body: tracer.is_loop_body,
+        captured,
+        state,
+        at,
+        system: built_system,
+        stack: built_stack,
+    }
+}
+
+// One finish, given what the scan found. With another scan's answer it would not refuse, so it stays inside the crate.
+fn cycle_with(
+    scan: Scan,
+    nodes: &[u32],
+    digests: &[u64],
+    batches: &[u32],
+    groups: &[u64],
+    ops: &[u8],
+    addresses: &[u64],
+    parents: &[u64],
+    ends: &[u64],
+    profile: Profile,
+    system: SystemState,
+    stack: StackState,
+    registers: OperationHelperRegisters,
+    tracer: CoreTraceGenerationTracer,
+    fragment: &mut [u64],
+) -> Finished
+    ensures { λ r. ⌜ r .number ≡ number (cycleWith scan profile (forest (now (nodes .entry)) (now (digests .entry)) (now (batches .entry)) (now (groups .entry)) (now (ops .entry))) (queues (now (addresses .entry)) (now (parents .entry)) (now (ends .entry))) system stack registers (length (now (fragment .entry))) tracer) ⌝ }
+    ensures { λ r. ⌜ r .tracer ≡ tracerAfter system stack tracer (cycleWith scan profile (forest (now (nodes .entry)) (now (digests .entry)) (now (batches .entry)) (now (groups .entry)) (now (ops .entry))) (queues (now (addresses .entry)) (now (parents .entry)) (now (ends .entry))) system stack registers (length (now (fragment .entry))) tracer) ⌝ }
+    ensures { λ _. ⌜ now (fragment .exit) ≡ fragmentAfter (now (fragment .entry)) tracer (cycleWith scan profile (forest (now (nodes .entry)) (now (digests .entry)) (now (batches .entry)) (now (groups .entry)) (now (ops .entry))) (queues (now (addresses .entry)) (now (parents .entry)) (now (ends .entry))) system stack registers (length (now (fragment .entry))) tracer) ⌝ }
+{
+    let made = checked(
+        scan,
+        fragment.len(),
+        nodes,
+        digests,
+        batches,
+        groups,
+        ops,
+        addresses,
+        parents,
+        ends,
+        profile,
+        system,
+        stack,
+        registers,
+        tracer,
+    );
+    match made {
+        Made::Refused(n) => Finished {
+            number: n,
+            tracer: kept(n, tracer),
+        },
+        Made::Row(row) => {
+            let decoder = row.row;
+            let last_system = tracer.last_system();
+            let last_stack = tracer.last_stack();
+            write_row(fragment, tracer.rows, last_system, decoder, last_stack);
+            Finished {
+                number: 0,
+                tracer: moved(row, system, stack, tracer),
+            }
+        }
+    }
+}
+
+// One finish: it writes one row of the fragment, or keeps a refusal's number.
+pub fn finalize_clock_cycle(
+    nodes: &[u32],
+    digests: &[u64],
+    batches: &[u32],
+    groups: &[u64],
+    ops: &[u8],
+    addresses: &[u64],
+    parents: &[u64],
+    ends: &[u64],
+    profile: Profile,
+    system: SystemState,
+    stack: StackState,
+    registers: OperationHelperRegisters,
+    tracer: CoreTraceGenerationTracer,
+    fragment: &mut [u64],
+) -> Finished
+    ensures { λ r. ⌜ r .number ≡ number (cycle profile (forest (now (nodes .entry)) (now (digests .entry)) (now (batches .entry)) (now (groups .entry)) (now (ops .entry))) (queues (now (addresses .entry)) (now (parents .entry)) (now (ends .entry))) system stack registers (length (now (fragment .entry))) tracer) ⌝ }
+    ensures { λ r. ⌜ r .tracer ≡ tracerAfter system stack tracer (cycle profile (forest (now (nodes .entry)) (now (digests .entry)) (now (batches .entry)) (now (groups .entry)) (now (ops .entry))) (queues (now (addresses .entry)) (now (parents .entry)) (now (ends .entry))) system stack registers (length (now (fragment .entry))) tracer) ⌝ }
+    ensures { λ _. ⌜ now (fragment .exit) ≡ fragmentAfter (now (fragment .entry)) tracer (cycle profile (forest (now (nodes .entry)) (now (digests .entry)) (now (batches .entry)) (now (groups .entry)) (now (ops .entry))) (queues (now (addresses .entry)) (now (parents .entry)) (now (ends .entry))) system stack registers (length (now (fragment .entry))) tracer) ⌝ }
+{
+    let found = scan_lent(
+        profile,
+        nodes,
+        digests,
+        batches,
+        groups,
+        ops,
+        addresses,
+        parents,
+        ends,
+    );
+    cycle_with(
+        found,
+        nodes,
+        digests,
+        batches,
+        groups,
+        ops,
+        addresses,
+        parents,
+        ends,
+        profile,
+        system,
+        stack,
+        registers,
+        tracer,
+        fragment,
+    )
+}

@@ -1,0 +1,6 @@
+// The 32-bit numbers that name a row, a context and a node: no call accepts one for another.
+pub struct RowIndex(pub u32);
+
+pub struct ContextId(pub u32);
+
+pub struct MastNodeId(pub u32);

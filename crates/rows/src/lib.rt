@@ -1,0 +1,13 @@
+// Rows: from a stored continuation to a row of 49 cells, and the records that a cycle is given and keeps.
+pub mod continuation;
+pub mod cycle;
+pub mod decoder_row;
+pub mod forest;
+pub mod ids;
+mod made;
+pub mod profile;
+pub mod replay;
+mod row;
+mod scan;
+pub mod state;
+pub mod tracer;

@@ -1,0 +1,109 @@
+// One row of 49 cells, written into a buffer.
+use crate::decoder_row::DecoderRow;
+use crate::state::StackCols;
+use crate::state::SystemCols;
+ghost use mathlib.Core.Path.{_≡_};
+ghost use Prim.Native.Nat.{_+_, _*_, _≤_, _<_};
+ghost use lib.ListN.{length};
+ghost use lib.Seq.{paste};
+ghost use Rattle.rows.specs.DecoderRows.{extra0, extra1};
+ghost use Rattle.rows.specs.Cells.{rowCells, putRow};
+
+fn wide(x: u8) -> u64
+    ensures { λ r. ⌜ r ≡ x ⌝ }
+{
+    x as u64
+}
+
+// Copies all of `src` into `dst` from index `at` on.
+fn copy_in(dst: &mut [u64], at: usize, src: &[u64])
+    requires { ⌜ at + length (now src) ≤ length (now dst) ⌝ }
+    ensures { λ _. ⌜ now (dst .exit) ≡ paste (now (dst .entry)) at (now (src .entry)) (length (now (src .entry))) ⌝ }
+{
+    let mut j = 0;
+    while j < src.len() {
+        dst[at + j] = src[j];
+        j += 1;
+    }
+}
+
+fn extra_0(op: u64) -> u64
+    ensures { λ r. ⌜ r ≡ extra0 op ⌝ }
+{
+    (op / 64 % 2) * (1 - op / 32 % 2) * (op / 16 % 2)
+}
+
+fn extra_1(op: u64) -> u64
+    ensures { λ r. ⌜ r ≡ extra1 op ⌝ }
+{
+    (op / 64 % 2) * (op / 32 % 2)
+}
+
+// Writes row `row`: 6 system cells, 24 decoder cells, 19 stack cells.
+pub fn write_row(
+    buffer: &mut [u64],
+    row: usize,
+    system: SystemCols,
+    d: DecoderRow,
+    stack: StackCols,
+)
+    requires { ⌜ 49 * row + 49 ≤ length (now buffer) ⌝ }
+    ensures { λ _. ⌜ now (buffer .exit) ≡ putRow (now (buffer .entry)) row (rowCells system d stack) ⌝ }
+{
+    let op = wide(d.opcode);
+    let x0 = extra_0(op);
+    let x1 = extra_1(op);
+    let t = stack.top;
+    let cells = [
+        system.clk,
+        system.ctx,
+        system.fn_hash.0,
+        system.fn_hash.1,
+        system.fn_hash.2,
+        system.fn_hash.3,
+        d.addr,
+        op % 2,
+        op / 2 % 2,
+        op / 4 % 2,
+        op / 8 % 2,
+        op / 16 % 2,
+        op / 32 % 2,
+        op / 64 % 2,
+        d.first.0,
+        d.first.1,
+        d.first.2,
+        d.first.3,
+        d.second.0,
+        d.second.1,
+        d.second.2,
+        d.second.3,
+        d.in_basic_block,
+        d.group_count,
+        d.op_index,
+        d.batch_flags.0,
+        d.batch_flags.1,
+        d.batch_flags.2,
+        x0,
+        x1,
+        t[0],
+        t[1],
+        t[2],
+        t[3],
+        t[4],
+        t[5],
+        t[6],
+        t[7],
+        t[8],
+        t[9],
+        t[10],
+        t[11],
+        t[12],
+        t[13],
+        t[14],
+        t[15],
+        stack.b0,
+        stack.b1,
+        stack.h0,
+    ];
+    copy_in(buffer, 49 * row, &cells);
+}
