@@ -16,7 +16,7 @@ fn wide(x: u8) -> u64
 }
 
 // Copies all of `src` into `dst` from index `at` on.
-fn copy_in(dst: &mut [u64], at: usize, src: &[u64])
+pub fn copy_in(dst: &mut [u64], at: usize, src: &[u64])
     requires { ⌜ at + length (now src) ≤ length (now dst) ⌝ }
     ensures { λ _. ⌜ now (dst .exit) ≡ paste (now (dst .entry)) at (now (src .entry)) (length (now (src .entry))) ⌝ }
 {

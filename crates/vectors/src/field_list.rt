@@ -1,8 +1,8 @@
 // The list of the field layer: four numbers a vector, the kind (0 reduce, 1 add, 2 sub, 3 mul, 4 inverse), a, b and the result.
-use crate::text;
 use field::cell::cell;
 use field::felt;
 use field::inverse::inverse;
+use lists::text::one_if;
 
 fn computed(kind: u64, a: u64, b: u64) -> u64 {
     if kind == 0 {
@@ -30,7 +30,7 @@ pub fn right(v: &[u64], all: u64) -> u64 {
             return right;
         }
         let r = computed(cell(v, at), cell(v, at + 1), cell(v, at + 2));
-        right += text::one_if(r == cell(v, at + 3));
+        right += one_if(r == cell(v, at + 3));
         at += 4;
         k += 1;
     }

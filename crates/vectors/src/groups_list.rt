@@ -1,7 +1,5 @@
 // The lists of the groups layer: helpers, flags, places and contexts. A record is what the call is given, and then the answer's number
 // and six values (0 where there are fewer).
-use crate::text;
-use crate::text::item;
 use groups::batch::Block;
 use groups::context::BasicBlockContext;
 use groups::context::BatchContextFound;
@@ -11,9 +9,11 @@ use groups::flags::batch_flags;
 use groups::group::GroupFound;
 use groups::group::op_idx_in_batch_to_group;
 use groups::helpers::HelpersFound;
-use groups::helpers::OperationHelperRegisters;
-use groups::word::QuadFelt;
-use groups::word::Word;
+use lists::registers::registers;
+use lists::text::item;
+use lists::text::low8;
+use lists::text::low32;
+use lists::text::one_if;
 ghost use Prim.Native.Nat.{_<_};
 
 // The number and the values of an answer.
@@ -29,76 +29,6 @@ pub struct Told(
 
 fn refused(n: u32) -> Told {
     Told(n as u64, 0, 0, 0, 0, 0, 0)
-}
-
-fn low32(x: u64) -> u32 {
-    (x % 0x1_0000_0000) as u32
-}
-
-fn low8(x: u64) -> u8 {
-    (x % 256) as u8
-}
-
-// The first nine cases by their number.
-fn early_case(n: u64, a: u64, b: u64, c: u64, d: u64, e: u64, f: u64) -> OperationHelperRegisters {
-    match n {
-        0 => OperationHelperRegisters::Eq {
-            stack_second: a,
-            stack_first: b,
-        },
-        1 => OperationHelperRegisters::U32Split { lo: a, hi: b },
-        2 => OperationHelperRegisters::Eqz { top: a },
-        3 => OperationHelperRegisters::Expacc { acc_update_val: a },
-        4 => OperationHelperRegisters::FriExt2Fold4 {
-            ev: QuadFelt(a, b),
-            es: QuadFelt(c, d),
-            x: e,
-            x_inv: f,
-        },
-        5 => OperationHelperRegisters::U32Add { sum: a, carry: b },
-        6 => OperationHelperRegisters::U32Add3 { sum: a, carry: b },
-        7 => OperationHelperRegisters::U32Sub { second_new: a },
-        _ => OperationHelperRegisters::U32Mul { lo: a, hi: b },
-    }
-}
-
-// The last nine.
-fn late_case(n: u64, a: u64, b: u64, c: u64, d: u64, e: u64, f: u64) -> OperationHelperRegisters {
-    match n {
-        9 => OperationHelperRegisters::U32Madd { lo: a, hi: b },
-        10 => OperationHelperRegisters::U32Div {
-            quotient: a,
-            remainder: b,
-            remainder_diff: c,
-        },
-        11 => OperationHelperRegisters::U32Assert2 {
-            first: a,
-            second: b,
-        },
-        12 => OperationHelperRegisters::HPerm { addr: a },
-        13 => OperationHelperRegisters::MerklePath { addr: a },
-        14 => OperationHelperRegisters::HornerEvalBase {
-            alpha: QuadFelt(a, b),
-            tmp0: QuadFelt(c, d),
-            tmp1: QuadFelt(e, f),
-        },
-        15 => OperationHelperRegisters::HornerEvalExt {
-            alpha: QuadFelt(a, b),
-            acc_tmp: QuadFelt(c, d),
-        },
-        16 => OperationHelperRegisters::LogDeferred {
-            addr: a,
-            state_prev: Word(b, c, d, e),
-        },
-        _ => OperationHelperRegisters::Empty,
-    }
-}
-
-fn registers(n: u64, a: u64, b: u64, c: u64, d: u64, e: u64, f: u64) -> OperationHelperRegisters {
-    if n < 9 {
-        return early_case(n, a, b, c, d, e, f);
-    }
-    late_case(n, a, b, c, d, e, f)
 }
 
 // A record: the case, and six numbers of which it takes the first ones.
@@ -270,7 +200,7 @@ pub fn right(list: List, given: usize, v: &[u64], all: u64) -> u64
         if v.len() <= at {
             return right;
         }
-        right += text::one_if(same(v, at + given, computed(list, v, at)));
+        right += one_if(same(v, at + given, computed(list, v, at)));
         at += given + 7;
         k += 1;
     }

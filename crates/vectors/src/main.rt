@@ -2,19 +2,11 @@
 // digits is a number, and all else separates. `make.py` made them, with the expected numbers computed apart from this code.
 mod field_list;
 mod groups_list;
-mod text;
 
 use groups_list::List;
+use lists::text;
+use lists::text::report;
 ghost use Prim.Native.Nat.{_<_};
-
-fn report(name: &[u8], right: u64, all: u64) {
-    io::write_all(libc::STDOUT_FILENO, name);
-    io::write_all(libc::STDOUT_FILENO, b": ");
-    io::print_decimal(libc::STDOUT_FILENO, right);
-    io::write_all(libc::STDOUT_FILENO, b" of ");
-    io::print_decimal(libc::STDOUT_FILENO, all);
-    io::write_all(libc::STDOUT_FILENO, b" right\n");
-}
 
 fn field_vectors() {
     let mut numbers = [0u64; 8192];

@@ -1,0 +1,60 @@
+// Copies and comparisons of lists of numbers. Past the end of a list stand zeros.
+use field::cell::cell;
+use lists::text::item;
+use lists::text::low8;
+use lists::text::low32;
+
+// Fills `to` with the numbers from place `at` on.
+pub fn copy(from: &[u64], at: usize, to: &mut [u64]) {
+    let mut i = 0;
+    while i < to.len() {
+        to[i] = item(from, at, i);
+        i += 1;
+    }
+}
+
+pub fn copy_u32(from: &[u64], at: usize, to: &mut [u32]) {
+    let mut i = 0;
+    while i < to.len() {
+        to[i] = low32(item(from, at, i));
+        i += 1;
+    }
+}
+
+pub fn copy_u8(from: &[u64], at: usize, to: &mut [u8]) {
+    let mut i = 0;
+    while i < to.len() {
+        to[i] = low8(item(from, at, i));
+        i += 1;
+    }
+}
+
+// Stores x in place at + i, if there is such a place.
+pub fn put(x: u64, to: &mut [u64], at: usize, i: usize) {
+    if to.len() <= at {
+        return;
+    }
+    if i < to.len() - at {
+        to[at + i] = x;
+    }
+}
+
+// Stores the numbers from place `at` on.
+pub fn put_all(from: &[u64], to: &mut [u64], at: usize) {
+    let mut i = 0;
+    while i < from.len() {
+        put(from[i], to, at, i);
+        i += 1;
+    }
+}
+
+// Whether the first list has the numbers of the second.
+pub fn same(a: &[u64], b: &[u64]) -> bool {
+    let mut same = true;
+    let mut i = 0;
+    while i < b.len() {
+        same = same & (cell(a, i) == b[i]);
+        i += 1;
+    }
+    same
+}

@@ -1,0 +1,32 @@
+-- A buffer of cells as rows of 49, one after another.
+use mathlib.Core.List.{List, [], _∷_, _++_}
+use Prim.Native.Nat.{ℕ, zero, suc, _*_}
+use lib.ListN.{length, take, drop, getD}
+
+-- the first n rows of a buffer
+unfoldable pub rowsOf : (n : ℕ) → List ℕ → List (List ℕ)
+rowsOf zero buffer = []
+rowsOf (suc n) buffer = take 49 buffer ∷ rowsOf n (drop 49 buffer)
+
+-- the cells of rows one after another
+unfoldable pub flat : List (List ℕ) → List ℕ
+flat [] = []
+flat (row ∷ rows) = row ++ flat rows
+
+-- what f makes of the first n rows, and behind it the cells as they are
+unfoldable pub onRows : (n : ℕ) → (List (List ℕ) → List (List ℕ)) → List ℕ → List ℕ
+onRows n f buffer = flat (f (rowsOf n buffer)) ++ drop (49 * length (f (rowsOf n buffer))) buffer
+
+-- the last of some rows, no cells where there is none
+unfoldable pub lastRow : List (List ℕ) → List ℕ
+lastRow [] = []
+lastRow (row ∷ []) = row
+lastRow (row ∷ next ∷ rows) = lastRow (next ∷ rows)
+
+-- cells of a row by their places: "clk, ctx, fn_hash (4); addr, op bits (7, lowest first), h0 to h7, in_span, group_count, ..; stack top
+-- (16), b0, b1, helper"
+abbrev pub addrOf : List ℕ → ℕ
+addrOf row = getD row 6 0
+
+abbrev pub h4Of : List ℕ → ℕ
+h4Of row = getD row 18 0
