@@ -6,12 +6,6 @@
 // The input's places: profile 0 to 13; nodes from 15, digests from 112, batches from 177, groups from 226, operations from 259, block
 // addresses from 300, parents from 305, ends from 310, each with its length in the place before; tracer 322 to 367; system 368 to 373;
 // stack 374 to 391; helper registers 392 to 398; values to store 399 to 412; the fragment from 414, its length in 413.
-use crate::copies::copy;
-use crate::copies::copy_u8;
-use crate::copies::copy_u32;
-use crate::copies::put;
-use crate::copies::put_all;
-use crate::copies::same;
 use crate::given::positions_of;
 use crate::given::profile_of;
 use crate::given::registers_of;
@@ -22,6 +16,12 @@ use crate::given::tracer_of;
 use crate::given::values_of;
 use crate::told::final_numbers;
 use crate::told::tracer_numbers;
+use lists::copies::copy;
+use lists::copies::copy_u8;
+use lists::copies::copy_u32;
+use lists::copies::put;
+use lists::copies::put_all;
+use lists::copies::same;
 use lists::text::item;
 use lists::text::one_if;
 use rows::cycle::Finished;

@@ -1,8 +1,8 @@
 // Copies and comparisons of lists of numbers. Past the end of a list stand zeros.
+use crate::text::item;
+use crate::text::low8;
+use crate::text::low32;
 use field::cell::cell;
-use lists::text::item;
-use lists::text::low8;
-use lists::text::low32;
 
 // Fills `to` with the numbers from place `at` on.
 pub fn copy(from: &[u64], at: usize, to: &mut [u64]) {

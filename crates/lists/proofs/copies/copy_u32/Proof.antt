@@ -1,10 +1,10 @@
--- `copies::copy_u8` is safe and ends.
+-- `copies::copy_u32` is safe and ends.
 use mathlib.Core.Path.{_≡_}
 use Prim.Native.Nat.{_-_, _≤_}
 use borrow.Author.Needs.{needs}
 use lib.ListN.{length}
-use Rattle.row_vectors.proofs.copies.copy_u8.Statement.{statement}
-use Rattle.row_vectors.proofs.copies.copy_u8.Tie as tie
+use Rattle.lists.proofs.copies.copy_u32.Statement.{statement}
+use Rattle.lists.proofs.copies.copy_u32.Tie as tie
 
 abbrev Inv-loop : tie.InvT-loop
 Inv-loop from at to₀ i₀ to i = (i ≤ length to₀) × (length to ≡ length to₀)
@@ -12,8 +12,8 @@ Inv-loop from at to₀ i₀ to i = (i ≤ length to₀) × (length to ≡ length
 abbrev μ-loop : tie.MeasureT-loop
 μ-loop from at to₀ i₀ to i = length to₀ - i
 
-pub copy-u8-spec : {M : Type 1} → statement M
-copy-u8-spec =
+pub copy-u32-spec : {M : Type 1} → statement M
+copy-u32-spec =
     tie.close
     (tie.spec
     Inv-loop
@@ -21,6 +21,7 @@ copy-u8-spec =
     (λ c. search needs)
     (λ c κs. search needs)
     (λ c κs. search needs)
+    (λ c. search needs)
     (λ c. search needs)
     (λ c. search needs)
     (λ c. search needs)

@@ -2,8 +2,8 @@
 use Prim.Native.Nat.{_-_, _≤_}
 use borrow.Author.Needs.{needs}
 use lib.ListN.{length}
-use Rattle.row_vectors.proofs.copies.same.Statement.{statement}
-use Rattle.row_vectors.proofs.copies.same.Tie as tie
+use Rattle.lists.proofs.copies.same.Statement.{statement}
+use Rattle.lists.proofs.copies.same.Tie as tie
 
 abbrev Inv-loop : tie.InvT-loop
 Inv-loop a b same₀ i₀ same i = i ≤ length b

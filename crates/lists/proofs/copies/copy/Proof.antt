@@ -3,8 +3,8 @@ use mathlib.Core.Path.{_≡_}
 use Prim.Native.Nat.{_-_, _≤_}
 use borrow.Author.Needs.{needs}
 use lib.ListN.{length}
-use Rattle.row_vectors.proofs.copies.copy.Statement.{statement}
-use Rattle.row_vectors.proofs.copies.copy.Tie as tie
+use Rattle.lists.proofs.copies.copy.Statement.{statement}
+use Rattle.lists.proofs.copies.copy.Tie as tie
 
 abbrev Inv-loop : tie.InvT-loop
 Inv-loop from at to₀ i₀ to i = (i ≤ length to₀) × (length to ≡ length to₀)

@@ -1,27 +1,28 @@
--- `copies::put_all` is safe and ends.
+-- `large::fill` is safe and ends.
 use mathlib.Core.Path.{_≡_}
 use Prim.Native.Nat.{_-_, _≤_}
 use borrow.Author.Needs.{needs}
 use lib.ListN.{length}
-use Rattle.row_vectors.proofs.copies.put_all.Statement.{statement}
-use Rattle.row_vectors.proofs.copies.put_all.Tie as tie
+use Rattle.pass_vectors.proofs.large.fill.Statement.{statement}
+use Rattle.pass_vectors.proofs.large.fill.Tie as tie
 
 abbrev Inv-loop : tie.InvT-loop
-Inv-loop from to₀ at i₀ to i = (i ≤ length from) × (length to ≡ length to₀)
+Inv-loop buffer₀ none i₀ buffer i = (i ≤ length buffer₀) × (length buffer ≡ length buffer₀)
 
 abbrev μ-loop : tie.MeasureT-loop
-μ-loop from to₀ at i₀ to i = length from - i
+μ-loop buffer₀ none i₀ buffer i = length buffer₀ - i
 
-pub put-all-spec : {M : Type 1} → statement M
-put-all-spec =
+pub fill-spec : {M : Type 1} → statement M
+fill-spec =
     tie.close
     (tie.spec
     Inv-loop
     μ-loop
     (λ c. search needs)
     (λ c. search needs)
-    (λ c. search needs)
     (λ c κs. search needs)
+    (λ c. search needs)
+    (λ c. search needs)
     (λ c. search needs)
     (λ c. search needs)
     (λ c. search needs)
