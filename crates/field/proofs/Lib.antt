@@ -6,3 +6,4 @@ pub mod InverseLaws
 pub mod Every
 pub mod Entries
 pub mod Columns
+pub mod AnyFrom

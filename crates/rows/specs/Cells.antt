@@ -1,7 +1,10 @@
 -- Document 01, "The row": "49 cells in the documentation's order".
 use mathlib.Core.List.{List, _++_}
-use Prim.Native.Nat.{ℕ, _+_, _*_}
-use lib.ListN.{take, drop}
+use Prim.Native.Nat.{ℕ, _+_, _*_, _/_}
+use lib.Dec.{leb, ltb}
+use lib.ListN.{length, take, drop}
+use lib.Seq.{paste}
+use Rattle.groups.specs.Answer.{pick}
 use Rattle.rows.specs.declared.decoder_row.DecoderRow.{DecoderRow}
 use Rattle.rows.specs.declared.state.SystemCols.{SystemCols}
 use Rattle.rows.specs.declared.state.StackCols.{StackCols}
@@ -15,3 +18,11 @@ rowCells system row stack = systemCells system ++ decoderCells row ++ stackCells
 -- a buffer with the given cells in the place of row r
 unfoldable pub putRow : List ℕ → (r : ℕ) → (cells : List ℕ) → List ℕ
 putRow buffer r cells = take (49 * r) buffer ++ cells ++ drop (49 * r + 49) buffer
+
+-- a row written where the buffer has it
+unfoldable pub rowWritten : List ℕ → (r : ℕ) → (cells : List ℕ) → List ℕ
+rowWritten buffer r cells = pick (ltb r (length buffer / 49)) (putRow buffer r cells) buffer
+
+-- cells copied in from index `at` on, where they fit
+unfoldable pub copiedIn : List ℕ → (at : ℕ) → (cells : List ℕ) → List ℕ
+copiedIn buffer at cells = pick (leb (at + length cells) (length buffer)) (paste buffer at cells (length cells)) buffer

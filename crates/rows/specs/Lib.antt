@@ -7,7 +7,3 @@ pub mod Made
 pub mod Cells
 pub mod Scans
 pub mod Cycles
-pub mod Buffers
-pub mod Passes
-pub mod LoopCounts
-pub mod CasesPasses

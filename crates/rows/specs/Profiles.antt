@@ -4,6 +4,7 @@ use mathlib.Core.List.{List, [], _∷_}
 use Prim.Native.Nat.{ℕ, _/_, _%_}
 use lib.Dec.{leb, eqb}
 use Rattle.field.specs.Modulus.{P}
+use Rattle.field.specs.Bounds.{anyFrom}
 use Rattle.rows.specs.declared.profile.Profile.{Profile}
 
 -- "13 opcodes (SPAN, RESPAN, JOIN, SPLIT, LOOP, REPEAT, CALL, SYSCALL, DYN, DYNCALL, PUSH, END, HALT)"
@@ -11,11 +12,6 @@ unfoldable pub opcodes : Profile → List ℕ
 opcodes p =
     p .span ∷ p .respan ∷ p .join ∷ p .split ∷ p .«loop_op» ∷ p .repeat ∷ p .call ∷ p .syscall ∷ p .«dyn_op» ∷ p .dyncall
     ∷ p .push ∷ p .end ∷ p .halt ∷ []
-
--- one of the numbers is the limit or above
-unfoldable pub anyFrom : (limit : ℕ) → List ℕ → Bool
-anyFrom limit [] = false
-anyFrom limit (x ∷ xs) = leb limit x || anyFrom limit xs
 
 -- x is one of the numbers
 unfoldable pub isOneOf : ℕ → List ℕ → Bool

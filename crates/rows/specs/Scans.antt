@@ -16,7 +16,8 @@ use Rattle.rows.specs.declared.continuation.ContextInfo.{ContextInfo}
 use Rattle.rows.specs.declared.continuation.Captured.{Captured}
 use Rattle.rows.specs.declared.tracer.CoreTraceGenerationTracer.{CoreTraceGenerationTracer}
 use Rattle.rows.specs.declared.scan.Scan.{Scan}
-use Rattle.rows.specs.Profiles.{anyFrom, profileWrong}
+use Rattle.field.specs.Bounds.{anyFrom}
+use Rattle.rows.specs.Profiles.{profileWrong}
 use Rattle.rows.specs.Forests.{Forest}
 use Rattle.rows.specs.Addresses.{Queues}
 use Rattle.rows.specs.DecoderRows.{wordCells}

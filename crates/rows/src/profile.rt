@@ -1,7 +1,8 @@
 // The profile: the opcodes that a trace is written and read with, and the step of block addresses.
 use field::felt::Felt;
 ghost use mathlib.Core.Path.{_≡_};
-ghost use Rattle.rows.specs.Profiles.{opcodes, anyFrom, isOneOf, twoEqual, profileWrong};
+ghost use Rattle.field.specs.Bounds.{anyFrom};
+ghost use Rattle.rows.specs.Profiles.{opcodes, isOneOf, twoEqual, profileWrong};
 ghost use lib.ListN.{drop};
 
 pub struct Profile {

@@ -3,11 +3,9 @@ use crate::decoder_row::DecoderRow;
 use crate::state::StackCols;
 use crate::state::SystemCols;
 ghost use mathlib.Core.Path.{_≡_};
-ghost use Prim.Native.Nat.{_+_, _*_, _≤_, _<_};
-ghost use lib.ListN.{length};
-ghost use lib.Seq.{paste};
 ghost use Rattle.rows.specs.DecoderRows.{extra0, extra1};
-ghost use Rattle.rows.specs.Cells.{rowCells, putRow};
+ghost use Rattle.rows.specs.Cells.{rowCells, copiedIn, rowWritten};
+ghost use Rattle.rows.specs.Scans.{fragmentWrong};
 
 fn wide(x: u8) -> u64
     ensures { λ r. ⌜ r ≡ x ⌝ }
@@ -15,11 +13,16 @@ fn wide(x: u8) -> u64
     x as u64
 }
 
-// Copies all of `src` into `dst` from index `at` on.
+// Copies all of `src` into `dst` from index `at` on; where it does not fit, nothing is changed.
 pub fn copy_in(dst: &mut [u64], at: usize, src: &[u64])
-    requires { ⌜ at + length (now src) ≤ length (now dst) ⌝ }
-    ensures { λ _. ⌜ now (dst .exit) ≡ paste (now (dst .entry)) at (now (src .entry)) (length (now (src .entry))) ⌝ }
+    ensures { λ _. ⌜ now (dst .exit) ≡ copiedIn (now (dst .entry)) at (now (src .entry)) ⌝ }
 {
+    if dst.len() < src.len() {
+        return;
+    }
+    if dst.len() - src.len() < at {
+        return;
+    }
     let mut j = 0;
     while j < src.len() {
         dst[at + j] = src[j];
@@ -39,7 +42,7 @@ fn extra_1(op: u64) -> u64
     (op / 64 % 2) * (op / 32 % 2)
 }
 
-// Writes row `row`: 6 system cells, 24 decoder cells, 19 stack cells.
+// Writes row `row`: 6 system cells, 24 decoder cells, 19 stack cells; where the buffer has no such row, nothing is changed.
 pub fn write_row(
     buffer: &mut [u64],
     row: usize,
@@ -47,9 +50,11 @@ pub fn write_row(
     d: DecoderRow,
     stack: StackCols,
 )
-    requires { ⌜ 49 * row + 49 ≤ length (now buffer) ⌝ }
-    ensures { λ _. ⌜ now (buffer .exit) ≡ putRow (now (buffer .entry)) row (rowCells system d stack) ⌝ }
+    ensures { λ _. ⌜ now (buffer .exit) ≡ rowWritten (now (buffer .entry)) row (rowCells system d stack) ⌝ }
 {
+    if buffer.len() / 49 <= row {
+        return;
+    }
     let op = wide(d.opcode);
     let x0 = extra_0(op);
     let x1 = extra_1(op);
@@ -106,4 +111,11 @@ pub fn write_row(
         stack.h0,
     ];
     copy_in(buffer, 49 * row, &cells);
+}
+
+// Refusal 11 of the fragment.
+pub fn fragment_wrong(cells: usize, rows: usize) -> bool
+    ensures { λ r. ⌜ r ≡ fragmentWrong cells rows ⌝ }
+{
+    (0 < cells % 49) | ((16777216 < cells / 49) | (cells / 49 < rows))
 }

@@ -8,6 +8,7 @@ use crate::profile::is_wrong;
 use crate::state::StackState;
 use crate::state::SystemState;
 use crate::tracer::CoreTraceGenerationTracer;
+use field::cell::any_big;
 use field::felt::Felt;
 use groups::helpers::OperationHelperRegisters;
 use groups::number::number;
@@ -16,29 +17,16 @@ ghost use mathlib.Core.Path.{_≡_};
 ghost use Prim.Native.Nat.{_+_, _*_, _/_, _≤_, _<_};
 ghost use lib.ListN.{length};
 ghost use Rattle.field.specs.Modulus.{P};
-ghost use Rattle.rows.specs.Profiles.{anyFrom};
+ghost use Rattle.field.specs.Bounds.{anyFrom};
 ghost use Rattle.rows.specs.Forests.{forest};
 ghost use Rattle.rows.specs.Addresses.{queues};
-ghost use Rattle.rows.specs.Scans.{lentBig, anyLongBlock, anyLargeBatch, forestTooLarge, scanOf, calleeCells, infoCells, fixedCells, cycleBig, fragmentWrong};
+ghost use Rattle.rows.specs.Scans.{lentBig, anyLongBlock, anyLargeBatch, forestTooLarge, scanOf, calleeCells, infoCells, fixedCells, cycleBig};
 
 // What a scan finds: a cell or opcode that is too big (1), a wrong profile (2), a forest past its limits (11).
 pub struct Scan {
     pub big: bool,
     pub profile_wrong: bool,
     pub too_large: bool,
-}
-
-// Whether a cell is p or above. No early way out: the loop is then a run of comparisons.
-pub fn any_big(cells: &[u64]) -> bool
-    ensures { λ r. ⌜ r ≡ anyFrom P (now (cells .entry)) ⌝ }
-{
-    let mut found = false;
-    let mut i = 0;
-    while i < cells.len() {
-        found = found | (Felt::MODULUS <= cells[i]);
-        i += 1;
-    }
-    found
 }
 
 // Whether one of the first n slots is a block with over 4,096 batches.
@@ -219,11 +207,4 @@ pub fn cycle_big(
     let callee = captured.callee;
     let info = captured.info;
     any_big(&cells) | (!registers.cells_in_field() | (callee_big(callee) | info_big(info)))
-}
-
-// Refusal 11 of the fragment.
-pub fn fragment_wrong(cells: usize, rows: usize) -> bool
-    ensures { λ r. ⌜ r ≡ fragmentWrong cells rows ⌝ }
-{
-    (0 < cells % 49) | ((16777216 < cells / 49) | (cells / 49 < rows))
 }

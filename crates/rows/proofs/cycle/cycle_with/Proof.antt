@@ -1,13 +1,11 @@
 -- `cycle::cycle_with` meets its contract: the row that is made is written, and the tracer moves on; a refusal is kept.
+use mathlib.Core.Path.{_∙_}
 use native.Mathlib.Omega.{arith}
 use borrow.Author.Needs.{needs}
 use Rattle.rows.specs.Cycles.{tracerAfter, fragmentAfter}
+use Rattle.rows.proofs.Rooms.{row-fits}
 use Rattle.rows.proofs.cycle.cycle_with.Statement.{statement}
 use Rattle.rows.proofs.cycle.cycle_with.Tie as tie
-
-write-row-requires : tie.Need-write-row-requires
-write-row-requires c κs =
-    omega (arith, rw (c .before .before .before .before .before .made2 .given .1) at (c .before .before .before .before .before .before .before .checked .ensures .1))
 
 moved-requires : tie.Need-moved-requires
 moved-requires c κs =
@@ -30,7 +28,7 @@ returns-2 c = (
   rw (← (c .before .before .before .before .before .before .before .before .before .before .before .checked .ensures .0), c .before .before .before .before .before .before .before .before .before .made2 .given .1),
   (
     rw (← (c .before .before .before .before .before .before .before .before .before .before .before .checked .ensures .0), c .before .before .before .before .before .before .before .before .before .made2 .given .1) (c .moved .ensures),
-    rw (← (c .before .before .before .before .before .before .before .before .before .before .before .checked .ensures .0), c .before .before .before .before .before .before .before .before .before .made2 .given .1, ← (c .before .before .before .before .before .before .last-system .ensures), ← (c .before .before .before .before .before .last-stack .ensures)) (c .before .before .before .write-row .ensures),
+    rw (← (c .before .before .before .before .before .before .before .before .before .before .before .checked .ensures .0), c .before .before .before .before .before .before .before .before .before .made2 .given .1, ← (c .before .before .before .before .before .before .last-system .ensures), ← (c .before .before .before .before .before .last-stack .ensures)) (c .before .before .before .write-row .ensures ∙ row-fits _ _ _ (omega (arith, rw (c .before .before .before .before .before .before .before .before .before .made2 .given .1) at (c .before .before .before .before .before .before .before .before .before .before .before .checked .ensures .1)))),
   ),
 )
 
@@ -44,7 +42,7 @@ cycle-with-spec =
     (λ c. search needs)
     (λ c κs. search needs)
     (λ c κs. search needs)
-    write-row-requires
+    (λ c κs. search needs)
     moved-requires
     returns
     (λ c. search needs)

@@ -5,8 +5,8 @@ use Prim.Native.Nat.{_-_}
 use borrow.Author.Needs.{needs}
 use lib.Dec.{leb}
 use lib.ListN.{length, getD, drop}
-use Rattle.rows.specs.Profiles.{anyFrom}
-use Rattle.rows.proofs.AnyFrom.{gather-turn, gather-last}
+use Rattle.field.specs.Bounds.{anyFrom}
+use Rattle.field.proofs.AnyFrom.{gather-turn, gather-last}
 use Rattle.rows.proofs.profile.any_big_opcode.Statement.{statement}
 use Rattle.rows.proofs.profile.any_big_opcode.Tie as tie
 

@@ -6,7 +6,7 @@ use borrow.Author.Needs.{needs}
 use lib.Dec.{eqb}
 use lib.ListN.{length, getD, drop}
 use Rattle.rows.specs.Profiles.{isOneOf}
-use Rattle.rows.proofs.AnyFrom.{gather-turn, gather-last}
+use Rattle.field.proofs.AnyFrom.{gather-turn, gather-last}
 use Rattle.rows.proofs.profile.is_one_of.Statement.{statement}
 use Rattle.rows.proofs.profile.is_one_of.Tie as tie
 

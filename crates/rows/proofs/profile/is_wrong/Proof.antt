@@ -8,7 +8,8 @@ use borrow.Author.Tests.{eq-eqb, ne-eqb}
 use lib.Dec.{leb, eqb}
 use Rattle.field.specs.Modulus.{P}
 use Rattle.rows.specs.declared.profile.Profile.{Profile}
-use Rattle.rows.specs.Profiles.{opcodes, anyFrom, twoEqual, lacksBits, profileWrong}
+use Rattle.field.specs.Bounds.{anyFrom}
+use Rattle.rows.specs.Profiles.{opcodes, twoEqual, lacksBits, profileWrong}
 use Rattle.rows.proofs.profile.is_wrong.Statement.{statement}
 use Rattle.rows.proofs.profile.is_wrong.Tie as tie
 

@@ -6,7 +6,7 @@ use native.Mathlib.Numerals.{add-one}
 use borrow.Author.Needs.{needs}
 use lib.ListN.{length, drop}
 use Rattle.rows.specs.Profiles.{twoEqual}
-use Rattle.rows.proofs.AnyFrom.{gather-turn, gather-last}
+use Rattle.field.proofs.AnyFrom.{gather-turn, gather-last}
 use Rattle.rows.proofs.profile.two_equal.Statement.{statement}
 use Rattle.rows.proofs.profile.two_equal.Tie as tie
 

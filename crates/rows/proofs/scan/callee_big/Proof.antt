@@ -2,7 +2,7 @@
 use mathlib.Core.Bool.{or-false}
 use borrow.Author.Needs.{needs}
 use Rattle.groups.specs.Words.{beyond}
-use Rattle.rows.specs.Profiles.{anyFrom}
+use Rattle.field.specs.Bounds.{anyFrom}
 use Rattle.rows.proofs.scan.callee_big.Statement.{statement}
 use Rattle.rows.proofs.scan.callee_big.Tie as tie
 

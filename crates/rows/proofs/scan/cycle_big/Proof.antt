@@ -3,7 +3,8 @@ use mathlib.Core.Bool.{or-assoc}
 use borrow.Author.Needs.{needs}
 use Rattle.groups.specs.Helpers.{registerCells}
 use Rattle.rows.specs.Scans.{cycleBig, cycleCells}
-use Rattle.rows.proofs.AnyFrom.{any-append, any-all}
+use Rattle.field.proofs.AnyFrom.{any-append}
+use Rattle.rows.proofs.AnyAll.{any-all}
 use Rattle.rows.proofs.scan.cycle_big.Statement.{statement}
 use Rattle.rows.proofs.scan.cycle_big.Tie as tie
 

@@ -1,7 +1,7 @@
 -- `scan::info_big` meets its contract.
 use mathlib.Core.Bool.{or-false}
 use borrow.Author.Needs.{needs}
-use Rattle.rows.specs.Profiles.{anyFrom}
+use Rattle.field.specs.Bounds.{anyFrom}
 use Rattle.rows.proofs.scan.info_big.Statement.{statement}
 use Rattle.rows.proofs.scan.info_big.Tie as tie
 

@@ -1,0 +1,14 @@
+pub mod Checks
+pub mod Counts
+pub mod Finishing
+pub mod FirstRows
+pub mod HaltRows
+pub mod InvertedRows
+pub mod Keys
+pub mod Refusals
+pub mod RowCells
+pub mod RowLists
+pub mod RowsFrom
+pub mod Sides
+pub mod Tallies
+pub mod Written

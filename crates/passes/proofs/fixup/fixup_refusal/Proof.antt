@@ -1,0 +1,70 @@
+-- `fixup::fixup_refusal` meets its contract: each way out by the tests before it.
+use borrow.Author.Needs.{needs}
+use Rattle.passes.specs.Passes.{refusal1, firstOf}
+use Rattle.passes.proofs.fixup.fixup_refusal.Statement.{statement}
+use Rattle.passes.proofs.fixup.fixup_refusal.Tie as tie
+
+returns : tie.Need-returns
+unfolding refusal1 firstOf
+returns c = rw (← (c .before .any-cell-big .ensures), c .if1 .taken)
+
+returns-2 : tie.Need-returns-2
+unfolding refusal1 firstOf
+returns-2 c =
+    let b = c .before .before in
+    rw (← (b .before .any-cell-big .ensures), b .if1 .left, ← (c .before .fragments-wrong .ensures), c .if2 .taken)
+
+returns-3 : tie.Need-returns-3
+unfolding refusal1 firstOf
+returns-3 c =
+    let f = c .before .before in
+    let b = f .before .before in
+    rw (← (b .before .any-cell-big .ensures), b .if1 .left, ← (f .before .fragments-wrong .ensures), f .if2 .left, ← (c .before .no-fragment .ensures), c .if3 .taken)
+
+returns-4 : tie.Need-returns-4
+unfolding refusal1 firstOf
+returns-4 c =
+    let n = c .before .before in
+    let f = n .before .before in
+    let b = f .before .before in
+    rw (
+      ← (b .before .any-cell-big .ensures),
+      b .if1 .left,
+      ← (f .before .fragments-wrong .ensures),
+      f .if2 .left,
+      ← (n .before .no-fragment .ensures),
+      n .if3 .left,
+      ← (c .before .not-full .ensures),
+      c .if4 .taken,
+    )
+
+returns-5 : tie.Need-returns-5
+unfolding refusal1 firstOf
+returns-5 c =
+    let n = c .before .before in
+    let f = n .before .before in
+    let b = f .before .before in
+    rw (
+      ← (b .before .any-cell-big .ensures),
+      b .if1 .left,
+      ← (f .before .fragments-wrong .ensures),
+      f .if2 .left,
+      ← (n .before .no-fragment .ensures),
+      n .if3 .left,
+      ← (c .before .not-full .ensures),
+      c .if4 .left,
+    )
+
+pub fixup-refusal-spec : {M : Type 1} → statement M
+fixup-refusal-spec =
+    tie.close
+    (tie.spec
+    (λ c κs. search needs)
+    returns
+    (λ c κs. search needs)
+    returns-2
+    (λ c κs. search needs)
+    returns-3
+    (λ c κs. search needs)
+    returns-4
+    returns-5)

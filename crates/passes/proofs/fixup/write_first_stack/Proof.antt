@@ -1,0 +1,45 @@
+-- `fixup::write_first_stack` meets its contract.
+use mathlib.Core.Path.{refl, _∙_}
+use mathlib.Core.List.{List, [], _∷_, _++_}
+use Prim.Native.Nat.{ℕ}
+use native.Mathlib.Omega.{arith}
+use borrow.Author.Needs.{needs}
+use Rattle.rows.specs.Built.{reversed16}
+use Rattle.rows.proofs.Rooms.{copy-fits}
+use Rattle.passes.specs.Passes.{firstRow}
+use Rattle.passes.proofs.Sides.{stack-copied}
+use Rattle.passes.proofs.fixup.write_first_stack.Statement.{statement}
+use Rattle.passes.proofs.fixup.write_first_stack.Tie as tie
+
+returns : tie.Need-returns
+unfolding firstRow
+returns c =
+    let d = c .before .before in
+    let a = d .before .before .before .before .args in
+    let stack : List ℕ = reversed16 (a .first-stack-top) ++ (16 ∷ 0 ∷ 0 ∷ []) in
+    d .copy-in .ensures ∙ copy-fits (a .buffer .now) 30 stack (omega arith) ∙ stack-copied (a .buffer .now) stack refl
+
+pub write-first-stack-spec : {M : Type 1} → statement M
+write-first-stack-spec =
+    tie.close
+    (tie.spec
+    (λ c. search needs)
+    (λ c. search needs)
+    (λ c. search needs)
+    (λ c. search needs)
+    (λ c. search needs)
+    (λ c. search needs)
+    (λ c. search needs)
+    (λ c. search needs)
+    (λ c. search needs)
+    (λ c. search needs)
+    (λ c. search needs)
+    (λ c. search needs)
+    (λ c. search needs)
+    (λ c. search needs)
+    (λ c. search needs)
+    (λ c. search needs)
+    (λ c. search needs)
+    (λ c κs. search needs)
+    (λ c. search needs)
+    returns)

@@ -1,0 +1,14 @@
+-- `helper_column::invert_helpers` meets its contract.
+use mathlib.Core.Path.{_∙_}
+use borrow.Author.Needs.{needs}
+use Rattle.passes.proofs.InvertedRows.{inverted-rows}
+use Rattle.passes.proofs.helper_column.invert_helpers.Statement.{statement}
+use Rattle.passes.proofs.helper_column.invert_helpers.Tie as tie
+
+returns : tie.Need-returns
+returns c =
+    let s = c .before .before .before .before .before in
+    c .before .before .invert-column .ensures ∙ inverted-rows (s .args .rows) (s .args .buffer .now) (s .pre)
+
+pub invert-helpers-spec : {M : Type 1} → statement M
+invert-helpers-spec = tie.close (tie.spec (λ c κs. search needs) (λ c. search needs) returns)

@@ -1,0 +1,4 @@
+pub mod Buffers
+pub mod Passes
+pub mod LoopCounts
+pub mod CasesPasses

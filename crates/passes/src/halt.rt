@@ -1,0 +1,187 @@
+// The last two finishing passes: the HALT row behind the program's rows, and HALT rows up to the height.
+use crate::buffer::buffer_wrong;
+use crate::buffer::fewer_rows;
+use crate::buffer::rows_big;
+use field::cell::any_big;
+use field::cell::cell;
+use groups::word::Word;
+use groups::word::word_at;
+use rows::decoder_row::DecoderRow;
+use rows::profile::Profile;
+use rows::profile::is_wrong;
+use rows::row::write_row;
+use rows::state::StackCols;
+use rows::state::SystemCols;
+ghost use mathlib.Core.Path.{_≡_};
+ghost use mathlib.Core.List.{[], _∷_};
+ghost use Prim.Native.Nat.{_+_, _*_, _≤_, _<_};
+ghost use lib.ListN.{length, take};
+ghost use Rattle.rows.specs.DecoderRows.{noWord, controlFlow};
+ghost use Rattle.rows.specs.Built.{systemCells, stackCells};
+ghost use Rattle.passes.specs.Buffers.{rowsOf, onRows, lastRow};
+ghost use Rattle.passes.specs.Passes.{firstHalf, halted, padded, refusal4, refusal5, unlessRefused};
+
+// The first six cells as a row's system cells.
+fn system_of(cells: &[u64]) -> SystemCols
+    requires { ⌜ 6 ≤ length (now cells) ⌝ }
+    ensures { λ r. ⌜ systemCells r ≡ take 6 (now (cells .entry)) ⌝ }
+{
+    SystemCols {
+        clk: cell(cells, 0),
+        ctx: cell(cells, 1),
+        fn_hash: word_at(cells, 2),
+    }
+}
+
+// The first nineteen cells as a row's stack cells.
+fn stack_of(cells: &[u64]) -> StackCols
+    requires { ⌜ 19 ≤ length (now cells) ⌝ }
+    ensures { λ r. ⌜ stackCells r ≡ take 19 (now (cells .entry)) ⌝ }
+{
+    let top = [
+        cell(cells, 0),
+        cell(cells, 1),
+        cell(cells, 2),
+        cell(cells, 3),
+        cell(cells, 4),
+        cell(cells, 5),
+        cell(cells, 6),
+        cell(cells, 7),
+        cell(cells, 8),
+        cell(cells, 9),
+        cell(cells, 10),
+        cell(cells, 11),
+        cell(cells, 12),
+        cell(cells, 13),
+        cell(cells, 14),
+        cell(cells, 15),
+    ];
+    StackCols {
+        top,
+        b0: cell(cells, 16),
+        b1: cell(cells, 17),
+        h0: cell(cells, 18),
+    }
+}
+
+// h0 to h3 of the last of the first `rows` rows, 0 where there is none.
+fn last_half(buffer: &[u64], rows: usize) -> Word
+    requires { ⌜ 49 * rows ≤ length (now buffer) ⌝ }
+    ensures { λ r. ⌜ r ≡ firstHalf (lastRow (rowsOf rows (now (buffer .entry)))) ⌝ }
+{
+    if rows == 0 {
+        return Word(0, 0, 0, 0);
+    }
+    word_at(buffer, 49 * rows - 35)
+}
+
+// The decoder part of a HALT row behind the first `rows` rows.
+fn halt_decoder(profile: Profile, buffer: &[u64], rows: usize) -> DecoderRow
+    requires { ⌜ 49 * rows ≤ length (now buffer) ⌝ }
+    ensures { λ r. ⌜ r ≡ controlFlow (profile .halt) (firstHalf (lastRow (rowsOf rows (now (buffer .entry))))) noWord 0 ⌝ }
+{
+    let first = last_half(buffer, rows);
+    DecoderRow::new_control_flow(profile.halt, first, Word(0, 0, 0, 0), 0)
+}
+
+// What pass 4 refuses, 0 where it does not.
+fn halt_refusal(profile: Profile, buffer: &[u64], rows: usize, built: &[u64]) -> u32
+    ensures { λ r. ⌜ r ≡ refusal4 profile (now (buffer .entry)) rows (now (built .entry)) ⌝ }
+{
+    if rows_big(buffer, rows) | any_big(built) {
+        return 1;
+    }
+    if is_wrong(profile) {
+        return 2;
+    }
+    if buffer_wrong(buffer.len()) | (buffer.len() / 49 <= rows) {
+        return 11;
+    }
+    0
+}
+
+// Pass 4 where nothing is refused.
+pub(crate) fn push_halt(profile: Profile, buffer: &mut [u64], rows: usize, built: &[u64])
+    requires { ⌜ (49 * rows + 49 ≤ length (now buffer)) × (25 ≤ length (now built)) ⌝ }
+    ensures { λ _. ⌜ now (buffer .exit) ≡ onRows rows (halted profile (now (built .entry))) (now (buffer .entry)) ⌝ }
+{
+    let decoder = halt_decoder(profile, buffer, rows);
+    let system = system_of(built);
+    let stack = stack_of(&built[6..]);
+    write_row(buffer, rows, system, decoder, stack);
+}
+
+// Writes the HALT row behind the first `rows` rows, or answers the refusal's number and changes nothing.
+pub fn push_halt_opcode_row(
+    profile: Profile,
+    buffer: &mut [u64],
+    rows: usize,
+    built: [u64; 25],
+) -> u32
+    ensures { λ r. ⌜ r ≡ refusal4 profile (now (buffer .entry)) rows built ⌝ }
+    ensures { λ _. ⌜ now (buffer .exit) ≡ unlessRefused (refusal4 profile (now (buffer .entry)) rows built) (now (buffer .entry)) (onRows rows (halted profile built) (now (buffer .entry))) ⌝ }
+{
+    let refusal = halt_refusal(profile, buffer, rows, &built);
+    if refusal != 0 {
+        return refusal;
+    }
+    push_halt(profile, buffer, rows, &built);
+    0
+}
+
+// What pass 5 refuses, 0 where it does not.
+fn padding_refusal(profile: Profile, buffer: &[u64], rows: usize, height: usize) -> u32
+    ensures { λ r. ⌜ r ≡ refusal5 profile (now (buffer .entry)) rows height ⌝ }
+{
+    if rows_big(buffer, rows) {
+        return 1;
+    }
+    if is_wrong(profile) {
+        return 2;
+    }
+    if buffer_wrong(buffer.len())
+        | ((rows == 0) | ((height < rows) | fewer_rows(buffer.len(), height)))
+    {
+        return 11;
+    }
+    0
+}
+
+// The system cells of a padding row: clk is its number.
+fn padding_system(row: usize) -> SystemCols
+    ensures { λ r. ⌜ systemCells r ≡ row ∷ 0 ∷ 0 ∷ 0 ∷ 0 ∷ 0 ∷ [] ⌝ }
+{
+    SystemCols {
+        clk: row as u64,
+        ctx: 0,
+        fn_hash: Word(0, 0, 0, 0),
+    }
+}
+
+// Pass 5 where nothing is refused.
+pub(crate) fn pad(profile: Profile, buffer: &mut [u64], rows: usize, height: usize)
+    requires { ⌜ (0 < rows) × (rows ≤ height) × (49 * height ≤ length (now buffer)) ⌝ }
+    ensures { λ _. ⌜ now (buffer .exit) ≡ onRows rows (padded profile height) (now (buffer .entry)) ⌝ }
+{
+    let decoder = halt_decoder(profile, buffer, rows);
+    let at = 49 * rows - 19;
+    let stack = stack_of(&buffer[at..]);
+    let mut row = rows;
+    while row < height {
+        write_row(buffer, row, padding_system(row), decoder, stack);
+        row += 1;
+    }
+}
+
+// Writes HALT rows from row `rows` to the height, or answers the refusal's number and changes nothing.
+pub fn pad_core_row_major(profile: Profile, buffer: &mut [u64], rows: usize, height: usize) -> u32
+    ensures { λ r. ⌜ r ≡ refusal5 profile (now (buffer .entry)) rows height ⌝ }
+    ensures { λ _. ⌜ now (buffer .exit) ≡ unlessRefused (refusal5 profile (now (buffer .entry)) rows height) (now (buffer .entry)) (onRows rows (padded profile height) (now (buffer .entry))) ⌝ }
+{
+    let refusal = padding_refusal(profile, buffer, rows, height);
+    if refusal != 0 {
+        return refusal;
+    }
+    pad(profile, buffer, rows, height);
+    0
+}
