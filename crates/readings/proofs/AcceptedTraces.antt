@@ -1,0 +1,88 @@
+-- With a depth number for each row, a right answer accepts exactly the traces, and its answers are those of the one reading.
+use mathlib.Core.Path.{_≡_, _∙_, refl, sym, ap}
+use mathlib.Core.Bool.{Bool, true, false, _||_}
+use mathlib.Core.List.{List, [], _∷_, _++_}
+use mathlib.Core.Logic.{_↔_}
+use Prim.Native.Nat.{ℕ, _/_, _≤_}
+use native.Mathlib.Omega.{arith}
+use borrow.Author.Tests.{ltb-false, le-ltb}
+use lib.Dec.{ltb}
+use lib.ListN.{length, drop}
+use Rattle.field.specs.Modulus.{P}
+use Rattle.rows.specs.declared.profile.Profile.{Profile}
+use Rattle.field.specs.Bounds.{anyFrom}
+use Rattle.rows.specs.Profiles.{profileWrong}
+use Rattle.passes.specs.Buffers.{rowsOf}
+use Rattle.passes.proofs.Checks.{none-first}
+use Rattle.passes.proofs.RowLists.{length-rows}
+use Rattle.passes.specs.Passes.{bufferWrong, firstOf}
+use Rattle.readings.specs.Tokens.{tokensOf}
+use Rattle.readings.specs.Readings.{Block, depthList, bufferRefusal, allRows, Trace}
+use Rattle.readings.specs.Answers.{Answer, accepted, readerRefusal, Right, badInput, noWord, tooDeep, wrongCell, trace, numberOf, depthsAfter}
+use Rattle.readings.specs.Parser.{answer, levels}
+use Rattle.readings.proofs.RightAnswer.{answer-right, right-computed}
+use Rattle.readings.proofs.DepthsCounted.{depths-counted}
+
+or-false : (t : Bool) → (t || false) ≡ t
+or-false true = refl
+or-false false = refl
+
+-- enough depth numbers refuse nothing
+pub enough-depths : (p : Profile) (cells : List ℕ) (depths : ℕ) → length cells / 49 ≤ depths → readerRefusal p cells depths ≡ bufferRefusal p cells
+unfolding readerRefusal bufferRefusal
+enough-depths p cells depths h = rw (le-ltb depths (length cells / 49) h, or-false (bufferWrong (length cells))) refl
+
+-- where nothing is refused, the buffer passes, and there are enough depth numbers
+passes-11 : (a b : Bool) → firstOf ((a || b, 11) ∷ []) ≡ 0 → (firstOf ((a, 11) ∷ []) ≡ 0) × (b ≡ false)
+unfolding firstOf
+passes-11 true b e = absurd (omega arith)
+passes-11 false true e = absurd (omega arith)
+passes-11 false false e = (refl, refl)
+
+pub buffer-passes : (p : Profile) (cells : List ℕ) (depths : ℕ) → readerRefusal p cells depths ≡ 0 → (bufferRefusal p cells ≡ 0) × (length cells / 49 ≤ depths)
+unfolding readerRefusal bufferRefusal firstOf
+buffer-passes p cells depths e =
+    let wrong = bufferWrong (length cells) || ltb depths (length cells / 49) in
+    let (f, g) = none-first (anyFrom P cells) 0 ((profileWrong p, 2) ∷ (wrong, 11) ∷ []) e in
+    let (h, i) = none-first (profileWrong p) 1 ((wrong, 11) ∷ []) g in
+    let (j, k) = passes-11 (bufferWrong (length cells)) (ltb depths (length cells / 49)) i in
+    (rw (f, h) j, ltb-false depths (length cells / 49) k)
+
+pub accepted-trace : (p : Profile) (cells : List ℕ) (depths : ℕ) (b : Block) → Right p cells depths (accepted b) → Trace p cells b
+unfolding Trace
+accepted-trace p cells depths b (trace c e r) = (buffer-passes p cells depths e .0, r)
+
+pub trace-accepted : (p : Profile) (cells : List ℕ) (depths : ℕ) (b : Block) → length cells / 49 ≤ depths → Trace p cells b → Right p cells depths (accepted b)
+unfolding Trace
+trace-accepted p cells depths b h t = trace b (enough-depths p cells depths h ∙ t .0) (t .1)
+
+-- the traces are what is accepted
+pub accepts-traces : (p : Profile) (cells : List ℕ) (depths : ℕ) (b : Block) → length cells / 49 ≤ depths → (answer p cells depths ≡ accepted b) ↔ Trace p cells b
+accepts-traces p cells depths b h = (
+  λ e. accepted-trace p cells depths b (rw e at (answer-right p cells depths)),
+  λ t. right-computed p cells depths (accepted b) (trace-accepted p cells depths b h t),
+)
+
+-- "accepts a buffer, whatever cells it holds, exactly when it is a trace"
+number-accepted : (p : Profile) (cells : List ℕ) (depths : ℕ) (a : Answer) → Right p cells depths a → numberOf a ≡ 0 → (b : Block) × (a ≡ accepted b)
+unfolding numberOf
+number-accepted p cells depths a (badInput number e) h = absurd (omega arith)
+number-accepted p cells depths a (noWord n e w) h = absurd (omega arith)
+number-accepted p cells depths a (tooDeep n e w) h = absurd (omega arith)
+number-accepted p cells depths a (wrongCell b n e w f) h = absurd (omega arith)
+number-accepted p cells depths a (trace b e r) h = (b, refl)
+
+pub accepts-exactly : (p : Profile) (cells : List ℕ) (depths : ℕ) → length cells / 49 ≤ depths → (numberOf (answer p cells depths) ≡ 0) ↔ ((b : Block) × Trace p cells b)
+unfolding numberOf
+accepts-exactly p cells depths h = (
+  λ e. let x = number-accepted p cells depths (answer p cells depths) (answer-right p cells depths) e in (x .0, accepts-traces p cells depths (x .0) h .0 (x .1)),
+  λ t. rw (accepts-traces p cells depths (t .0) h .1 (t .1)) refl,
+)
+
+-- and the depths left are those of the reading, one a row
+pub accepted-depths : (p : Profile) (cells depths : List ℕ) (b : Block) → Trace p cells b →
+    depthsAfter (length cells / 49) (accepted b) depths ≡ levels 0 (tokensOf p (allRows cells)) ++ drop (length cells / 49) depths
+unfolding Trace depthsAfter allRows
+accepted-depths p cells depths b t =
+    ap (λ y. y ++ drop (length cells / 49) depths)
+    (ap (λ n. depthList n b) (sym (length-rows (length cells / 49) cells)) ∙ depths-counted p (rowsOf (length cells / 49) cells) b (t .1))

@@ -1,0 +1,17 @@
+pub mod Parses
+pub mod OneReading
+pub mod ReadSoFar
+pub mod Soundness
+pub mod Reached
+pub mod WordsGoOn
+pub mod OpenBlocks
+pub mod WordAnswers
+pub mod SpelledRows
+pub mod OneWordAnswer
+pub mod AskOrder
+pub mod LowestRow
+pub mod RightAnswer
+pub mod DepthsCounted
+pub mod AcceptedTraces
+pub mod TokenLaws
+pub mod Examples
