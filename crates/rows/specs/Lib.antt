@@ -7,3 +7,5 @@ pub mod Made
 pub mod Cells
 pub mod Scans
 pub mod Cycles
+pub mod Calls
+pub mod SingleCalls

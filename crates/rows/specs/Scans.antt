@@ -11,6 +11,9 @@ use Rattle.groups.specs.declared.helpers.OperationHelperRegisters.{OperationHel
 use Rattle.rows.specs.declared.profile.Profile.{Profile}
 use Rattle.rows.specs.declared.state.SystemState.{SystemState}
 use Rattle.rows.specs.declared.state.StackState.{StackState}
+use Rattle.rows.specs.declared.state.SystemCols.{SystemCols}
+use Rattle.rows.specs.declared.state.StackCols.{StackCols}
+use Rattle.rows.specs.declared.replay.DecoderState.{DecoderState}
 use Rattle.rows.specs.declared.continuation.CalleeWord.{CalleeWord}
 use Rattle.rows.specs.declared.continuation.ContextInfo.{ContextInfo}
 use Rattle.rows.specs.declared.continuation.Captured.{Captured}
@@ -57,10 +60,15 @@ infoCells ContextInfo.Absent = []
 infoCells (ContextInfo.Is info) = info .«next_overflow_addr» ∷ []
 
 -- the cells that a cycle is always handed: of its states, and of its tracer the address state and the cells last built
+unfoldable pub stateCells : SystemState → StackState → List ℕ
+stateCells system stack = wordCells (system .«fn_hash») ++ (stack .«overflow_addr» ∷ cells16 (stack .«stack_top»))
+
+unfoldable pub tracerCells : DecoderState → SystemCols → StackCols → List ℕ
+tracerCells state system stack =
+    (state .«current_addr» ∷ state .«parent_addr» ∷ []) ++ systemCells system ++ stackCells stack
+
 unfoldable pub fixedCells : SystemState → StackState → CoreTraceGenerationTracer → List ℕ
-fixedCells system stack t =
-    wordCells (system .«fn_hash») ++ (stack .«overflow_addr» ∷ cells16 (stack .«stack_top»))
-    ++ (t .state .«current_addr» ∷ t .state .«parent_addr» ∷ []) ++ systemCells (t .system) ++ stackCells (t .stack)
+fixedCells system stack t = stateCells system stack ++ tracerCells (t .state) (t .system) (t .stack)
 
 -- with them its registers and the captured values: "used or not, stored values .. included"
 unfoldable pub cycleCells : SystemState → StackState → OperationHelperRegisters → CoreTraceGenerationTracer → List ℕ

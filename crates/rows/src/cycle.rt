@@ -4,6 +4,7 @@ use crate::continuation::Captured;
 use crate::continuation::ContextInfo;
 use crate::continuation::LoopCondition;
 use crate::continuation::Used;
+use crate::decoder_row::DecoderRow;
 use crate::made::Made;
 use crate::made::MadeRow;
 use crate::made::make;
@@ -23,12 +24,13 @@ use groups::helpers::OperationHelperRegisters;
 ghost use mathlib.Core.Path.{_≡_};
 ghost use Prim.Native.Nat.{_+_, _*_, _/_, _≤_, _<_};
 ghost use lib.ListN.{length};
-ghost use Rattle.groups.specs.Answer.{number, accepted};
+ghost use Rattle.groups.specs.Answer.{number, accepted, pick};
 ghost use Rattle.rows.specs.Forests.{forest};
 ghost use Rattle.rows.specs.Addresses.{queues};
 ghost use Rattle.rows.specs.Made.{toldMade};
+ghost use Rattle.rows.specs.Cells.{rowCells, putRow};
 ghost use Rattle.rows.specs.Scans.{scanOf};
-ghost use Rattle.rows.specs.Cycles.{cycleWith, HasRoom, cycle, leftAfter, keeping, tracerAfter, fragmentAfter};
+ghost use Rattle.rows.specs.Cycles.{cycleWith, HasRoom, cycle, leftAfter, keeping, tracerAfter, lastSystem, lastStack, fragmentAfter};
 
 // What a finish answers: 0 or the refusal's number, and the tracer.
 pub struct Finished {
@@ -135,7 +137,7 @@ fn checked(
 }
 
 // The tracer with a refusal's number.
-fn kept(n: u32, tracer: CoreTraceGenerationTracer) -> CoreTraceGenerationTracer
+pub(crate) fn kept(n: u32, tracer: CoreTraceGenerationTracer) -> CoreTraceGenerationTracer
     ensures { λ r. ⌜ r ≡ keeping n tracer ⌝ }
 {
     let mut t = tracer;
@@ -174,8 +176,27 @@ fn moved(
     }
 }
 
-// One finish, given what the scan found. With another scan's answer it would not refuse, so it stays inside the crate.
-fn cycle_with(
+// Writes the row that a tracer is at, where `write` says so.
+fn put_row(
+    write: bool,
+    decoder: DecoderRow,
+    tracer: CoreTraceGenerationTracer,
+    fragment: &mut [u64],
+)
+    requires { ⌜ tracer .rows < length (now fragment) / 49 ⌝ }
+    ensures { λ _. ⌜ now (fragment .exit) ≡ pick write (putRow (now (fragment .entry)) (tracer .rows) (rowCells (lastSystem tracer) decoder (lastStack tracer))) (now (fragment .entry)) ⌝ }
+{
+    if write {
+        let last_system = tracer.last_system();
+        let last_stack = tracer.last_stack();
+        write_row(fragment, tracer.rows, last_system, decoder, last_stack);
+    }
+}
+
+// One finish, given what the scan found; `write` says whether its row is written. With another scan's answer it would not refuse, so it
+// stays inside the crate.
+pub(crate) fn cycle_with(
+    write: bool,
     scan: Scan,
     nodes: &[u32],
     digests: &[u64],
@@ -194,7 +215,7 @@ fn cycle_with(
 ) -> Finished
     ensures { λ r. ⌜ r .number ≡ number (cycleWith scan profile (forest (now (nodes .entry)) (now (digests .entry)) (now (batches .entry)) (now (groups .entry)) (now (ops .entry))) (queues (now (addresses .entry)) (now (parents .entry)) (now (ends .entry))) system stack registers (length (now (fragment .entry))) tracer) ⌝ }
     ensures { λ r. ⌜ r .tracer ≡ tracerAfter system stack tracer (cycleWith scan profile (forest (now (nodes .entry)) (now (digests .entry)) (now (batches .entry)) (now (groups .entry)) (now (ops .entry))) (queues (now (addresses .entry)) (now (parents .entry)) (now (ends .entry))) system stack registers (length (now (fragment .entry))) tracer) ⌝ }
-    ensures { λ _. ⌜ now (fragment .exit) ≡ fragmentAfter (now (fragment .entry)) tracer (cycleWith scan profile (forest (now (nodes .entry)) (now (digests .entry)) (now (batches .entry)) (now (groups .entry)) (now (ops .entry))) (queues (now (addresses .entry)) (now (parents .entry)) (now (ends .entry))) system stack registers (length (now (fragment .entry))) tracer) ⌝ }
+    ensures { λ _. ⌜ now (fragment .exit) ≡ pick write (fragmentAfter (now (fragment .entry)) tracer (cycleWith scan profile (forest (now (nodes .entry)) (now (digests .entry)) (now (batches .entry)) (now (groups .entry)) (now (ops .entry))) (queues (now (addresses .entry)) (now (parents .entry)) (now (ends .entry))) system stack registers (length (now (fragment .entry))) tracer)) (now (fragment .entry)) ⌝ }
 {
     let made = checked(
         scan,
@@ -220,9 +241,7 @@ fn cycle_with(
         },
         Made::Row(row) => {
             let decoder = row.row;
-            let last_system = tracer.last_system();
-            let last_stack = tracer.last_stack();
-            write_row(fragment, tracer.rows, last_system, decoder, last_stack);
+            put_row(write, decoder, tracer, fragment);
             Finished {
                 number: 0,
                 tracer: moved(row, system, stack, tracer),
@@ -264,6 +283,7 @@ pub fn finalize_clock_cycle(
         ends,
     );
     cycle_with(
+        true,
         found,
         nodes,
         digests,

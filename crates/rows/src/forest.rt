@@ -8,7 +8,7 @@ use groups::word::Word;
 use groups::word::word_at;
 ghost use mathlib.Core.Path.{_≡_};
 ghost use Prim.Native.Nat.{_+_, _*_, _≤_, _<_};
-ghost use Rattle.rows.specs.Forests.{isSlot, nodeOf, nodeAt, digestAt, opcodeAt, blockOf, toldNode, toldDigest, toldOpcode, toldBlock};
+ghost use Rattle.rows.specs.Forests.{isSlot, kindAt, slotBlock, IsNodeOf, nodeAt, digestAt, opcodeAt, blockOf, toldNode, toldDigest, toldOpcode, toldBlock};
 
 pub enum Node {
     Block(Block),
@@ -59,84 +59,73 @@ fn is_slot(nodes: &[u32], digests: &[u64], id: MastNodeId) -> bool
     4 * i + 4 <= digests.len()
 }
 
-// The node of a slot, by what it holds; a number that names no kind is no node.
-fn node_of(kind: u32, first: u32, second: u32, block: Block, digest: Word) -> NodeFound
-    ensures { λ r. ⌜ toldNode r ≡ nodeOf kind first second block digest ⌝ }
-{
-    let a = MastNodeId(first);
-    let b = MastNodeId(second);
-    match kind {
-        2 => NodeFound::At(NodeEntry {
-            node: Node::Block(block),
-            digest,
-        }),
-        3 => NodeFound::At(NodeEntry {
-            node: Node::Join(a, b),
-            digest,
-        }),
-        4 => NodeFound::At(NodeEntry {
-            node: Node::Split(a, b),
-            digest,
-        }),
-        5 => NodeFound::At(NodeEntry {
-            node: Node::Loop(a),
-            digest,
-        }),
-        6 => NodeFound::At(NodeEntry {
-            node: Node::Call(a),
-            digest,
-        }),
-        7 => NodeFound::At(NodeEntry {
-            node: Node::Syscall(a),
-            digest,
-        }),
-        8 => NodeFound::At(NodeEntry {
-            node: Node::Dyn,
-            digest,
-        }),
-        9 => NodeFound::At(NodeEntry {
-            node: Node::Dyncall,
-            digest,
-        }),
-        10 => NodeFound::At(NodeEntry {
-            node: Node::External,
-            digest,
-        }),
-        _ => NodeFound::Missing,
-    }
-}
-
-// The node of an id, or 3.
-pub fn node_at(nodes: &[u32], digests: &[u64], id: MastNodeId) -> NodeFound
-    ensures { λ r. ⌜ toldNode r ≡ nodeAt (now (nodes .entry)) (now (digests .entry)) (id .0) ⌝ }
+// What the slot holds: its first number, 0 where it does not lie whole in the slices.
+fn kind_at(nodes: &[u32], digests: &[u64], id: MastNodeId) -> u32
+    ensures { λ r. ⌜ r ≡ kindAt (now (nodes .entry)) (now (digests .entry)) (id .0) ⌝ }
 {
     if !is_slot(nodes, digests, id) {
-        return NodeFound::Missing;
+        return 0;
     }
+    number(nodes, 6 * (id.0 as usize))
+}
+
+// The block of a slot, where it is one.
+fn slot_block(nodes: &[u32], id: MastNodeId) -> Block
+    ensures { λ r. ⌜ r ≡ slotBlock (now (nodes .entry)) (id .0) ⌝ }
+{
     let at = 6 * (id.0 as usize);
-    let block = Block {
+    Block {
         total: number(nodes, at + 3),
         first_batch: number(nodes, at + 4),
         batches: number(nodes, at + 5),
-    };
-    let digest = word_at(digests, 4 * (id.0 as usize));
-    node_of(
-        number(nodes, at),
+    }
+}
+
+// The node of a slot, by what it holds.
+fn node_of(kind: u32, first: u32, second: u32, block: Block) -> Node
+    requires { ⌜ (2 ≤ kind) × (kind ≤ 10) ⌝ }
+    ensures { λ r. ⌜ IsNodeOf r kind first second block ⌝ }
+{
+    match kind {
+        2 => Node::Block(block),
+        3 => Node::Join(MastNodeId(first), MastNodeId(second)),
+        4 => Node::Split(MastNodeId(first), MastNodeId(second)),
+        5 => Node::Loop(MastNodeId(first)),
+        6 => Node::Call(MastNodeId(first)),
+        7 => Node::Syscall(MastNodeId(first)),
+        8 => Node::Dyn,
+        9 => Node::Dyncall,
+        _ => Node::External,
+    }
+}
+
+// The node of an id, or 3; a number that names no kind is no node.
+pub fn node_at(nodes: &[u32], digests: &[u64], id: MastNodeId) -> NodeFound
+    ensures { λ r. ⌜ toldNode r ≡ nodeAt (now (nodes .entry)) (now (digests .entry)) (id .0) ⌝ }
+{
+    let kind = kind_at(nodes, digests, id);
+    if kind < 2 {
+        return NodeFound::Missing;
+    }
+    if 10 < kind {
+        return NodeFound::Missing;
+    }
+    let at = 6 * (id.0 as usize);
+    let node = node_of(
+        kind,
         number(nodes, at + 1),
         number(nodes, at + 2),
-        block,
-        digest,
-    )
+        slot_block(nodes, id),
+    );
+    let digest = word_at(digests, 4 * (id.0 as usize));
+    NodeFound::At(NodeEntry { node, digest })
 }
 
 // The digest of an id, of a node or of a slot that has its digest alone, or 3.
 pub fn digest_at(nodes: &[u32], digests: &[u64], id: MastNodeId) -> DigestFound
     ensures { λ r. ⌜ toldDigest r ≡ digestAt (now (nodes .entry)) (now (digests .entry)) (id .0) ⌝ }
 {
-    if !is_slot(nodes, digests, id) {
-        return DigestFound::Missing;
-    }
-    let kind = number(nodes, 6 * (id.0 as usize));
+    let kind = kind_at(nodes, digests, id);
     if kind == 0 {
         return DigestFound::Missing;
     }

@@ -5,6 +5,7 @@ ghost use Rattle.field.specs.Bounds.{anyFrom};
 ghost use Rattle.rows.specs.Profiles.{opcodes, isOneOf, twoEqual, profileWrong};
 ghost use lib.ListN.{drop};
 
+#[repr(C)]
 pub struct Profile {
     pub span: u8,
     pub respan: u8,

@@ -5,12 +5,14 @@ ghost use mathlib.Core.Path.{_≡_};
 ghost use Prim.Native.Nat.{_+_, _*_, _≤_, _<_};
 ghost use Rattle.rows.specs.Addresses.{startStep, endStep, respanStep, endAt, toldEnd};
 
+#[repr(C)]
 pub struct DecoderState {
     pub current_addr: u64,
     pub parent_addr: u64,
 }
 
 // How many entries of each queue are used.
+#[repr(C)]
 pub struct Positions {
     pub addresses: usize,
     pub parents: usize,

@@ -3,7 +3,9 @@ use crate::decoder_row::DecoderRow;
 use crate::state::StackCols;
 use crate::state::SystemCols;
 ghost use mathlib.Core.Path.{_≡_};
-ghost use Rattle.rows.specs.DecoderRows.{extra0, extra1};
+ghost use mathlib.Core.List.{_++_};
+ghost use Rattle.rows.specs.DecoderRows.{extra0, extra1, decoderCells};
+ghost use Rattle.rows.specs.Built.{systemCells};
 ghost use Rattle.rows.specs.Cells.{rowCells, copiedIn, rowWritten};
 ghost use Rattle.rows.specs.Scans.{fragmentWrong};
 
@@ -42,24 +44,14 @@ fn extra_1(op: u64) -> u64
     (op / 64 % 2) * (op / 32 % 2)
 }
 
-// Writes row `row`: 6 system cells, 24 decoder cells, 19 stack cells; where the buffer has no such row, nothing is changed.
-pub fn write_row(
-    buffer: &mut [u64],
-    row: usize,
-    system: SystemCols,
-    d: DecoderRow,
-    stack: StackCols,
-)
-    ensures { λ _. ⌜ now (buffer .exit) ≡ rowWritten (now (buffer .entry)) row (rowCells system d stack) ⌝ }
+// The system and decoder cells of a row.
+fn first_cells(system: SystemCols, d: DecoderRow) -> [u64; 30]
+    ensures { λ r. ⌜ r ≡ systemCells system ++ decoderCells d ⌝ }
 {
-    if buffer.len() / 49 <= row {
-        return;
-    }
     let op = wide(d.opcode);
     let x0 = extra_0(op);
     let x1 = extra_1(op);
-    let t = stack.top;
-    let cells = [
+    [
         system.clk,
         system.ctx,
         system.fn_hash.0,
@@ -90,27 +82,28 @@ pub fn write_row(
         d.batch_flags.2,
         x0,
         x1,
-        t[0],
-        t[1],
-        t[2],
-        t[3],
-        t[4],
-        t[5],
-        t[6],
-        t[7],
-        t[8],
-        t[9],
-        t[10],
-        t[11],
-        t[12],
-        t[13],
-        t[14],
-        t[15],
-        stack.b0,
-        stack.b1,
-        stack.h0,
-    ];
-    copy_in(buffer, 49 * row, &cells);
+    ]
+}
+
+// Writes row `row`: 6 system cells, 24 decoder cells, 19 stack cells; where the buffer has no such row, nothing is changed.
+pub fn write_row(
+    buffer: &mut [u64],
+    row: usize,
+    system: SystemCols,
+    d: DecoderRow,
+    stack: StackCols,
+)
+    ensures { λ _. ⌜ now (buffer .exit) ≡ rowWritten (now (buffer .entry)) row (rowCells system d stack) ⌝ }
+{
+    if buffer.len() / 49 <= row {
+        return;
+    }
+    let first = first_cells(system, d);
+    let top = stack.top;
+    let rest = [stack.b0, stack.b1, stack.h0];
+    copy_in(buffer, 49 * row, &first);
+    copy_in(buffer, 49 * row + 30, &top);
+    copy_in(buffer, 49 * row + 46, &rest);
 }
 
 // Refusal 11 of the fragment.

@@ -5,7 +5,10 @@ use crate::continuation::ContextInfo;
 use crate::profile::Profile;
 use crate::profile::any_big_opcode;
 use crate::profile::is_wrong;
+use crate::replay::DecoderState;
+use crate::state::StackCols;
 use crate::state::StackState;
+use crate::state::SystemCols;
 use crate::state::SystemState;
 use crate::tracer::CoreTraceGenerationTracer;
 use field::cell::any_big;
@@ -20,7 +23,7 @@ ghost use Rattle.field.specs.Modulus.{P};
 ghost use Rattle.field.specs.Bounds.{anyFrom};
 ghost use Rattle.rows.specs.Forests.{forest};
 ghost use Rattle.rows.specs.Addresses.{queues};
-ghost use Rattle.rows.specs.Scans.{lentBig, anyLongBlock, anyLargeBatch, forestTooLarge, scanOf, calleeCells, infoCells, fixedCells, cycleBig};
+ghost use Rattle.rows.specs.Scans.{lentBig, anyLongBlock, anyLargeBatch, forestTooLarge, scanOf, calleeCells, infoCells, stateCells, tracerCells, cycleBig};
 
 // What a scan finds: a cell or opcode that is too big (1), a wrong profile (2), a forest past its limits (11).
 pub struct Scan {
@@ -127,70 +130,26 @@ fn info_big(info: ContextInfo) -> bool
     }
 }
 
-// The cells that a cycle is always handed.
-fn fixed_cells(
-    system: SystemState,
-    stack: StackState,
-    tracer: CoreTraceGenerationTracer,
-) -> [u64; 48]
-    ensures { λ r. ⌜ r ≡ fixedCells system stack tracer ⌝ }
+// Refusal 1 of the states that a cycle is handed.
+fn states_big(system: SystemState, stack: StackState) -> bool
+    ensures { λ r. ⌜ r ≡ anyFrom P (stateCells system stack) ⌝ }
 {
     let hash = system.fn_hash;
-    let t = stack.stack_top;
-    let state = tracer.state;
-    let s = tracer.system;
-    let k = tracer.stack;
-    let u = k.top;
-    [
-        hash.0,
-        hash.1,
-        hash.2,
-        hash.3,
-        stack.overflow_addr,
-        t[0],
-        t[1],
-        t[2],
-        t[3],
-        t[4],
-        t[5],
-        t[6],
-        t[7],
-        t[8],
-        t[9],
-        t[10],
-        t[11],
-        t[12],
-        t[13],
-        t[14],
-        t[15],
-        state.current_addr,
-        state.parent_addr,
-        s.clk,
-        s.ctx,
-        s.fn_hash.0,
-        s.fn_hash.1,
-        s.fn_hash.2,
-        s.fn_hash.3,
-        u[0],
-        u[1],
-        u[2],
-        u[3],
-        u[4],
-        u[5],
-        u[6],
-        u[7],
-        u[8],
-        u[9],
-        u[10],
-        u[11],
-        u[12],
-        u[13],
-        u[14],
-        u[15],
-        k.b0,
-        k.b1,
-        k.h0,
-    ]
+    let top = stack.stack_top;
+    is_beyond(hash) | ((Felt::MODULUS <= stack.overflow_addr) | any_big(&top))
+}
+
+// Refusal 1 of the tracer's address state and the cells that it built last.
+fn built_big(state: DecoderState, system: SystemCols, stack: StackCols) -> bool
+    ensures { λ r. ⌜ r ≡ anyFrom P (tracerCells state system stack) ⌝ }
+{
+    let p = Felt::MODULUS;
+    let hash = system.fn_hash;
+    let top = stack.top;
+    let addresses = (p <= state.current_addr) | (p <= state.parent_addr);
+    let cells = (p <= system.clk) | ((p <= system.ctx) | is_beyond(hash));
+    let last = (p <= stack.b0) | ((p <= stack.b1) | (p <= stack.h0));
+    addresses | (cells | (any_big(&top) | last))
 }
 
 // Refusal 1 of what a cycle is handed with its states, its registers and its tracer.
@@ -202,9 +161,13 @@ pub fn cycle_big(
 ) -> bool
     ensures { λ r. ⌜ r ≡ cycleBig system stack registers tracer ⌝ }
 {
-    let cells = fixed_cells(system, stack, tracer);
     let captured = tracer.captured;
     let callee = captured.callee;
     let info = captured.info;
-    any_big(&cells) | (!registers.cells_in_field() | (callee_big(callee) | info_big(info)))
+    let state = tracer.state;
+    let s = tracer.system;
+    let k = tracer.stack;
+    states_big(system, stack)
+        | (built_big(state, s, k)
+            | (!registers.cells_in_field() | (callee_big(callee) | info_big(info))))
 }

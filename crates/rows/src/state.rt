@@ -4,7 +4,7 @@ use crate::ids::RowIndex;
 use groups::word::Word;
 ghost use mathlib.Core.Path.{_≡_};
 ghost use Prim.Native.Nat.{_-_};
-ghost use Rattle.rows.specs.Built.{builtSystem, builtStack, noSystem, noStack};
+ghost use Rattle.rows.specs.Built.{builtSystem, builtStack, reversed16, noSystem, noStack};
 
 pub struct SystemState {
     pub clk: RowIndex,
@@ -64,6 +64,30 @@ fn overflow_helper(depth: u32) -> u64
     if depth < 16 { 0 } else { depth as u64 - 16 }
 }
 
+// The last of the stored top comes first.
+fn reversed(t: &[u64; 16]) -> [u64; 16]
+    ensures { λ r. ⌜ r ≡ reversed16 (now (t .entry)) ⌝ }
+{
+    [
+        t[15],
+        t[14],
+        t[13],
+        t[12],
+        t[11],
+        t[10],
+        t[9],
+        t[8],
+        t[7],
+        t[6],
+        t[5],
+        t[4],
+        t[3],
+        t[2],
+        t[1],
+        t[0],
+    ]
+}
+
 impl StackCols {
     // The cells before any row is built.
     pub fn zeros() -> Self
@@ -82,24 +106,7 @@ impl StackCols {
         ensures { λ r. ⌜ r ≡ builtStack stack ⌝ }
     {
         let t = stack.stack_top;
-        let top = [
-            t[15],
-            t[14],
-            t[13],
-            t[12],
-            t[11],
-            t[10],
-            t[9],
-            t[8],
-            t[7],
-            t[6],
-            t[5],
-            t[4],
-            t[3],
-            t[2],
-            t[1],
-            t[0],
-        ];
+        let top = reversed(&t);
         let h0 = overflow_helper(stack.stack_depth);
         Self {
             top,

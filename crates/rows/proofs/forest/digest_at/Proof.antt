@@ -1,57 +1,36 @@
 -- `forest::digest_at` meets its contract.
 use borrow.Author.Needs.{needs}
 use native.Mathlib.Omega.{arith}
-use borrow.Author.Tests.{lt-ltb, le-leb, lt-leb, not-true, not-false}
-use Rattle.rows.specs.Forests.{digestAt}
+use borrow.Author.Tests.{lt-ltb, le-leb, lt-leb}
+use Rattle.rows.proofs.Slots.{digest-by-kind}
 use Rattle.rows.proofs.forest.digest_at.Statement.{statement}
 use Rattle.rows.proofs.forest.digest_at.Tie as tie
 
 returns : tie.Need-returns
-unfolding digestAt
 returns c =
-    let s = c .before .is-slot in
-    rw (← (s .ensures), not-true (s .result) (c .if1 .taken))
+    let k = c .before in
+    let a = k .before .before .before .args in
+    rw (digest-by-kind (a .nodes .now) (a .digests .now) (a .id .0) (k .kind-at .result) (k .kind-at .ensures), c .if1 .taken)
 
 returns-2 : tie.Need-returns-2
-unfolding digestAt
 returns-2 c =
-    let n = c .before in
-    let i = n .before .before in
-    let s = i .before .is-slot in
+    let k = c .before .before in
+    let a = k .before .before .before .args in
     rw (
-      ← (s .ensures),
-      not-false (s .result) (i .if1 .left),
-      ← (n .number .ensures),
-      c .if2 .taken,
+      digest-by-kind (a .nodes .now) (a .digests .now) (a .id .0) (k .kind-at .result) (k .kind-at .ensures),
+      lt-ltb 0 (k .kind-at .result) (omega arith),
+      lt-leb _ _ (c .if2 .taken),
     )
 
 returns-3 : tie.Need-returns-3
-unfolding digestAt
 returns-3 c =
-    let n = c .before .before in
-    let i = n .before .before in
-    let s = i .before .is-slot in
-    rw (
-      ← (s .ensures),
-      not-false (s .result) (i .if1 .left),
-      ← (n .number .ensures),
-      lt-ltb 0 (n .number .result) (omega arith),
-      lt-leb _ _ (c .if3 .taken),
-    )
-
-returns-4 : tie.Need-returns-4
-unfolding digestAt
-returns-4 c =
     let t = c .before .before in
-    let n = t .before .before in
-    let i = n .before .before in
-    let s = i .before .is-slot in
+    let k = t .before .before in
+    let a = k .before .before .before .args in
     rw (
-      ← (s .ensures),
-      not-false (s .result) (i .if1 .left),
-      ← (n .number .ensures),
-      lt-ltb 0 (n .number .result) (omega arith),
-      le-leb _ _ (t .if3 .left),
+      digest-by-kind (a .nodes .now) (a .digests .now) (a .id .0) (k .kind-at .result) (k .kind-at .ensures),
+      lt-ltb 0 (k .kind-at .result) (omega arith),
+      le-leb _ _ (t .if2 .left),
       c .word-at .ensures,
     )
 
@@ -61,12 +40,8 @@ digest-at-spec =
     (tie.spec
     (λ c κs. search needs)
     returns
-    (λ c. search needs)
-    (λ c. search needs)
-    (λ c κs. search needs)
     returns-2
-    returns-3
     (λ c. search needs)
     (λ c. search needs)
     (λ c κs. search needs)
-    returns-4)
+    returns-3)

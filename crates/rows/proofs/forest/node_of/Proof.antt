@@ -1,5 +1,7 @@
 -- `forest::node_of` meets its contract: each arm by the number that it knows.
-use borrow.Author.Tests.{ne-eqb}
+use borrow.Author.Needs.{needs}
+use borrow.Author.Tests.{eq-eqb, ne-eqb}
+use Rattle.rows.proofs.Slots.{last-kind}
 use Rattle.rows.specs.Forests.{nodeOf}
 use Rattle.rows.proofs.forest.node_of.Statement.{statement}
 use Rattle.rows.proofs.forest.node_of.Tie as tie
@@ -9,19 +11,17 @@ unfolding nodeOf
 node-of-spec =
     tie.close
     (tie.spec
-    (λ c. rw (c .match .keys1))
-    (λ c. rw (c .match .keys2))
-    (λ c. rw (c .match .keys3))
-    (λ c. rw (c .match .keys4))
-    (λ c. rw (c .match .keys5))
-    (λ c. rw (c .match .keys6))
-    (λ c. rw (c .match .keys7))
-    (λ c. rw (c .match .keys8))
-    (λ c. rw (c .match .keys9))
-    (λ c.
+    (λ c digest. rw (c .match .keys1))
+    (λ c digest. rw (c .match .keys2))
+    (λ c digest. rw (c .match .keys3))
+    (λ c digest. rw (c .match .keys4))
+    (λ c digest. rw (c .match .keys5))
+    (λ c digest. rw (c .match .keys6))
+    (λ c digest. rw (c .match .keys7))
+    (λ c digest. rw (c .match .keys8))
+    (λ c digest.
     let r = c .match .rest in
     simp (
-      ne-eqb _ _ (r .0 .0 .0 .0 .0 .0 .0 .0 .1),
       ne-eqb _ _ (r .0 .0 .0 .0 .0 .0 .0 .1),
       ne-eqb _ _ (r .0 .0 .0 .0 .0 .0 .1),
       ne-eqb _ _ (r .0 .0 .0 .0 .0 .1),
@@ -30,4 +30,5 @@ node-of-spec =
       ne-eqb _ _ (r .0 .0 .1),
       ne-eqb _ _ (r .0 .1),
       ne-eqb _ _ (r .1),
+      eq-eqb _ _ (last-kind (c .before .args .kind) (search needs) (search needs) (r .0 .0 .0 .0 .0 .0 .0 .1) (r .0 .0 .0 .0 .0 .0 .1) (r .0 .0 .0 .0 .0 .1) (r .0 .0 .0 .0 .1) (r .0 .0 .0 .1) (r .0 .0 .1) (r .0 .1) (r .1)),
     )))

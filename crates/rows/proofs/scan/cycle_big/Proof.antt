@@ -5,6 +5,7 @@ use Rattle.groups.specs.Helpers.{registerCells}
 use Rattle.rows.specs.Scans.{cycleBig, cycleCells}
 use Rattle.field.proofs.AnyFrom.{any-append}
 use Rattle.rows.proofs.AnyAll.{any-all}
+use Rattle.rows.proofs.BigCells.{fixed-by-parts}
 use Rattle.rows.proofs.scan.cycle_big.Statement.{statement}
 use Rattle.rows.proofs.scan.cycle_big.Tie as tie
 
@@ -12,11 +13,11 @@ returns : tie.Need-returns
 unfolding cycleBig cycleCells
 returns c =
     let b = c .before .before in
-    simp (any-append, or-assoc)
+    simp (any-append, fixed-by-parts, or-assoc)
     (rw (
       any-all _ (registerCells _),
-      ← (b .before .before .before .before .fixed-cells .ensures),
-      ← (b .before .any-big .ensures),
+      ← (b .before .before .states-big .ensures),
+      ← (b .before .built-big .ensures),
       ← (b .cells-in-field .ensures),
       ← (c .before .callee-big .ensures),
       ← (c .info-big .ensures),
@@ -27,7 +28,6 @@ cycle-big-spec =
     tie.close
     (tie.spec
     (λ c κs. search needs)
-    (λ c. search needs)
     (λ c κs. search needs)
     (λ c κs. search needs)
     (λ c κs. search needs)

@@ -4,27 +4,15 @@ use Rattle.rows.specs.Built.{builtStack}
 use Rattle.rows.proofs.state.StackCols.build.Statement.{statement}
 use Rattle.rows.proofs.state.StackCols.build.Tie as tie
 
-pub build-spec : {M : Type 1} → statement M
+returns : tie.Need-returns
 unfolding builtStack
+returns c = rw (c .before .before .reversed .ensures, c .before .overflow-helper .ensures)
+
+pub build-spec : {M : Type 1} → statement M
 build-spec =
     tie.close
     (tie.spec
-    (λ c. search needs)
-    (λ c. search needs)
-    (λ c. search needs)
-    (λ c. search needs)
-    (λ c. search needs)
-    (λ c. search needs)
-    (λ c. search needs)
-    (λ c. search needs)
-    (λ c. search needs)
-    (λ c. search needs)
-    (λ c. search needs)
-    (λ c. search needs)
-    (λ c. search needs)
-    (λ c. search needs)
-    (λ c. search needs)
-    (λ c. search needs)
+    (λ c κs. search needs)
     (λ c κs. search needs)
     (λ c. search needs)
-    (λ c. rw (c .before .overflow-helper .ensures)))
+    returns)

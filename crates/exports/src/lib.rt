@@ -1,0 +1,169 @@
+// The calls for programs in other languages. Each passes its arguments on; its contract is that of the function it calls. A slice crosses
+// as a pointer and a length, an array behind a reference as a pointer, a struct by value. Every call takes any numbers and answers 0 or
+// document 01's number of the refusal.
+use field::felt::Felt;
+use field::inverse::inverse;
+use passes::finish::finish;
+use passes::fixup::fixup_stack_and_system_rows;
+use passes::halt::pad_core_row_major;
+use passes::halt::push_halt_opcode_row;
+use passes::helper_column::invert_helper_column;
+use passes::multiplicity::set_loop_body_multiplicities;
+use rows::calls::Replayed;
+use rows::calls::replay_calls;
+use rows::profile::Profile;
+use rows::replay::DecoderState;
+use rows::replay::Positions;
+ghost use mathlib.Core.Path.{_≡_};
+ghost use Prim.Native.Nat.{_-_};
+ghost use lib.ListN.{length};
+ghost use Rattle.passes.specs.Buffers.{onRows};
+ghost use Rattle.passes.specs.Passes.{sumOf, builtOf, fixedUp, multiplied, inverted, halted, padded, refusal1, refusal2, refusal3, refusal4, refusal5, refusalAll, allPasses, unlessRefused};
+ghost use Rattle.rows.specs.Forests.{forest};
+ghost use Rattle.rows.specs.Addresses.{queues};
+ghost use Rattle.rows.specs.Calls.{scanned, replayed, replayedFragment};
+ghost use Rattle.exports.specs.Inverses.{inverseNumber, inverseValue};
+
+// The number (0, or 1 for a cell from p on) and the inverse, 0 on a refusal.
+#[repr(C)]
+pub struct Inverse {
+    pub number: u32,
+    pub value: u64,
+}
+
+// The inverse of a cell modulo p, 0 for 0.
+#[no_mangle]
+pub extern "C" fn core_inverse(x: u64) -> Inverse
+    ensures { λ r. ⌜ (r .number ≡ inverseNumber x) × (r .value ≡ inverseValue x) ⌝ }
+{
+    if Felt::MODULUS <= x {
+        return Inverse {
+            number: 1,
+            value: 0,
+        };
+    }
+    Inverse {
+        number: 0,
+        value: inverse(x),
+    }
+}
+
+// Pass 1: the system and stack cells of each fragment's first row.
+#[no_mangle]
+pub extern "C" fn core_fixup(
+    buffer: &mut [u64],
+    fragment_size: usize,
+    counts: &[u32],
+    built: &[u64],
+    first_stack_top: &[u64; 16],
+) -> u32
+    ensures { λ r. ⌜ r ≡ refusal1 (now (buffer .entry)) «fragment_size» (now (counts .entry)) (now (built .entry)) (now («first_stack_top» .entry)) ⌝ }
+    ensures { λ _. ⌜ now (buffer .exit) ≡ unlessRefused (refusal1 (now (buffer .entry)) «fragment_size» (now (counts .entry)) (now (built .entry)) (now («first_stack_top» .entry))) (now (buffer .entry)) (onRows (sumOf (now (counts .entry))) (fixedUp «fragment_size» (now («first_stack_top» .entry)) (builtOf (length (now (counts .entry)) - 1) (now (built .entry)))) (now (buffer .entry))) ⌝ }
+{
+    fixup_stack_and_system_rows(buffer, fragment_size, counts, built, *first_stack_top)
+}
+
+// Pass 2: each LOOP row's count.
+#[no_mangle]
+pub extern "C" fn core_multiplicities(profile: Profile, buffer: &mut [u64], rows: usize) -> u32
+    ensures { λ r. ⌜ r ≡ refusal2 profile (now (buffer .entry)) rows ⌝ }
+    ensures { λ _. ⌜ now (buffer .exit) ≡ unlessRefused (refusal2 profile (now (buffer .entry)) rows) (now (buffer .entry)) (onRows rows (multiplied profile) (now (buffer .entry))) ⌝ }
+{
+    set_loop_body_multiplicities(profile, buffer, rows)
+}
+
+// Pass 3: each helper cell becomes its inverse.
+#[no_mangle]
+pub extern "C" fn core_invert_helper_column(buffer: &mut [u64], rows: usize) -> u32
+    ensures { λ r. ⌜ r ≡ refusal3 (now (buffer .entry)) rows ⌝ }
+    ensures { λ _. ⌜ now (buffer .exit) ≡ unlessRefused (refusal3 (now (buffer .entry)) rows) (now (buffer .entry)) (onRows rows inverted (now (buffer .entry))) ⌝ }
+{
+    invert_helper_column(buffer, rows)
+}
+
+// Pass 4: the HALT row behind the program's rows.
+#[no_mangle]
+pub extern "C" fn core_push_halt(
+    profile: Profile,
+    buffer: &mut [u64],
+    rows: usize,
+    built: &[u64; 25],
+) -> u32
+    ensures { λ r. ⌜ r ≡ refusal4 profile (now (buffer .entry)) rows (now (built .entry)) ⌝ }
+    ensures { λ _. ⌜ now (buffer .exit) ≡ unlessRefused (refusal4 profile (now (buffer .entry)) rows (now (built .entry))) (now (buffer .entry)) (onRows rows (halted profile (now (built .entry))) (now (buffer .entry))) ⌝ }
+{
+    push_halt_opcode_row(profile, buffer, rows, *built)
+}
+
+// Pass 5: HALT rows up to the height.
+#[no_mangle]
+pub extern "C" fn core_pad(profile: Profile, buffer: &mut [u64], rows: usize, height: usize) -> u32
+    ensures { λ r. ⌜ r ≡ refusal5 profile (now (buffer .entry)) rows height ⌝ }
+    ensures { λ _. ⌜ now (buffer .exit) ≡ unlessRefused (refusal5 profile (now (buffer .entry)) rows height) (now (buffer .entry)) (onRows rows (padded profile height) (now (buffer .entry))) ⌝ }
+{
+    pad_core_row_major(profile, buffer, rows, height)
+}
+
+// All five passes.
+#[no_mangle]
+pub extern "C" fn core_finish(
+    profile: Profile,
+    buffer: &mut [u64],
+    fragment_size: usize,
+    counts: &[u32],
+    built: &[u64],
+    first_stack_top: &[u64; 16],
+    height: usize,
+) -> u32
+    ensures { λ r. ⌜ r ≡ refusalAll profile (now (buffer .entry)) «fragment_size» (now (counts .entry)) (now (built .entry)) (now («first_stack_top» .entry)) height ⌝ }
+    ensures { λ _. ⌜ now (buffer .exit) ≡ unlessRefused (refusalAll profile (now (buffer .entry)) «fragment_size» (now (counts .entry)) (now (built .entry)) (now («first_stack_top» .entry)) height) (now (buffer .entry)) (allPasses profile «fragment_size» (now (counts .entry)) (now (built .entry)) (now («first_stack_top» .entry)) height (now (buffer .entry))) ⌝ }
+{
+    finish(
+        profile,
+        buffer,
+        fragment_size,
+        counts,
+        built,
+        *first_stack_top,
+        height,
+    )
+}
+
+// Storings and cycles, lent as records of 32 numbers, on a fresh tracer over one fragment.
+#[no_mangle]
+pub extern "C" fn core_replay(
+    nodes: &[u32],
+    digests: &[u64],
+    batches: &[u32],
+    groups: &[u64],
+    ops: &[u8],
+    directory: &[u32],
+    addresses: &[u64],
+    parents: &[u64],
+    ends: &[u64],
+    profile: Profile,
+    state: DecoderState,
+    at: Positions,
+    records: &[u64],
+    fragment: &mut [u64],
+) -> Replayed
+    ensures { λ r. ⌜ r ≡ replayed (scanned profile (forest (now (nodes .entry)) (now (digests .entry)) (now (batches .entry)) (now (groups .entry)) (now (ops .entry))) (now (directory .entry)) (queues (now (addresses .entry)) (now (parents .entry)) (now (ends .entry))) (length (now (fragment .entry)))) state at (now (records .entry)) ⌝ }
+    ensures { λ _. ⌜ now (fragment .exit) ≡ replayedFragment (scanned profile (forest (now (nodes .entry)) (now (digests .entry)) (now (batches .entry)) (now (groups .entry)) (now (ops .entry))) (now (directory .entry)) (queues (now (addresses .entry)) (now (parents .entry)) (now (ends .entry))) (length (now (fragment .entry)))) state at (now (records .entry)) (now (fragment .entry)) ⌝ }
+{
+    replay_calls(
+        nodes,
+        digests,
+        batches,
+        groups,
+        ops,
+        directory,
+        addresses,
+        parents,
+        ends,
+        profile,
+        state,
+        at,
+        records,
+        fragment,
+    )
+}

@@ -1,0 +1,364 @@
+-- What an answer that is accepted comes from, and that no cycle refuses with the number 0.
+use mathlib.Core.Path.{_≡_, refl}
+use mathlib.Core.Bool.{Bool, true, false, not, _&&_, _||_}
+use mathlib.Core.List.{List, [], _∷_}
+use Prim.Native.Nat.{ℕ, zero, suc, _+_, _-_, _*_, _/_}
+use native.Mathlib.Omega.{arith}
+use borrow.Author.Tests.{eqb-true, eqb-false, not-false}
+use lib.Dec.{leb, ltb, eqb}
+use lib.ListN.{length, getD}
+use Rattle.field.specs.Modulus.{P}
+use Rattle.groups.specs.Answer.{Answer, accepted, refused, andThen, pick, number}
+use Rattle.groups.specs.Batches.{isBatch, batchAt, bigGroup, startsAt}
+use Rattle.groups.specs.Flags.{flagsUpTo8, batchFlags}
+use Rattle.groups.specs.GroupOfOperation.{falling, placeIn, groupFrom, groupOf}
+use Rattle.groups.specs.Contexts.{tooLarge, sumBefore, sumFrom, consumed, contextInGroup, contextAtOp, contextAtBatchStart}
+use Rattle.groups.specs.Helpers.{allBelow, registerCells, u32Values, helpersAnswer}
+use Rattle.groups.specs.declared.word.Word.{Word}
+use Rattle.groups.specs.declared.batch.Batch.{Batch}
+use Rattle.groups.specs.declared.helpers.OperationHelperRegisters.{OperationHelperRegisters}
+use Rattle.groups.specs.declared.batch.Block.{Block}
+use Rattle.rows.specs.declared.ids.MastNodeId.{MastNodeId}
+use Rattle.rows.specs.declared.profile.Profile.{Profile}
+use Rattle.rows.specs.declared.forest.Node.{Node}
+use Rattle.rows.specs.declared.replay.Positions.{Positions}
+use Rattle.rows.specs.declared.continuation.LoopCondition.{LoopCondition}
+use Rattle.rows.specs.declared.continuation.CalleeWord.{CalleeWord}
+use Rattle.rows.specs.declared.continuation.ContextInfo.{ContextInfo}
+use Rattle.rows.specs.declared.continuation.Continuation.{Continuation}
+use Rattle.rows.specs.declared.continuation.Captured.{Captured}
+use Rattle.rows.specs.declared.continuation.Used.{Used}
+use Rattle.rows.specs.declared.made.MadeRow.{MadeRow}
+use Rattle.rows.specs.declared.made.Finish.{Finish}
+use Rattle.rows.specs.declared.state.SystemState.{SystemState}
+use Rattle.rows.specs.declared.state.StackState.{StackState}
+use Rattle.rows.specs.declared.tracer.StoredContinuation.{StoredContinuation}
+use Rattle.rows.specs.declared.tracer.CoreTraceGenerationTracer.{CoreTraceGenerationTracer}
+use Rattle.rows.specs.Forests.{Forest, isSlot, nodeOf, nodeAt, digestAt, opcodeAt, blockOf}
+use Rattle.rows.specs.Addresses.{Queues, entryAt, startedAt, afterStart, endAt}
+use Rattle.rows.specs.Profiles.{profileWrong}
+use Rattle.rows.specs.Scans.{lentBig, forestTooLarge, scanOf, cycleBig, fragmentWrong}
+use Rattle.rows.specs.Made.{Place, place, calleeOf, infoOf, conditionOf, startBlock, startTwo, startOne, startDyn, startDyncall, startKind, startNode, callKind, dynKind, blockKind, entryKind, finished, bodyOf, repeated, finishLoop, operationMade, resumed, respanned, made}
+use Rattle.rows.specs.Cycles.{continuationOf, refuseIf, cycleWith, cycle}
+
+pub then-accepted : {A B : Type 0} (a : Answer A) (f : A → Answer B) (y : B) → andThen a f ≡ accepted y → (x : A) × (a ≡ accepted x) × (f x ≡ accepted y)
+then-accepted (accepted x) f y e = (x, refl, e)
+then-accepted (refused n) f y e = let z : _≡_ {A = ℕ} 0 1 = cc in absurd (omega arith)
+
+pub pick-accepted : {A : Type 0} (t : Bool) (x : Answer A) (n : ℕ) (y : A) → pick t x (refused n) ≡ accepted y → (t ≡ true) × (x ≡ accepted y)
+pick-accepted true x n y e = (refl, e)
+pick-accepted false x n y e = let z : _≡_ {A = ℕ} 0 1 = cc in absurd (omega arith)
+
+pub if-accepted : {A : Type 0} (t : Bool) (n : ℕ) (x : Answer A) (y : A) → refuseIf t n x ≡ accepted y → (t ≡ false) × (x ≡ accepted y)
+if-accepted true n x y e = let z : _≡_ {A = ℕ} 0 1 = cc in absurd (omega arith)
+if-accepted false n x y e = (refl, e)
+
+-- no refusal with the number 0
+unfoldable pub Numbered : {A : Type 0} → Answer A → Type 0
+Numbered (accepted x) = Unit {0}
+Numbered (refused zero) = ⊥
+Numbered (refused (suc n)) = Unit {0}
+
+pub accepted-of : {A : Type 0} (a : Answer A) → Numbered a → number a ≡ 0 → (x : A) × (a ≡ accepted x)
+unfolding Numbered
+accepted-of (accepted x) h e = (x, refl)
+accepted-of (refused zero) h e = absurd h
+accepted-of (refused (suc n)) h e = absurd (omega arith)
+
+then-numbered : {A B : Type 0} (a : Answer A) (f : A → Answer B) → Numbered a → ((x : A) → Numbered (f x)) → Numbered (andThen a f)
+unfolding Numbered
+then-numbered (accepted x) f h k = k x
+then-numbered (refused zero) f h k = absurd h
+then-numbered (refused (suc n)) f h k = tt
+
+pick-numbered : {A : Type 0} (t : Bool) (a b : Answer A) → Numbered a → Numbered b → Numbered (pick t a b)
+pick-numbered true a b h k = h
+pick-numbered false a b h k = k
+
+if-numbered : {A : Type 0} (t : Bool) (n : ℕ) (a : Answer A) → Numbered a → Numbered (refuseIf t (suc n) a)
+unfolding Numbered
+if-numbered true n a h = tt
+if-numbered false n a h = h
+
+-- the look-ups
+entry-numbered : (n : ℕ) (queue : List ℕ) (at : ℕ) → Numbered (entryAt (suc n) queue at)
+unfolding entryAt Numbered
+entry-numbered n queue at = pick-numbered (ltb at (length queue)) _ _ tt tt
+
+started-numbered : (addresses parents : List ℕ) (at : Positions) → Numbered (startedAt addresses parents at)
+unfolding startedAt Numbered
+started-numbered addresses parents at =
+    then-numbered (entryAt 20 addresses (at .addresses)) _ (entry-numbered 19 addresses (at .addresses)) (λ x.
+    then-numbered (entryAt 21 parents (at .parents)) _ (entry-numbered 20 parents (at .parents)) (λ y. tt))
+
+end-numbered : (ends : List ℕ) (at : ℕ) → Numbered (endAt ends at)
+unfolding endAt Numbered
+end-numbered ends at = pick-numbered (ltb at (length ends / 3)) _ _ tt tt
+
+of-numbered : (kind first second : ℕ) (block : Block) (digest : Word) → Numbered (nodeOf kind first second block digest)
+unfolding nodeOf Numbered
+of-numbered kind first second block digest =
+    pick-numbered (eqb kind 2) _ _ tt (pick-numbered (eqb kind 3) _ _ tt (pick-numbered (eqb kind 4) _ _ tt
+    (pick-numbered (eqb kind 5) _ _ tt (pick-numbered (eqb kind 6) _ _ tt (pick-numbered (eqb kind 7) _ _ tt
+    (pick-numbered (eqb kind 8) _ _ tt (pick-numbered (eqb kind 9) _ _ tt (pick-numbered (eqb kind 10) _ _ tt tt))))))))
+
+node-numbered : (nodes digests : List ℕ) (id : ℕ) → Numbered (nodeAt nodes digests id)
+unfolding nodeAt Numbered
+node-numbered nodes digests id = pick-numbered (isSlot nodes digests id) _ _ (of-numbered _ _ _ _ _) tt
+
+digest-numbered : (nodes digests : List ℕ) (id : ℕ) → Numbered (digestAt nodes digests id)
+unfolding digestAt Numbered
+digest-numbered nodes digests id =
+    pick-numbered (isSlot nodes digests id && (ltb 0 (getD nodes (6 * id) 0) && leb (getD nodes (6 * id) 0) 10)) _ _ tt tt
+
+opcode-numbered : (ops : List ℕ) (batch : Batch) (op : ℕ) → Numbered (opcodeAt ops batch op)
+unfolding opcodeAt Numbered
+opcode-numbered ops batch op = pick-numbered (ltb op (batch .«num_ops») && ltb (batch .«first_op» + op) (length ops)) _ _ tt tt
+
+block-numbered : (node : Node) → Numbered (blockOf node)
+unfolding blockOf Numbered
+block-numbered (Node.Block block) = tt
+block-numbered (Node.Join a b) = tt
+block-numbered (Node.Split a b) = tt
+block-numbered (Node.Loop a) = tt
+block-numbered (Node.Call a) = tt
+block-numbered (Node.Syscall a) = tt
+block-numbered Node.Dyn = tt
+block-numbered Node.Dyncall = tt
+block-numbered Node.External = tt
+
+body-numbered : (node : Node) → Numbered (bodyOf node)
+unfolding bodyOf Numbered
+body-numbered (Node.Block block) = tt
+body-numbered (Node.Join a b) = tt
+body-numbered (Node.Split a b) = tt
+body-numbered (Node.Loop a) = tt
+body-numbered (Node.Call a) = tt
+body-numbered (Node.Syscall a) = tt
+body-numbered Node.Dyn = tt
+body-numbered Node.Dyncall = tt
+body-numbered Node.External = tt
+
+call-numbered : (node : Node) → Numbered (callKind node)
+unfolding callKind Numbered
+call-numbered (Node.Block block) = tt
+call-numbered (Node.Join a b) = tt
+call-numbered (Node.Split a b) = tt
+call-numbered (Node.Loop a) = tt
+call-numbered (Node.Call a) = tt
+call-numbered (Node.Syscall a) = tt
+call-numbered Node.Dyn = tt
+call-numbered Node.Dyncall = tt
+call-numbered Node.External = tt
+
+dyn-numbered : (node : Node) → Numbered (dynKind node)
+unfolding dynKind Numbered
+dyn-numbered (Node.Block block) = tt
+dyn-numbered (Node.Join a b) = tt
+dyn-numbered (Node.Split a b) = tt
+dyn-numbered (Node.Loop a) = tt
+dyn-numbered (Node.Call a) = tt
+dyn-numbered (Node.Syscall a) = tt
+dyn-numbered Node.Dyn = tt
+dyn-numbered Node.Dyncall = tt
+dyn-numbered Node.External = tt
+
+kind-numbered : (finish : Finish) (node : Node) → Numbered (entryKind finish node)
+unfolding entryKind blockKind Numbered
+kind-numbered Finish.Any node = tt
+kind-numbered Finish.Loop node = tt
+kind-numbered Finish.Call node = call-numbered node
+kind-numbered Finish.Dyn node = dyn-numbered node
+kind-numbered Finish.Block node = then-numbered (blockOf node) _ (block-numbered node) (λ x. tt)
+
+callee-numbered : (word : CalleeWord) → Numbered (calleeOf word)
+unfolding Numbered
+callee-numbered (CalleeWord.Is word) = tt
+callee-numbered CalleeWord.Absent = tt
+
+info-numbered : (info : ContextInfo) → Numbered (infoOf info)
+unfolding Numbered
+info-numbered (ContextInfo.Is info) = tt
+info-numbered ContextInfo.Absent = tt
+
+condition-numbered : (condition : LoopCondition) → Numbered (conditionOf condition)
+unfolding Numbered
+condition-numbered (LoopCondition.Is again) = tt
+condition-numbered LoopCondition.Absent = tt
+
+-- groups and helpers
+batch-numbered : (batches groups : List ℕ) (block : Block) (index : ℕ) → Numbered (batchAt batches groups block index)
+unfolding batchAt Numbered
+batch-numbered batches groups block index = pick-numbered (isBatch batches groups block index) _ _ tt tt
+
+flags-numbered : (count : ℕ) → Numbered (batchFlags count)
+unfolding batchFlags flagsUpTo8 Numbered
+flags-numbered count =
+    let c : ℕ = pick (leb 8 count) 8 count in
+    pick-numbered (eqb c 8) _ _ tt (pick-numbered (eqb c 4) _ _ tt (pick-numbered (eqb c 2) _ _ tt (pick-numbered (eqb c 1) _ _ tt tt)))
+
+place-numbered : (group index : ℕ) → Numbered (placeIn group index)
+unfolding placeIn Numbered
+place-numbered group index = pick-numbered (leb index 8) _ _ tt tt
+
+from-numbered : (starts : List ℕ) (op g : ℕ) → Numbered (groupFrom starts op g)
+unfolding groupFrom Numbered
+from-numbered [] op g = tt
+from-numbered (start ∷ []) op g = tt
+from-numbered (start ∷ next ∷ starts) op g =
+    pick-numbered (leb start op && ltb op next) _ (groupFrom (next ∷ starts) op (g + 1)) (place-numbered g (op - start)) (from-numbered (next ∷ starts) op (g + 1))
+
+group-numbered : (starts : List ℕ) (ops op : ℕ) → Numbered (groupOf starts ops op)
+unfolding groupOf Numbered
+group-numbered starts ops op = pick-numbered (leb ops op || falling starts) _ (groupFrom starts op 0) tt (from-numbered starts op 0)
+
+context-numbered : (push : ℕ) (block : Block) (batches groups : List ℕ) (index op : ℕ) → Numbered (contextAtOp push block batches groups index op)
+unfolding contextAtOp contextInGroup Numbered
+context-numbered push block batches groups index op =
+    then-numbered (batchAt batches groups block index) _ (batch-numbered batches groups block index) (λ batch.
+    pick-numbered (bigGroup batch) _ _ tt (then-numbered (groupOf (startsAt batches block index) (batch .«num_ops») op) _ (group-numbered _ _ op) (λ place.
+    pick-numbered (ltb (block .total) (consumed push block batches groups index place)) _ _ tt
+    (pick-numbered (tooLarge block batch (sumBefore batches block index .above8)) _ _ tt tt))))
+
+start-numbered : (block : Block) (batches groups : List ℕ) (index : ℕ) → Numbered (contextAtBatchStart block batches groups index)
+unfolding contextAtBatchStart Numbered
+start-numbered block batches groups index =
+    then-numbered (batchAt batches groups block index) _ (batch-numbered batches groups block index) (λ batch.
+    pick-numbered (bigGroup batch) _ _ tt (then-numbered (batchFlags (sumFrom batches block index .groups)) _ (flags-numbered (sumFrom batches block index .groups)) (λ flags.
+    pick-numbered (tooLarge block batch (sumFrom batches block index .above8)) _ _ tt tt)))
+
+helpers-numbered : (registers : OperationHelperRegisters) → Numbered (helpersAnswer registers)
+unfolding helpersAnswer Numbered
+helpers-numbered registers =
+    pick-numbered (allBelow P (registerCells registers)) _ _ (pick-numbered (allBelow 4294967296 (u32Values registers)) _ _ tt tt) tt
+
+-- what a continuation makes
+module _ (f : Forest) (q : Queues) (p : Profile) (registers : OperationHelperRegisters) (flag : Bool) (captured : Captured) where
+  kinds-numbered : (node : Node) (here : Place) → Numbered (startKind (f .nodes) (f .digests) (f .batches) (f .groups) p node captured here)
+  unfolding startKind startBlock startTwo startOne startDyn startDyncall Numbered
+  kinds-numbered (Node.Block block) here =
+      then-numbered (batchAt (f .batches) (f .groups) block 0) _ (batch-numbered _ _ block 0) (λ batch.
+      then-numbered (batchFlags (block .total)) _ (flags-numbered (block .total)) (λ flags. tt))
+  kinds-numbered (Node.Join a b) here =
+      then-numbered (digestAt (f .nodes) (f .digests) (a .0)) _ (digest-numbered _ _ (a .0)) (λ x.
+      then-numbered (digestAt (f .nodes) (f .digests) (b .0)) _ (digest-numbered _ _ (b .0)) (λ y. tt))
+  kinds-numbered (Node.Split a b) here =
+      then-numbered (digestAt (f .nodes) (f .digests) (a .0)) _ (digest-numbered _ _ (a .0)) (λ x.
+      then-numbered (digestAt (f .nodes) (f .digests) (b .0)) _ (digest-numbered _ _ (b .0)) (λ y. tt))
+  kinds-numbered (Node.Loop a) here = then-numbered (digestAt (f .nodes) (f .digests) (a .0)) _ (digest-numbered _ _ (a .0)) (λ x. tt)
+  kinds-numbered (Node.Call a) here = then-numbered (digestAt (f .nodes) (f .digests) (a .0)) _ (digest-numbered _ _ (a .0)) (λ x. tt)
+  kinds-numbered (Node.Syscall a) here = then-numbered (digestAt (f .nodes) (f .digests) (a .0)) _ (digest-numbered _ _ (a .0)) (λ x. tt)
+  kinds-numbered Node.Dyn here = then-numbered (calleeOf (captured .callee)) _ (callee-numbered (captured .callee)) (λ x. tt)
+  kinds-numbered Node.Dyncall here =
+      then-numbered (calleeOf (captured .callee)) _ (callee-numbered (captured .callee)) (λ x.
+      then-numbered (infoOf (captured .info)) _ (info-numbered (captured .info)) (λ y. tt))
+  kinds-numbered Node.External here = tt
+
+  finished-numbered : (end : ℕ) (id : MastNodeId) (finish : Finish) (used : Used) (here : Place) → Numbered (finished (f .nodes) (f .digests) (q .ends) end id finish flag used here)
+  unfolding finished Numbered
+  finished-numbered end id finish used here =
+      then-numbered (nodeAt (f .nodes) (f .digests) (id .0)) _ (node-numbered _ _ (id .0)) (λ entry.
+      then-numbered (entryKind finish (entry .node)) _ (kind-numbered finish (entry .node)) (λ kind.
+      then-numbered (endAt (q .ends) (here .at .ends)) _ (end-numbered (q .ends) (here .at .ends)) (λ ended. tt)))
+
+  repeated-numbered : (repeat : ℕ) (id : MastNodeId) (here : Place) → Numbered (repeated (f .nodes) (f .digests) repeat id here)
+  unfolding repeated Numbered
+  repeated-numbered repeat id here =
+      then-numbered (nodeAt (f .nodes) (f .digests) (id .0)) _ (node-numbered _ _ (id .0)) (λ entry.
+      then-numbered (bodyOf (entry .node)) _ (body-numbered (entry .node)) (λ body.
+      then-numbered (digestAt (f .nodes) (f .digests) (body .0)) _ (digest-numbered _ _ (body .0)) (λ digest. tt)))
+
+  made-numbered : (continuation : Continuation) (here : Place) → Numbered (made f q p registers continuation flag captured here)
+  unfolding made startNode finishLoop resumed operationMade respanned Numbered
+  made-numbered (Continuation.StartNode id) here =
+      then-numbered (startedAt (q .addresses) (q .parents) (here .at)) _ (started-numbered (q .addresses) (q .parents) (here .at)) (λ s.
+      then-numbered (nodeAt (f .nodes) (f .digests) (id .0)) _ (node-numbered _ _ (id .0)) (λ entry. kinds-numbered (entry .node) (place s (afterStart (here .at)))))
+  made-numbered (Continuation.FinishJoin id) here = finished-numbered (p .end) id Finish.Any Used.Nothing here
+  made-numbered (Continuation.FinishSplit id) here = finished-numbered (p .end) id Finish.Any Used.Nothing here
+  made-numbered (Continuation.FinishLoop id) here =
+      then-numbered (conditionOf (captured .condition)) _ (condition-numbered (captured .condition)) (λ again.
+      pick-numbered again _ _ (repeated-numbered (p .repeat) id here) (finished-numbered (p .end) id Finish.Loop Used.Condition here))
+  made-numbered (Continuation.FinishCall id) here = finished-numbered (p .end) id Finish.Call Used.Nothing here
+  made-numbered (Continuation.FinishDyn id) here = finished-numbered (p .end) id Finish.Dyn Used.Nothing here
+  made-numbered (Continuation.ResumeBasicBlock id index op) here =
+      then-numbered (nodeAt (f .nodes) (f .digests) (id .0)) _ (node-numbered _ _ (id .0)) (λ entry.
+      then-numbered (blockOf (entry .node)) _ (block-numbered (entry .node)) (λ block.
+      then-numbered (batchAt (f .batches) (f .groups) block index) _ (batch-numbered _ _ block index) (λ batch.
+      then-numbered (opcodeAt (f .ops) batch op) _ (opcode-numbered (f .ops) batch op) (λ opcode.
+      then-numbered (contextAtOp (p .push) block (f .batches) (f .groups) index op) _ (context-numbered (p .push) block _ _ index op) (λ found.
+      then-numbered (helpersAnswer registers) _ (helpers-numbered registers) (λ helpers. tt))))))
+  made-numbered (Continuation.Respan id index) here =
+      then-numbered (nodeAt (f .nodes) (f .digests) (id .0)) _ (node-numbered _ _ (id .0)) (λ entry.
+      then-numbered (blockOf (entry .node)) _ (block-numbered (entry .node)) (λ block.
+      then-numbered (contextAtBatchStart block (f .batches) (f .groups) index) _ (start-numbered block _ _ index) (λ found. tt)))
+  made-numbered (Continuation.FinishBasicBlock id) here = finished-numbered (p .end) id Finish.Block Used.Nothing here
+  made-numbered Continuation.EnterForest here = tt
+
+-- a cycle
+kept-numbered : {A : Type 0} (t : Bool) (n : ℕ) (a : Answer A) → eqb n 0 ≡ t → Numbered a → Numbered (refuseIf (not t) n a)
+unfolding Numbered
+kept-numbered true n a e h = h
+kept-numbered false zero a e h = absurd (eqb-false 0 0 e refl)
+kept-numbered false (suc n) a e h = tt
+
+continuation-numbered : (stored : StoredContinuation) → Numbered (continuationOf stored)
+unfolding Numbered
+continuation-numbered (StoredContinuation.Is continuation) = tt
+continuation-numbered StoredContinuation.Nothing = tt
+
+module _ (p : Profile) (f : Forest) (q : Queues) (system : SystemState) (stack : StackState) (registers : OperationHelperRegisters) (cells : ℕ) (t : CoreTraceGenerationTracer) where
+  cycle-numbered : Numbered (cycle p f q system stack registers cells t)
+  unfolding cycle cycleWith scanOf Numbered
+  cycle-numbered =
+      kept-numbered (eqb (t .refusal) 0) (t .refusal) _ refl
+      (then-numbered (continuationOf (t .stored)) _ (continuation-numbered (t .stored)) (λ continuation.
+      if-numbered (lentBig f q || cycleBig system stack registers t) 0 _ (if-numbered (profileWrong p) 1 _
+      (if-numbered (forestTooLarge f || fragmentWrong cells (t .rows)) 10 _ (if-numbered (ltb (stack .«stack_depth») 16) 9 _
+      (then-numbered (made f q p registers continuation (t .«is_loop_body») (t .captured) (place (t .state) (t .at))) _
+      (made-numbered f q p registers (t .«is_loop_body») (t .captured) continuation (place (t .state) (t .at))) (λ row.
+      if-numbered (leb (cells / 49) (t .rows)) 23 (accepted row) tt)))))))
+
+  -- what a cycle that is not refused comes from
+  pub record Came (m : MadeRow) : Type 0 where
+    pub answer : cycle p f q system stack registers cells t ≡ accepted m
+    pub continuation : Continuation
+    pub kept : t .refusal ≡ 0
+    pub stored-is : t .stored ≡ StoredContinuation.Is continuation
+    pub small : (lentBig f q || cycleBig system stack registers t) ≡ false
+    pub profile-right : profileWrong p ≡ false
+    pub lengths-right : (forestTooLarge f || fragmentWrong cells (t .rows)) ≡ false
+    pub deep : ltb (stack .«stack_depth») 16 ≡ false
+    pub made-is : made f q p registers continuation (t .«is_loop_body») (t .captured) (place (t .state) (t .at)) ≡ accepted m
+    pub room : leb (cells / 49) (t .rows) ≡ false
+
+  stored-of : (stored : StoredContinuation) (continuation : Continuation) → continuationOf stored ≡ accepted continuation → stored ≡ StoredContinuation.Is continuation
+  stored-of (StoredContinuation.Is x) continuation e = cc
+  stored-of StoredContinuation.Nothing continuation e = let z : _≡_ {A = ℕ} 0 1 = cc in absurd (omega arith)
+
+  pub accepted-came : (m : MadeRow) → cycle p f q system stack registers cells t ≡ accepted m → Came m
+  unfolding cycle cycleWith scanOf
+  accepted-came m e =
+      let (e1, e2) = if-accepted (not (eqb (t .refusal) 0)) (t .refusal) _ m e in
+      let (continuation, e3, e4) = then-accepted (continuationOf (t .stored)) _ m e2 in
+      let (e5, e6) = if-accepted (lentBig f q || cycleBig system stack registers t) 1 _ m e4 in
+      let (e7, e8) = if-accepted (profileWrong p) 2 _ m e6 in
+      let (e9, e10) = if-accepted (forestTooLarge f || fragmentWrong cells (t .rows)) 11 _ m e8 in
+      let (e11, e12) = if-accepted (ltb (stack .«stack_depth») 16) 10 _ m e10 in
+      let (row, e13, e14) = then-accepted (made f q p registers continuation (t .«is_loop_body») (t .captured) (place (t .state) (t .at))) _ m e12 in
+      let (e15, e16) = if-accepted (leb (cells / 49) (t .rows)) 24 (accepted row) m e14 in
+      let e17 : row ≡ m = cc in
+      record {
+        answer = e;
+        continuation = continuation;
+        kept = eqb-true (t .refusal) 0 (not-false (eqb (t .refusal) 0) e1);
+        stored-is = stored-of (t .stored) continuation e3;
+        small = e5;
+        profile-right = e7;
+        lengths-right = e9;
+        deep = e11;
+        made-is = rw e17 at e13;
+        room = e15;
+      }
+
+  pub came : number (cycle p f q system stack registers cells t) ≡ 0 → (m : MadeRow) × Came m
+  came e = let (m, k) = accepted-of (cycle p f q system stack registers cells t) cycle-numbered e in (m, accepted-came m k)

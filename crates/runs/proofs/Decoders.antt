@@ -1,0 +1,122 @@
+-- The decoder part of a row, the address state and the positions after it do not depend on system and stack states: neither on those that
+-- the cycle is handed nor on those built before.
+use mathlib.Core.Path.{_≡_, _∙_, refl, sym, ap, ap₂, subst₂}
+use mathlib.Core.List.{List, [], _∷_, _++_}
+use Prim.Native.Nat.{ℕ}
+use lib.ListN.{length, take, drop}
+use Rattle.groups.specs.Answer.{accepted}
+use Rattle.groups.specs.declared.helpers.OperationHelperRegisters.{OperationHelperRegisters}
+use Rattle.rows.specs.declared.profile.Profile.{Profile}
+use Rattle.rows.specs.declared.state.SystemState.{SystemState}
+use Rattle.rows.specs.declared.state.StackState.{StackState}
+use Rattle.rows.specs.declared.continuation.Continuation.{Continuation}
+use Rattle.rows.specs.declared.made.MadeRow.{MadeRow}
+use Rattle.rows.specs.declared.tracer.StoredContinuation.{StoredContinuation}
+use Rattle.rows.specs.declared.tracer.CoreTraceGenerationTracer.{CoreTraceGenerationTracer}
+use Rattle.rows.specs.Forests.{Forest}
+use Rattle.rows.specs.Addresses.{Queues}
+use Rattle.rows.specs.DecoderRows.{decoderCells}
+use Rattle.rows.specs.Built.{systemCells, stackCells}
+use Rattle.rows.specs.Made.{Place, place, made}
+use Rattle.rows.specs.Cells.{rowCells}
+use Rattle.rows.specs.Cycles.{cycle, lastSystem, lastStack}
+use Rattle.runs.specs.Calls.{Handed, Call, store, finish, Fragment, Held, answered, after, numberOf, afterAll, Accepted, opened, closed, placeOf, AllAccepted}
+use Rattle.runs.specs.SameCalls.{AlikeCalls, AlikeFragments}
+use Rattle.runs.specs.Happened.{InForce, did, stored, leftBy}
+use Rattle.runs.specs.Written.{rowMade, rowsIn, rowsRun, decodersOf}
+use Rattle.runs.proofs.Answers.{accepted-came}
+use Rattle.runs.proofs.Folded.{inForce, stepped, after-state, row-made, after-force, force-stored, state-stored}
+
+same-made : (f : Forest) (q : Queues) (p : Profile) (registers : OperationHelperRegisters) (t u : CoreTraceGenerationTracer) (c c′ : Continuation) (m m′ : MadeRow) →
+    inForce t ≡ inForce u → t .state ≡ u .state → t .stored ≡ StoredContinuation.Is c → u .stored ≡ StoredContinuation.Is c′ →
+    made f q p registers c (t .«is_loop_body») (t .captured) (place (t .state) (t .at)) ≡ accepted m → made f q p registers c′ (u .«is_loop_body») (u .captured) (place (u .state) (u .at)) ≡ accepted m′ → m ≡ m′
+unfolding inForce
+same-made f q p registers t u c c′ m m′ e s h h′ k k′ =
+    let e1 : t .stored ≡ u .stored = ap (λ (v : InForce). v .stored) e in
+    let e2 : t .«is_loop_body» ≡ u .«is_loop_body» = ap (λ (v : InForce). v .isLoopBody) e in
+    let e3 : t .captured ≡ u .captured = ap (λ (v : InForce). v .captured) e in
+    let e4 : t .at ≡ u .at = ap (λ (v : InForce). v .at) e in
+    let e5 : c ≡ c′ = cc in
+    let e6 : made f q p registers c (t .«is_loop_body») (t .captured) (place (t .state) (t .at)) ≡ made f q p registers c′ (u .«is_loop_body») (u .captured) (place (u .state) (u .at)) = cc in
+    cc
+
+-- two cycles with the same values in force, at the same address state, over the same forest, queues and registers
+pub same-row : (p : Profile) (f : Forest) (q : Queues) (registers : OperationHelperRegisters) (system system′ : SystemState) (stack stack′ : StackState) (cells cells′ : ℕ) (t u : CoreTraceGenerationTracer) (m m′ : MadeRow) →
+    inForce t ≡ inForce u → t .state ≡ u .state → cycle p f q system stack registers cells t ≡ accepted m → cycle p f q system′ stack′ registers cells′ u ≡ accepted m′ → m ≡ m′
+same-row p f q registers system system′ stack stack′ cells cells′ t u m m′ e s k k′ =
+    let x = accepted-came p f q system stack registers cells t m k in
+    let y = accepted-came p f q system′ stack′ registers cells′ u m′ k′ in
+    same-made f q p registers t u (x .continuation) (y .continuation) m m′ e s (x .stored-is) (y .stored-is) (x .made-is) (y .made-is)
+
+-- A WHOLE RUN
+
+row-decoder : (t : CoreTraceGenerationTracer) (m : MadeRow) → take 24 (drop 6 (rowCells (lastSystem t) (m .row) (lastStack t))) ≡ decoderCells (m .row)
+unfolding rowCells systemCells decoderCells stackCells
+row-decoder t m = refl
+
+decoders-app : (l m : List (List ℕ)) → decodersOf (l ++ m) ≡ decodersOf l ++ decodersOf m
+unfolding decodersOf
+decoders-app [] m = refl
+decoders-app (row ∷ l) m = ap (λ y. take 24 (drop 6 row) ∷ y) (decoders-app l m)
+
+same-row′ : (p : Profile) (f f′ : Forest) (q : Queues) (registers registers′ : OperationHelperRegisters) (system system′ : SystemState) (stack stack′ : StackState) (cells cells′ : ℕ) (t u : CoreTraceGenerationTracer) (m m′ : MadeRow) →
+    f ≡ f′ → registers ≡ registers′ → inForce t ≡ inForce u → t .state ≡ u .state → cycle p f q system stack registers cells t ≡ accepted m → cycle p f′ q system′ stack′ registers′ cells′ u ≡ accepted m′ → m ≡ m′
+same-row′ p f f′ q registers registers′ system system′ stack stack′ cells cells′ t u m m′ i j e s k k′ =
+    same-row p f q registers system system′ stack stack′ cells cells′ t u m m′ e s k (subst₂ (λ x y. cycle p x q system′ stack′ y cells′ u ≡ accepted m′) (sym i) (sym j) k′)
+
+same-place : (z w : Held) → z .tracer .state ≡ w .tracer .state → inForce (z .tracer) ≡ inForce (w .tracer) → place (z .tracer .state) (z .tracer .at) ≡ place (w .tracer .state) (w .tracer .at)
+unfolding inForce
+same-place z w e f = ap₂ place e (ap (λ (v : InForce). v .at) f)
+
+module _ (p : Profile) (q : Queues) where
+  record Together (l m : List Call) (z w : Held) : Type 0 where
+    rows-same : decodersOf (rowsIn p q l z) ≡ decodersOf (rowsIn p q m w)
+    state-same : afterAll p q l z .tracer .state ≡ afterAll p q m w .tracer .state
+    force-same : inForce (afterAll p q l z .tracer) ≡ inForce (afterAll p q m w .tracer)
+
+  made-decoder : (z : Held) (i : Handed) (m : MadeRow) → answered p q z i ≡ accepted m → decodersOf (rowMade (z .tracer) (answered p q z i)) ≡ decoderCells (m .row) ∷ []
+  unfolding decodersOf
+  made-decoder z i m e = ap decodersOf (row-made p q z i m e) ∙ ap (λ x. x ∷ []) (row-decoder (z .tracer) m)
+
+  together : (l m : List Call) (z w : Held) → AlikeCalls l m → Accepted p q l z → Accepted p q m w → z .tracer .state ≡ w .tracer .state → inForce (z .tracer) ≡ inForce (w .tracer) → Together l m z w
+  unfolding AlikeCalls Accepted numberOf rowsIn afterAll
+  together [] [] z w k a b s f = record { rows-same = refl; state-same = s; force-same = f }
+  together [] (c ∷ m) z w k a b s f = absurd k
+  together (store v ∷ l) [] z w k a b s f = absurd k
+  together (finish i ∷ l) [] z w k a b s f = absurd k
+  together (store v ∷ l) (store v′ ∷ m) z w k a b s f =
+      let y = together l m (after p q z (store v)) (after p q w (store v′)) (k .1) (a .1) (b .1)
+      (state-stored p q z v (a .0) ∙ s ∙ sym (state-stored p q w v′ (b .0)))
+      (force-stored p q z v (a .0) ∙ ap₂ stored f (k .0) ∙ sym (force-stored p q w v′ (b .0))) in
+      record { rows-same = y .rows-same; state-same = y .state-same; force-same = y .force-same }
+  together (store v ∷ l) (finish j ∷ m) z w k a b s f = absurd k
+  together (finish i ∷ l) (store v′ ∷ m) z w k a b s f = absurd k
+  together (finish i ∷ l) (finish j ∷ m) z w k a b s f =
+      let x = stepped p q z i (a .0) in
+      let y = stepped p q w j (b .0) in
+      let e : x .m ≡ y .m = same-row′ p (i .forest) (j .forest) q (i .registers) (j .registers) (i .system) (j .system) (i .stack) (j .stack) (length (z .cells)) (length (w .cells)) (z .tracer) (w .tracer) (x .m) (y .m) (k .0) (k .1) f s (x .answer) (y .answer) in
+      let g = after-force p q z i (x .m) (x .answer) (did q (i .forest) (inForce (z .tracer))) (z .tracer .state) (x .law)
+      ∙ ap₂ (λ v h. leftBy v (did q h v)) f (k .0)
+      ∙ sym (after-force p q w j (y .m) (y .answer) (did q (j .forest) (inForce (w .tracer))) (w .tracer .state) (y .law)) in
+      let h = after-state p q z i (x .m) (x .answer) ∙ ap (λ (r : MadeRow). r .state) e ∙ sym (after-state p q w j (y .m) (y .answer)) in
+      let r = together l m (after p q z (finish i)) (after p q w (finish j)) (k .2) (a .1) (b .1) h g in
+      record {
+        rows-same = decoders-app (rowMade (z .tracer) (answered p q z i)) (rowsIn p q l (after p q z (finish i)))
+            ∙ ap₂ (λ c d. c ++ d) (made-decoder z i (x .m) (x .answer) ∙ ap (λ (r : MadeRow). decoderCells (r .row) ∷ []) e ∙ sym (made-decoder w j (y .m) (y .answer))) (r .rows-same)
+            ∙ sym (decoders-app (rowMade (w .tracer) (answered p q w j)) (rowsIn p q m (after p q w (finish j))));
+        state-same = r .state-same;
+        force-same = r .force-same;
+      }
+
+  -- runs whose calls differ in system and stack states alone have the same decoder cells in all rows
+  pub same-decoders : (l m : List Fragment) (here : Place) → AlikeFragments l m → AllAccepted p q l here → AllAccepted p q m here → decodersOf (rowsRun p q l here) ≡ decodersOf (rowsRun p q m here)
+  unfolding AlikeFragments AllAccepted rowsRun
+  same-decoders [] [] here k a b = refl
+  same-decoders [] (g ∷ m) here k a b = absurd k
+  same-decoders (f ∷ l) [] here k a b = absurd k
+  same-decoders (f ∷ l) (g ∷ m) here k a b =
+      let r = together (f .calls) (g .calls) (opened p q here f) (opened p q here g) (k .0) (a .0) (b .0) refl refl in
+      let e : placeOf p q (closed p q here f) ≡ placeOf p q (closed p q here g) = same-place (closed p q here f) (closed p q here g) (r .state-same) (r .force-same) in
+      decoders-app (rowsIn p q (f .calls) (opened p q here f)) (rowsRun p q l (placeOf p q (closed p q here f)))
+      ∙ ap₂ (λ c d. c ++ d) (r .rows-same) (same-decoders l m (placeOf p q (closed p q here f)) (k .1) (a .1) (rw e (b .1)) ∙ ap (λ x. decodersOf (rowsRun p q m x)) e)
+      ∙ sym (decoders-app (rowsIn p q (g .calls) (opened p q here g)) (rowsRun p q m (placeOf p q (closed p q here g))))

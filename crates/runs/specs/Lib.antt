@@ -1,0 +1,6 @@
+pub mod Calls
+pub mod Happened
+pub mod ProperRuns
+pub mod Written
+pub mod SameCalls
+pub mod Finished

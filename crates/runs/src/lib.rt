@@ -1,0 +1,1 @@
+// Nothing but definitions and theorems: see specs/ and proofs/.

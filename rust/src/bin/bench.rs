@@ -1,0 +1,123 @@
+//! `bench [LOG2_OF_THE_MOST_ROWS]`: replay and finish by the proved library, the same calls and passes by the listed Rust, and copying 392
+//! bytes a row. One line a forest, a number of rows and a fragment size: nanoseconds a row of this thread's processor time, the best of five,
+//! and their ratios. Both sides make their own zeroed buffer; the calls are ready, as records here and as values there.
+
+#[cfg(not(all(listed, archive)))]
+fn main() {
+    println!("bench: left out: the listed Rust, the archive, or its core_replay is not there");
+}
+
+#[cfg(all(listed, archive))]
+fn main() {
+    let most = std::env::args().nth(1).map_or(20, |word| word.parse().expect("a number"));
+    println!("nodes rows fragment proved listed copy proved/listed proved/copy Mrows/s");
+    for nodes in [10, 10_000] {
+        for log in [10, 14, 17, 20].into_iter().filter(|&log| log <= most) {
+            measure::line(nodes, 1 << log, 1 << 10);
+            if log > 10 {
+                measure::line(nodes, 1 << log, 1 << log);
+            }
+        }
+    }
+}
+
+#[cfg(all(listed, archive))]
+mod measure {
+    use std::hint::black_box;
+    use std::sync::Arc;
+
+    use core_trace::calls::{DecoderState, Positions, records};
+    use core_trace::exports::{BUILT, WIDTH, finish, replay_calls};
+    use core_trace::forest::{Forests, Queues};
+    use core_trace::listed::convert;
+    use core_trace::listed::parallel::passes;
+    use core_trace::listed::processor::Call;
+    use core_trace::listed::whole::{self, Start};
+    use core_trace::profile::EXAMPLE;
+    use core_trace::random::{Rng, Run, long_run};
+
+    /// Seconds and nanoseconds, as C has them on this machine.
+    #[repr(C)]
+    struct Time(i64, i64);
+
+    unsafe extern "C" {
+        fn clock_gettime(clock: i32, time: *mut Time) -> i32;
+    }
+
+    /// The processor time that the work takes on this thread, in nanoseconds.
+    fn time<T>(work: impl FnOnce() -> T) -> (f64, T) {
+        let now = || {
+            let mut t = Time(0, 0);
+            // SAFETY: 3 is CLOCK_THREAD_CPUTIME_ID, and the struct is C's.
+            assert_eq!(unsafe { clock_gettime(3, &mut t) }, 0);
+            t.0 as f64 * 1e9 + t.1 as f64
+        };
+        let from = now();
+        let made = work();
+        (now() - from, made)
+    }
+
+    /// A fragment's records, its part of the queues, and its state.
+    struct Fragment {
+        records: Vec<u64>,
+        queues: Queues,
+        state: DecoderState,
+    }
+
+    fn proved(fragments: &[Fragment], lent: &Forests, run: &Run, height: usize) -> Vec<u64> {
+        let size = run.fragment_size * WIDTH;
+        let mut buffer = vec![0; height * WIDTH];
+        let (mut counts, mut built) = (Vec::new(), Vec::with_capacity(BUILT * fragments.len()));
+        for (k, f) in fragments.iter().enumerate() {
+            let end = ((k + 1) * size).min(buffer.len());
+            let made =
+                replay_calls(lent, &f.queues, EXAMPLE, f.state, Positions::default(), &f.records, &mut buffer[k * size..end]).unwrap();
+            counts.push(made.rows as u32);
+            built.extend(made.built);
+        }
+        finish(EXAMPLE, &mut buffer, run.fragment_size, &counts, &built, &run.first_stack_top, height).unwrap();
+        buffer
+    }
+
+    pub fn line(nodes: usize, height: usize, fragment_size: usize) {
+        let run = long_run(&Rng::new(7), nodes, height - 1, fragment_size);
+        let lent = Forests::new(&run.forests);
+        let forests: Vec<_> = run.forests.iter().map(convert::forest).collect();
+        // Where each fragment begins, by a run that is not measured.
+        let (mut fragments, mut starts): (Vec<Fragment>, Vec<(Start, Arc<[Call]>)>) = (Vec::new(), Vec::new());
+        let (mut state, mut at) = (run.state, Positions::default());
+        let mut room = vec![0; fragment_size * WIDTH];
+        for calls in &run.fragments {
+            let numbers = records(calls);
+            let made = replay_calls(&lent, &run.queues, EXAMPLE, state, at, &numbers, &mut room).unwrap();
+            fragments.push(Fragment { records: numbers, queues: run.queues.part(at, made.at), state });
+            starts.push((Start { state, from: at, to: made.at }, convert::calls(calls, &run.forests).into()));
+            (state, at) = (made.state, made.at);
+        }
+        drop(room);
+        let mut best = [f64::MAX; 3];
+        for turn in 0..5 {
+            let contexts = starts.iter().map(|(start, calls)| whole::context(&run, start, calls.clone())).collect();
+            let (t, data) = time(|| {
+                let mut data = passes::generate(contexts, fragment_size, &forests).unwrap();
+                passes::pad(&mut data, height);
+                black_box(data)
+            });
+            best[1] = best[1].min(t);
+            let (t, buffer) = time(|| black_box(proved(&fragments, &lent, &run, height)));
+            best[0] = best[0].min(t);
+            if turn == 0 {
+                assert!(buffer.chunks(WIDTH).eq(whole::rows(&data)), "the two differ");
+            }
+            drop(data);
+            let (t, _) = time(|| {
+                let mut copy = vec![0; buffer.len()];
+                copy.copy_from_slice(black_box(&buffer));
+                black_box(copy)
+            });
+            best[2] = best[2].min(t);
+        }
+        let [a, b, c] = best.map(|t| t / height as f64);
+        println!("{nodes} {height} {fragment_size} {a:.1} {b:.1} {c:.1} {:.2} {:.2} {:.2}", a / b, a / c, 1e3 / a);
+    }
+}

@@ -1,0 +1,241 @@
+//! The comparison: the same calls and passes by the listed Rust and by the proved library, field by field.
+
+use std::collections::BTreeMap;
+use std::panic::{AssertUnwindSafe, catch_unwind};
+use std::sync::Arc;
+
+use crate::calls::{Call, DecoderState, Positions, records};
+use crate::exports::{self, BUILT, WIDTH, replay_calls};
+use crate::forest::Forests;
+use crate::listed::convert;
+use crate::listed::parallel::{CORE_STORAGE_WIDTH, passes};
+use crate::listed::processor::CoreTraceFragmentContext;
+use crate::listed::stand_ins::air::{StackCols, SystemCols};
+use crate::listed::stand_ins::core_crate::mast::SparseMastForest;
+use crate::listed::stand_ins::field::Felt;
+use crate::listed::whole::{self, Start, refusal};
+use crate::profile::EXAMPLE;
+use crate::random::{Rng, Run};
+
+/// The names of the 49 columns.
+pub fn column(i: usize) -> String {
+    match i {
+        0 => "clk".into(),
+        1 => "ctx".into(),
+        2..=5 => format!("fn_hash{}", i - 2),
+        6 => "addr".into(),
+        7..=13 => format!("op_bit{}", i - 7),
+        14..=21 => format!("h{}", i - 14),
+        22 => "in_span".into(),
+        23 => "group_count".into(),
+        24 => "op_index".into(),
+        25..=27 => format!("batch_flag{}", i - 25),
+        28 | 29 => format!("extra{}", i - 28),
+        30..=45 => format!("stack{}", i - 30),
+        46 => "b0".into(),
+        47 => "b1".into(),
+        _ => "helper".into(),
+    }
+}
+
+/// What was compared.
+#[derive(Default)]
+pub struct Tally {
+    pub runs: u64,
+    /// Runs that went through to the padding.
+    pub finished: u64,
+    pub calls: u64,
+    pub rows: u64,
+    pub cells: u64,
+    pub differences: u64,
+    /// The first differences, in words.
+    pub told: Vec<String>,
+    /// How often the library answered the number and the listed Rust the text, 0 and "accepts" included.
+    pub refusals: BTreeMap<(u32, String), u64>,
+}
+
+impl Tally {
+    fn differ(&mut self, text: String) {
+        self.differences += 1;
+        if self.told.len() < 20 {
+            self.told.push(format!("run {}: {text}", self.runs));
+        }
+    }
+    fn same<T: PartialEq + core::fmt::Debug>(&mut self, what: &str, ours: T, listed: T) {
+        if ours != listed {
+            self.differ(format!("{what}: {ours:?}, the listed Rust {listed:?}"));
+        }
+    }
+    /// The first `rows` rows of both, field by field.
+    fn same_rows(&mut self, stage: &str, rows: usize, ours: &[u64], listed: &[Felt]) {
+        for row in 0..rows {
+            let a = &ours[row * WIDTH..][..WIDTH];
+            let b = &listed[row * CORE_STORAGE_WIDTH..][..CORE_STORAGE_WIDTH];
+            for i in 0..WIDTH {
+                if a[i] != b[i].as_canonical_u64() {
+                    self.differ(format!("{stage}, row {row}, {}: {}, the listed Rust {}", column(i), a[i], b[i]));
+                }
+            }
+            self.same("the two cells behind a row", &[0, 0][..], &b[WIDTH..].iter().map(Felt::as_canonical_u64).collect::<Vec<_>>());
+        }
+        self.rows += rows as u64;
+        self.cells += (rows * WIDTH) as u64;
+    }
+    fn refused(&mut self, ours: u32, listed: &str) {
+        *self.refusals.entry((ours, listed.into())).or_default() += 1;
+    }
+}
+
+const ACCEPTS: &str = "accepts";
+
+/// The first call that the library refuses, by halving: where a list is refused, so is each longer one.
+fn first_refused(lent: &Forests, run: &Run, state: DecoderState, at: Positions, calls: &[Call], fragment: &[u64]) -> (usize, u32) {
+    let refuses = |n: usize| replay_calls(lent, &run.queues, EXAMPLE, state, at, &records(&calls[..n]), &mut fragment.to_vec()).err();
+    let (mut low, mut high) = (0, calls.len());
+    while high - low > 1 {
+        let middle = (low + high) / 2;
+        if refuses(middle).is_some() { high = middle } else { low = middle }
+    }
+    (high - 1, refuses(high).expect("the whole list is refused").0)
+}
+
+/// Carries out a run on both sides, and its passes.
+pub fn compare_run(run: &Run, rng: &Rng, tally: &mut Tally) {
+    tally.runs += 1;
+    let lent = Forests::new(&run.forests);
+    let forests: Vec<_> = run.forests.iter().map(convert::forest).collect();
+    let size = run.fragment_size;
+    let cycles: usize = run.fragments.iter().flatten().filter(|call| matches!(call, Call::Cycle(_))).count();
+    let height = cycles + 1 + if rng.one_in(3) { 0 } else { rng.below(40) };
+    let buffer_rows = height + rng.below(3);
+    // What stands in the buffer before is no matter, also from p on.
+    let mut buffer: Vec<u64> = (0..buffer_rows * WIDTH).map(|_| rng.next()).collect();
+    let mut data = Felt::zero_vec(run.fragments.len() * size * CORE_STORAGE_WIDTH);
+
+    let (mut state, mut at) = (run.state, Positions::default());
+    let (mut counts, mut built) = (Vec::new(), Vec::new());
+    let (mut stack_rows, mut system_rows, mut contexts) = (Vec::new(), Vec::new(), Vec::new());
+    for (k, calls) in run.fragments.iter().enumerate() {
+        let place = k * size * CORE_STORAGE_WIDTH..(k + 1) * size * CORE_STORAGE_WIDTH;
+        let end = ((k + 1) * size).min(buffer_rows);
+        let ours = k * size * WIDTH..end * WIDTH;
+        let listed_calls = convert::calls(calls, &run.forests);
+        let before = buffer[ours.clone()].to_vec();
+        let mut answer = replay_calls(&lent, &run.queues, EXAMPLE, state, at, &records(calls), &mut buffer[ours.clone()]);
+        let mut listed = whole::fragment(run, &forests, &listed_calls, state, at, &mut data[place.clone()]);
+        let mut accepted = calls.len();
+        let is_refused = answer.is_err() || listed.refused.is_some();
+        if is_refused {
+            // Up to the first refused call of either side both accept; that much is compared, and the run ends there.
+            let first = answer.err().map(|_| {
+                if buffer[ours.clone()] != before {
+                    tally.differ("a refused replay changed the fragment".into());
+                }
+                first_refused(&lent, run, state, at, calls, &before)
+            });
+            accepted = first.map_or(usize::MAX, |(at, _)| at).min(listed.refused.as_ref().map_or(usize::MAX, |(at, _)| *at));
+            let number = first.filter(|(at, _)| *at == accepted).map_or(0, |(_, number)| number);
+            let text = listed.refused.filter(|(at, _)| *at == accepted).map_or(ACCEPTS.into(), |(_, text)| text);
+            tally.refused(number, &text);
+            buffer[ours.clone()].copy_from_slice(&before);
+            data[place.clone()].fill(convert::felt(0));
+            answer = replay_calls(&lent, &run.queues, EXAMPLE, state, at, &records(&calls[..accepted]), &mut buffer[ours.clone()]);
+            listed = whole::fragment(run, &forests, &listed_calls[..accepted], state, at, &mut data[place.clone()]);
+        }
+        tally.calls += accepted as u64;
+        let (Ok(answer), Some(left)) = (answer, listed.left) else {
+            tally.differ("calls that were accepted are refused alone".into());
+            return;
+        };
+        let (rows, positions) = (left.rows, left.at);
+        tally.same("rows of a fragment", answer.rows, rows);
+        tally.same("built cells", answer.built, left.built);
+        tally.same("address state", answer.state, left.state);
+        tally.same("queue positions", answer.at, positions);
+        tally.same_rows("replay", rows, &buffer[ours.start..], &data[place]);
+        if buffer[ours.start + rows * WIDTH..ours.end] != before[rows * WIDTH..] {
+            tally.differ("replay changed a row behind its last".into());
+        }
+        if rows > 0 {
+            contexts.push(whole::context(run, &Start { state, from: at, to: positions }, listed_calls[..accepted].into()));
+            counts.push(rows as u32);
+            built.extend(answer.built);
+            stack_rows.push(left.stack);
+            system_rows.push(left.system);
+        }
+        (state, at) = (answer.state, answer.at);
+        if is_refused || rows < size {
+            break;
+        }
+    }
+    let rows = counts.iter().sum::<u32>() as usize;
+    if rows == 0 {
+        return;
+    }
+    data.truncate(counts.len() * size * CORE_STORAGE_WIDTH);
+    let made = Made { run, forests, rows, height, counts, built, stack_rows, system_rows, contexts };
+    compare_passes(made, buffer, data, tally);
+}
+
+/// What both sides made of a run's fragments.
+struct Made<'a> {
+    run: &'a Run,
+    forests: Vec<Arc<SparseMastForest>>,
+    rows: usize,
+    height: usize,
+    counts: Vec<u32>,
+    built: Vec<u64>,
+    stack_rows: Vec<StackCols<Felt>>,
+    system_rows: Vec<SystemCols<Felt>>,
+    contexts: Vec<CoreTraceFragmentContext>,
+}
+
+fn compare_passes(made: Made<'_>, mut buffer: Vec<u64>, mut data: Vec<Felt>, tally: &mut Tally) {
+    let Made { run, forests, rows, height, counts, built, stack_rows, system_rows, contexts } = made;
+    let (size, top) = (run.fragment_size, run.first_stack_top);
+    let replayed = buffer.clone();
+    let mut finished = buffer.clone();
+    let all = exports::finish(EXAMPLE, &mut finished, size, &counts, &built, &top, height);
+    let generated = refusal(catch_unwind(AssertUnwindSafe(|| passes::generate(contexts, size, &forests))));
+
+    // Pass 1.
+    let first = exports::fixup_stack_and_system_rows(&mut buffer, size, &counts, &built, &top);
+    tally.same("pass 1", first, Ok(()));
+    passes::fixup(&mut data, size, &stack_rows, &system_rows, &top.map(convert::felt));
+    tally.same_rows("pass 1", rows, &buffer, &data);
+    // Pass 2.
+    let second = exports::set_loop_body_multiplicities(EXAMPLE, &mut buffer, rows);
+    let listed = refusal(Ok(passes::multiplicities(&mut data, rows)));
+    tally.same("the finisher and pass 2", all, second);
+    tally.same("the whole listed run and its second pass", generated.as_ref().err(), listed.as_ref().err());
+    if second.is_err() || listed.is_err() {
+        tally.refused(second.err().map_or(0, |number| number.0), listed.as_ref().err().map_or(ACCEPTS, |text| text));
+        if finished != replayed {
+            tally.differ("a refused finisher changed the buffer".into());
+        }
+        return;
+    }
+    tally.same_rows("pass 2", rows, &buffer, &data);
+    // Pass 3.
+    tally.same("pass 3", exports::invert_helper_column(&mut buffer, rows), Ok(()));
+    passes::invert(&mut data, size, rows);
+    tally.same_rows("pass 3", rows, &buffer, &data);
+    // Pass 4.
+    let last: [u64; BUILT] = built[built.len() - BUILT..].try_into().unwrap();
+    tally.same("pass 4", exports::push_halt_opcode_row(EXAMPLE, &mut buffer, rows, &last), Ok(()));
+    data.truncate(rows * CORE_STORAGE_WIDTH);
+    passes::push_halt(&mut data, rows, system_rows.last().unwrap(), stack_rows.last().unwrap());
+    tally.same_rows("pass 4", rows + 1, &buffer, &data);
+    // Pass 5.
+    tally.same("pass 5", exports::pad_core_row_major(EXAMPLE, &mut buffer, rows + 1, height), Ok(()));
+    passes::pad(&mut data, height);
+    tally.same_rows("pass 5", height, &buffer, &data);
+    // All at once.
+    let mut generated = generated.expect("no pass was refused");
+    passes::pad(&mut generated, height);
+    tally.same_rows("finish", height, &finished, &generated);
+    if finished != buffer || finished[height * WIDTH..] != replayed[height * WIDTH..] {
+        tally.differ("the finisher and the five passes leave different buffers".into());
+    }
+    tally.finished += 1;
+}

@@ -1,0 +1,243 @@
+//! The calls of the proved library, each as a safe function with the original's name where there is one.
+//!
+//! Every call takes any numbers. It answers what it made or the number of a [`Refusal`], and a refused call has changed nothing that it was
+//! lent. A cell is a number below p = 18446744069414584321, a row is [`WIDTH`] cells.
+
+use crate::calls::{DecoderState, Positions};
+use crate::forest::{Forests, Queues};
+use crate::profile::Profile;
+
+/// How many cells a row has.
+pub const WIDTH: usize = 49;
+
+/// How many cells are built at a row for the next one: clk, ctx, fn_hash (4); stack top (16), b0, b1, helper.
+pub const BUILT: usize = 25;
+
+/// The number of a refusal, as document 01 lists them.
+#[derive(Clone, Copy, Debug, PartialEq, Eq, PartialOrd, Ord)]
+pub struct Refusal(pub u32);
+
+impl core::fmt::Display for Refusal {
+    fn fmt(&self, f: &mut core::fmt::Formatter<'_>) -> core::fmt::Result {
+        write!(f, "refused by {}", self.0)
+    }
+}
+
+impl core::error::Error for Refusal {}
+
+fn accepted(number: u32) -> Result<(), Refusal> {
+    if number == 0 { Ok(()) } else { Err(Refusal(number)) }
+}
+
+/// What a replayed fragment leaves: its rows, the cells built last, and the address state and queue positions for the next fragment.
+#[derive(Clone, Copy, Debug, PartialEq, Eq)]
+pub struct Replayed {
+    pub rows: usize,
+    pub built: [u64; BUILT],
+    pub state: DecoderState,
+    pub at: Positions,
+}
+
+mod foreign {
+    use super::{BUILT, DecoderState, Positions, Profile};
+
+    #[repr(C)]
+    pub struct Replayed {
+        pub number: u32,
+        pub rows: usize,
+        pub built: [u64; BUILT],
+        pub state: DecoderState,
+        pub at: Positions,
+    }
+
+    #[repr(C)]
+    pub struct Inverse {
+        pub number: u32,
+        pub value: u64,
+    }
+
+    unsafe extern "C" {
+        pub fn core_replay(
+            nodes: *const u32,
+            nodes_len: usize,
+            digests: *const u64,
+            digests_len: usize,
+            batches: *const u32,
+            batches_len: usize,
+            groups: *const u64,
+            groups_len: usize,
+            ops: *const u8,
+            ops_len: usize,
+            directory: *const u32,
+            directory_len: usize,
+            addresses: *const u64,
+            addresses_len: usize,
+            parents: *const u64,
+            parents_len: usize,
+            ends: *const u64,
+            ends_len: usize,
+            profile: Profile,
+            state: DecoderState,
+            at: Positions,
+            records: *const u64,
+            records_len: usize,
+            fragment: *mut u64,
+            fragment_len: usize,
+        ) -> Replayed;
+
+        pub fn core_fixup(
+            buffer: *mut u64,
+            buffer_len: usize,
+            fragment_size: usize,
+            counts: *const u32,
+            counts_len: usize,
+            built: *const u64,
+            built_len: usize,
+            first_stack_top: *const [u64; 16],
+        ) -> u32;
+        pub fn core_multiplicities(profile: Profile, buffer: *mut u64, buffer_len: usize, rows: usize) -> u32;
+        pub fn core_invert_helper_column(buffer: *mut u64, buffer_len: usize, rows: usize) -> u32;
+        pub fn core_push_halt(profile: Profile, buffer: *mut u64, buffer_len: usize, rows: usize, built: *const [u64; BUILT]) -> u32;
+        pub fn core_pad(profile: Profile, buffer: *mut u64, buffer_len: usize, rows: usize, height: usize) -> u32;
+        pub fn core_finish(
+            profile: Profile,
+            buffer: *mut u64,
+            buffer_len: usize,
+            fragment_size: usize,
+            counts: *const u32,
+            counts_len: usize,
+            built: *const u64,
+            built_len: usize,
+            first_stack_top: *const [u64; 16],
+            height: usize,
+        ) -> u32;
+        pub fn core_inverse(x: u64) -> Inverse;
+    }
+}
+
+// SAFETY, of every call below: each pointer and length come from one slice or array that is borrowed for the call, and the called function is
+// proved to stay inside them, to write to none but those passed as `*mut`, to keep none, and to end. It has no `requires`.
+
+/// Carries out a list of storings and cycles, lent as records of 32 numbers, on a fresh tracer over one fragment: the listed
+/// `start_clock_cycle` and `finalize_clock_cycle` once a record, and `into_final_state` behind the last.
+///
+/// `state` and `at` are the address state and queue positions that the fragment before left. Where a record is refused, its number is
+/// answered and no row is written.
+pub fn replay_calls(
+    forests: &Forests,
+    queues: &Queues,
+    profile: Profile,
+    state: DecoderState,
+    at: Positions,
+    records: &[u64],
+    fragment: &mut [u64],
+) -> Result<Replayed, Refusal> {
+    let (f, q) = (forests, queues);
+    let r = unsafe {
+        foreign::core_replay(
+            f.nodes.as_ptr(),
+            f.nodes.len(),
+            f.digests.as_ptr(),
+            f.digests.len(),
+            f.batches.as_ptr(),
+            f.batches.len(),
+            f.groups.as_ptr(),
+            f.groups.len(),
+            f.ops.as_ptr(),
+            f.ops.len(),
+            f.directory.as_ptr(),
+            f.directory.len(),
+            q.addresses.as_ptr(),
+            q.addresses.len(),
+            q.parents.as_ptr(),
+            q.parents.len(),
+            q.ends.as_ptr(),
+            q.ends.len(),
+            profile,
+            state,
+            at,
+            records.as_ptr(),
+            records.len(),
+            fragment.as_mut_ptr(),
+            fragment.len(),
+        )
+    };
+    accepted(r.number)?;
+    Ok(Replayed { rows: r.rows, built: r.built, state: r.state, at: r.at })
+}
+
+/// Pass 1: row 0 gets its stack cells from the first stack top (stored last first), and the first row of each later fragment its system
+/// and stack cells from the [`BUILT`] cells that the fragment before left. `counts` has the rows of each fragment.
+pub fn fixup_stack_and_system_rows(
+    buffer: &mut [u64],
+    fragment_size: usize,
+    counts: &[u32],
+    built: &[u64],
+    first_stack_top: &[u64; 16],
+) -> Result<(), Refusal> {
+    accepted(unsafe {
+        foreign::core_fixup(
+            buffer.as_mut_ptr(),
+            buffer.len(),
+            fragment_size,
+            counts.as_ptr(),
+            counts.len(),
+            built.as_ptr(),
+            built.len(),
+            first_stack_top,
+        )
+    })
+}
+
+/// Pass 2: each LOOP row but the last of the first `rows` rows gets the number of ENDs of its body.
+pub fn set_loop_body_multiplicities(profile: Profile, buffer: &mut [u64], rows: usize) -> Result<(), Refusal> {
+    accepted(unsafe { foreign::core_multiplicities(profile, buffer.as_mut_ptr(), buffer.len(), rows) })
+}
+
+/// Pass 3: the helper cell of each of the first `rows` rows becomes its inverse, 0 staying 0.
+pub fn invert_helper_column(buffer: &mut [u64], rows: usize) -> Result<(), Refusal> {
+    accepted(unsafe { foreign::core_invert_helper_column(buffer.as_mut_ptr(), buffer.len(), rows) })
+}
+
+/// Pass 4: a HALT row behind the first `rows` rows, with the cells built last.
+pub fn push_halt_opcode_row(profile: Profile, buffer: &mut [u64], rows: usize, built: &[u64; BUILT]) -> Result<(), Refusal> {
+    accepted(unsafe { foreign::core_push_halt(profile, buffer.as_mut_ptr(), buffer.len(), rows, built) })
+}
+
+/// Pass 5: HALT rows from row `rows` to the height.
+pub fn pad_core_row_major(profile: Profile, buffer: &mut [u64], rows: usize, height: usize) -> Result<(), Refusal> {
+    accepted(unsafe { foreign::core_pad(profile, buffer.as_mut_ptr(), buffer.len(), rows, height) })
+}
+
+/// All five passes on the buffer that holds the fragments one after another from row 0 on: afterwards its first `height` rows are the
+/// finished trace.
+pub fn finish(
+    profile: Profile,
+    buffer: &mut [u64],
+    fragment_size: usize,
+    counts: &[u32],
+    built: &[u64],
+    first_stack_top: &[u64; 16],
+    height: usize,
+) -> Result<(), Refusal> {
+    accepted(unsafe {
+        foreign::core_finish(
+            profile,
+            buffer.as_mut_ptr(),
+            buffer.len(),
+            fragment_size,
+            counts.as_ptr(),
+            counts.len(),
+            built.as_ptr(),
+            built.len(),
+            first_stack_top,
+            height,
+        )
+    })
+}
+
+/// The inverse of a cell modulo p, 0 for 0.
+pub fn inverse(cell: u64) -> Result<u64, Refusal> {
+    let r = unsafe { foreign::core_inverse(cell) };
+    accepted(r.number).map(|()| r.value)
+}

@@ -1,0 +1,13 @@
+//! The core trace of Miden VM programs from Rust: safe calls of the proved library, and its comparison with the listed Rust.
+
+pub mod calls;
+#[cfg(all(listed, archive))]
+pub mod compare;
+#[cfg(archive)]
+pub mod exports;
+pub mod forest;
+#[cfg(listed)]
+pub mod listed;
+pub mod listing;
+pub mod profile;
+pub mod random;

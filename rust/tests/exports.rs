@@ -1,0 +1,229 @@
+//! The proved library through its wrappers: document 01's cases and refusals.
+#![cfg(archive)]
+
+use core_trace::exports::*;
+use core_trace::profile::{EXAMPLE, Profile};
+
+const P: u64 = 18446744069414584321;
+const NONE: [u64; 16] = [0; 16];
+
+/// A row of zeros with an opcode and an address.
+fn row(opcode: u8, addr: u64) -> [u64; WIDTH] {
+    let mut cells = [0; WIDTH];
+    cells[6] = addr;
+    (0..7).for_each(|i| cells[7 + i] = u64::from(opcode >> i & 1));
+    cells
+}
+
+fn refused<T: core::fmt::Debug + PartialEq>(answer: Result<T, Refusal>, number: u32) {
+    assert_eq!(answer, Err(Refusal(number)));
+}
+
+/// C1, and refusal 1.
+#[test]
+fn inverses() {
+    assert_eq!(inverse(2), Ok(9223372034707292161));
+    assert_eq!(inverse(0), Ok(0));
+    assert_eq!(inverse(1), Ok(1));
+    for x in [3, 1023, 1024, P - 1, 1 << 40] {
+        assert_eq!(u128::from(x) * u128::from(inverse(x).unwrap()) % u128::from(P), 1);
+    }
+    refused(inverse(P), 1);
+    refused(inverse(u64::MAX), 1);
+}
+
+/// Two fragments of two rows and one: the first stack top reversed, then the cells of the fragment before.
+#[test]
+fn first_rows() {
+    let mut buffer = vec![7; 3 * WIDTH];
+    let built: Vec<u64> = (100..150).collect();
+    let top = core::array::from_fn(|i| i as u64);
+    assert_eq!(fixup_stack_and_system_rows(&mut buffer, 2, &[2, 1], &built, &top), Ok(()));
+    assert_eq!(buffer[..6], [7; 6]);
+    assert!(buffer[30..46].iter().copied().eq((0..16).rev()));
+    assert_eq!(buffer[46..49], [16, 0, 0]);
+    assert_eq!(buffer[49..98], [7; 49]);
+    assert!(buffer[98..104].iter().copied().eq(100..106));
+    assert!(buffer[128..147].iter().copied().eq(106..125));
+}
+
+#[test]
+fn first_rows_refused() {
+    let before = vec![7; 3 * WIDTH];
+    let built = vec![1; 50];
+    let check = |buffer: &[u64], size, counts: &[u32], built: &[u64], top: &[u64; 16], number| {
+        let mut copy = buffer.to_vec();
+        refused(fixup_stack_and_system_rows(&mut copy, size, counts, built, top), number);
+        assert_eq!(copy, buffer);
+    };
+    check(&vec![P; 3 * WIDTH], 2, &[2, 1], &built, &NONE, 1);
+    check(&before, 2, &[2, 1], &built, &[P; 16], 1);
+    check(&before[1..], 2, &[1], &built, &NONE, 11);
+    check(&before, 0, &[2, 1], &built, &NONE, 11);
+    check(&before, 2, &[3], &built, &NONE, 11);
+    check(&before, 2, &[2, 2], &built, &NONE, 11);
+    check(&before, 2, &[2, 1], &built[..49], &NONE, 11);
+    check(&before, 2, &[u32::MAX, u32::MAX], &built, &NONE, 11);
+    check(&before, 2, &[], &built, &NONE, 26);
+    check(&before, 2, &[1, 1], &built, &NONE, 25);
+    check(&before, 2, &[2, 0], &built, &NONE, 25);
+}
+
+/// A loop with two passes, counted by the address behind each flagged END.
+fn looped() -> Vec<u64> {
+    let mut flagged = row(EXAMPLE.end, 3);
+    flagged[18] = 1;
+    [row(EXAMPLE.loop_op, 0), row(EXAMPLE.span, 1), flagged, row(EXAMPLE.repeat, 1), flagged, row(EXAMPLE.end, 1)].concat()
+}
+
+#[test]
+fn multiplicities() {
+    let mut buffer = looped();
+    assert_eq!(set_loop_body_multiplicities(EXAMPLE, &mut buffer, 6), Ok(()));
+    assert_eq!(buffer[23], 2);
+    // C9: one row stays as it is.
+    let mut one = row(EXAMPLE.loop_op, 0);
+    assert_eq!(set_loop_body_multiplicities(EXAMPLE, &mut one, 1), Ok(()));
+    assert_eq!(one, row(EXAMPLE.loop_op, 0));
+    let mut without = [row(EXAMPLE.loop_op, 0), row(EXAMPLE.span, 1)].concat();
+    let before = without.clone();
+    refused(set_loop_body_multiplicities(EXAMPLE, &mut without, 2), 14);
+    refused(set_loop_body_multiplicities(EXAMPLE, &mut without, 3), 11);
+    for wrong in [
+        Profile { span: 128, ..EXAMPLE },
+        Profile { join: EXAMPLE.end, ..EXAMPLE },
+        Profile { halt: 32, ..EXAMPLE },
+        Profile { step: 0, ..EXAMPLE },
+        Profile { step: P, ..EXAMPLE },
+    ] {
+        refused(set_loop_body_multiplicities(wrong, &mut without, 2), 2);
+    }
+    assert_eq!(without, before);
+}
+
+#[test]
+fn helper_column() {
+    let mut buffer = vec![2; 2 * WIDTH];
+    assert_eq!(invert_helper_column(&mut buffer, 1), Ok(()));
+    assert_eq!(buffer[48], 9223372034707292161);
+    assert_eq!(buffer[97], 2);
+    refused(invert_helper_column(&mut buffer, 3), 11);
+    refused(invert_helper_column(&mut [P; WIDTH], 1), 1);
+}
+
+/// The HALT row has the cells built last, its helper as it is, and padding repeats it.
+#[test]
+fn halts() {
+    let mut buffer = vec![9; 4 * WIDTH];
+    let built: [u64; BUILT] = core::array::from_fn(|i| 50 + i as u64);
+    assert_eq!(push_halt_opcode_row(EXAMPLE, &mut buffer, 1, &built), Ok(()));
+    assert_eq!(pad_core_row_major(EXAMPLE, &mut buffer, 2, 3), Ok(()));
+    let (halt, padding) = (&buffer[49..98], &buffer[98..147]);
+    assert_eq!(halt[..6], built[..6]);
+    assert_eq!(halt[30..], built[6..]);
+    assert_eq!(halt[6..14], row(EXAMPLE.halt, 0)[6..14]);
+    assert_eq!(halt[14..22], [9, 9, 9, 9, 0, 0, 0, 0]);
+    assert_eq!(halt[22..30], [0, 0, 0, 0, 0, 0, 0, 1]);
+    assert_eq!(padding[..6], [2, 0, 0, 0, 0, 0]);
+    assert_eq!(padding[6..], halt[6..]);
+    assert_eq!(buffer[147..], [9; 49]);
+    refused(push_halt_opcode_row(EXAMPLE, &mut buffer, 4, &built), 11);
+    refused(push_halt_opcode_row(EXAMPLE, &mut buffer, 1, &[P; BUILT]), 1);
+    refused(pad_core_row_major(EXAMPLE, &mut buffer, 0, 3), 11);
+    refused(pad_core_row_major(EXAMPLE, &mut buffer, 3, 2), 11);
+    refused(pad_core_row_major(EXAMPLE, &mut buffer, 3, 5), 11);
+}
+
+/// The finisher is the five passes; each of its refusals leaves the buffer.
+#[test]
+fn finisher() {
+    let mut start = looped();
+    start.resize(9 * WIDTH, P);
+    let (counts, built) = ([4, 2], [vec![3; 25], vec![5; 25]].concat());
+    let mut whole = start.clone();
+    assert_eq!(finish(EXAMPLE, &mut whole, 4, &counts, &built, &NONE, 8), Ok(()));
+    let mut steps = start.clone();
+    assert_eq!(fixup_stack_and_system_rows(&mut steps, 4, &counts, &built, &NONE), Ok(()));
+    assert_eq!(set_loop_body_multiplicities(EXAMPLE, &mut steps, 6), Ok(()));
+    assert_eq!(invert_helper_column(&mut steps, 6), Ok(()));
+    assert_eq!(push_halt_opcode_row(EXAMPLE, &mut steps, 6, &[5; BUILT]), Ok(()));
+    assert_eq!(pad_core_row_major(EXAMPLE, &mut steps, 7, 8), Ok(()));
+    assert_eq!(whole, steps);
+    let before = whole.clone();
+    refused(finish(EXAMPLE, &mut whole, 4, &counts, &built, &NONE, 6), 11);
+    refused(finish(EXAMPLE, &mut whole, 4, &counts, &built, &NONE, 10), 11);
+    refused(finish(EXAMPLE, &mut whole, 4, &[], &built, &NONE, 8), 26);
+    refused(finish(EXAMPLE, &mut whole, 4, &[3, 2], &built, &NONE, 8), 25);
+    refused(finish(EXAMPLE, &mut whole, 4, &[2], &built, &NONE, 8), 14);
+    assert_eq!(whole, before);
+}
+
+/// Replay, by the listing of document 01 and by refusals of records.
+mod replayed {
+    use core_trace::calls::{Positions, RECORD, records};
+    use core_trace::forest::Forests;
+    use core_trace::listing;
+
+    use super::*;
+
+    /// C10, for each fragment size.
+    #[test]
+    fn listing_in_fragments() {
+        for size in 1..=10 {
+            let run = listing::run(size);
+            let lent = Forests::new(&run.forests);
+            let mut buffer = vec![P; listing::HEIGHT * WIDTH];
+            let (mut state, mut at, mut counts, mut built) = (run.state, Positions::default(), Vec::new(), Vec::new());
+            for (k, calls) in run.fragments.iter().enumerate() {
+                let end = ((k + 1) * size).min(listing::HEIGHT);
+                let part = &mut buffer[k * size * WIDTH..end * WIDTH];
+                let left = replay_calls(&lent, &run.queues, EXAMPLE, state, at, &records(calls), part).unwrap();
+                counts.push(left.rows as u32);
+                built.extend(left.built);
+                (state, at) = (left.state, left.at);
+            }
+            finish(EXAMPLE, &mut buffer, size, &counts, &built, &run.first_stack_top, listing::HEIGHT).unwrap();
+            let rows = buffer.chunks(WIDTH).map(|row| row.try_into().unwrap());
+            assert_eq!(listing::table(&EXAMPLE, rows), listing::TABLE);
+        }
+    }
+
+    /// A changed number of a record, and what it is refused by; no row is written.
+    #[test]
+    fn records_refused() {
+        let run = listing::run(9);
+        let lent = Forests::new(&run.forests);
+        let good = records(&run.fragments[0]);
+        let at = Positions::default();
+        let check = |record: usize, place: usize, number: u64, refusal: u32| {
+            let mut changed = good.clone();
+            changed[RECORD * record + place] = number;
+            let mut fragment = vec![7; 9 * WIDTH];
+            refused(replay_calls(&lent, &run.queues, EXAMPLE, run.state, at, &changed, &mut fragment), refusal);
+            assert_eq!(fragment, vec![7; 9 * WIDTH]);
+        };
+        check(0, 1, 0, 23);
+        check(0, 1, 11, 23);
+        check(0, 1, 10, 4);
+        check(0, 2, 2, 3);
+        check(0, 2, 1 << 32, 3);
+        check(0, 5, 2, 23);
+        check(1, 0, 19, 23);
+        check(1, 1, 1, 3);
+        check(1, 2, 1 << 32, 1);
+        check(1, 4, P, 1);
+        check(1, 24, 15, 10);
+        check(1, 24, 1 << 32, 1);
+        check(4, 3, 1, 5);
+        check(4, 3, 1 << 32, 5);
+        check(4, 4, 1, 6);
+        check(8, 6, 0, 23);
+        check(8, 6, 3, 23);
+        let mut short = vec![7; 8 * WIDTH];
+        refused(replay_calls(&lent, &run.queues, EXAMPLE, run.state, at, &good, &mut short), 24);
+        let mut fragment = vec![7; 9 * WIDTH];
+        refused(replay_calls(&lent, &run.queues, EXAMPLE, run.state, at, &good[..good.len() - 1], &mut fragment), 11);
+        let empty = replay_calls(&lent, &run.queues, EXAMPLE, run.state, at, &[], &mut fragment).unwrap();
+        assert_eq!((empty.rows, empty.built, empty.at), (0, [0; BUILT], at));
+    }
+}
