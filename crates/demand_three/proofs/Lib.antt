@@ -1,0 +1,6 @@
+pub mod DemandThree
+pub mod ExampleReplay
+pub mod LoopRows
+pub mod RecordsAreCalls
+pub mod ReplayedCalls
+pub mod Replays

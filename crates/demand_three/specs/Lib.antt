@@ -1,0 +1,3 @@
+pub mod ReplayedRuns
+pub mod Loops
+pub mod ReadBack

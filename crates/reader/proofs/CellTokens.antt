@@ -1,0 +1,121 @@
+-- The token of a row from the buffer's cells.
+use mathlib.Core.Path.{_≡_, _∙_, refl, ap}
+use mathlib.Core.Bool.{Bool, true, false, not, _&&_, _||_, and-true}
+use mathlib.Core.List.{List, [], _∷_, map}
+use types.Run.{OneOf}
+use Prim.Native.Nat.{ℕ, _+_, _*_, _/_, _%_, _<_}
+use native.Mathlib.Omega.{arith}
+use borrow.Author.Tests.{eq-eqb, ne-eqb}
+use lib.Dec.{eqb, ltb}
+use lib.ListN.{length, getD, take, drop}
+use lib.Seq.{getD-drop}
+use Rattle.groups.specs.Answer.{pick}
+use Rattle.rows.specs.declared.profile.Profile.{Profile}
+use Rattle.rows.specs.Profiles.{isOneOf}
+use Rattle.passes.specs.Passes.{opcodeOf}
+use Rattle.passes.proofs.RowCells.{row-cell, opcode-cells}
+use Rattle.readings.specs.Tokens.{Kind, Token, start, repeat, end, halt, nothing, controls, tokenBeside, controlToken, controlOpcodes, isOpOpcode, opToken, inSpanOf, opBitsOf, allBits, tokenOf}
+use Rattle.readings.specs.Readings.{rowAt, allRows}
+use Rattle.reader.specs.Rows.{kindOf, opKind}
+use Rattle.reader.specs.declared.token.RowKind.{RowKind}
+use Rattle.reader.specs.declared.token.RowKind.the-variants.{Span, Join, One, Loop, Op, Respan, Repeat, End, Halt, Nothing}
+use Rattle.reader.proofs.RowTokens.{row-of, Something, tag, among}
+
+-- CELLS
+
+-- cell k of row i
+pub cell-of : (cells : List ℕ) (i k : ℕ) → i < length cells / 49 → k < 49 → getD (rowAt (allRows cells) i) k 0 ≡ getD cells (49 * i + k) 0
+cell-of cells i k h l = ap (λ (row : List ℕ). getD row k 0) (row-of cells i h) ∙ row-cell cells i k l
+
+pub opcode-of : (cells : List ℕ) (i : ℕ) → i < length cells / 49
+    → opcodeOf (rowAt (allRows cells) i) ≡ getD cells (49 * i + 7) 0 % 2 + 2 * (getD cells (49 * i + 8) 0 % 2) + 4 * (getD cells (49 * i + 9) 0 % 2) + 8 * (getD cells (49 * i + 10) 0 % 2) + 16 * (getD cells (49 * i + 11) 0 % 2) + 32 * (getD cells (49 * i + 12) 0 % 2) + 64 * (getD cells (49 * i + 13) 0 % 2)
+opcode-of cells i h = ap opcodeOf (row-of cells i h) ∙ opcode-cells cells i
+
+abbrev bit : ℕ → Bool
+bit x = ltb x 2
+
+seven-bits : (l : List ℕ)
+    → allBits (take 7 l) ≡ (bit (getD l 0 0) && (bit (getD l 1 0) && (bit (getD l 2 0) && (bit (getD l 3 0) && (bit (getD l 4 0) && (bit (getD l 5 0) && bit (getD l 6 0)))))))
+unfolding allBits
+seven-bits [] = refl
+seven-bits (a ∷ []) = refl
+seven-bits (a ∷ b ∷ []) = refl
+seven-bits (a ∷ b ∷ c ∷ []) = refl
+seven-bits (a ∷ b ∷ c ∷ d ∷ []) = refl
+seven-bits (a ∷ b ∷ c ∷ d ∷ e ∷ []) = refl
+seven-bits (a ∷ b ∷ c ∷ d ∷ e ∷ f ∷ []) = refl
+seven-bits (a ∷ b ∷ c ∷ d ∷ e ∷ f ∷ g ∷ l) = rw (and-true (bit g))
+
+pub bits-of : (cells : List ℕ) (i : ℕ) → i < length cells / 49
+    → allBits (inSpanOf (rowAt (allRows cells) i) ∷ opBitsOf (rowAt (allRows cells) i))
+    ≡ (bit (getD cells (49 * i + 22) 0) && (bit (getD cells (49 * i + 7) 0) && (bit (getD cells (49 * i + 8) 0) && (bit (getD cells (49 * i + 9) 0) && (bit (getD cells (49 * i + 10) 0) && (bit (getD cells (49 * i + 11) 0) && (bit (getD cells (49 * i + 12) 0) && bit (getD cells (49 * i + 13) 0))))))))
+unfolding allBits
+bits-of cells i h =
+    let row : List ℕ = rowAt (allRows cells) i in
+    let at : (k : ℕ) → 7 + k < 49 → getD (drop 7 row) k 0 ≡ getD cells (49 * i + (7 + k)) 0 = λ k l. getD-drop 7 row k 0 ∙ cell-of cells i (7 + k) h l in
+    rw (seven-bits (drop 7 row), cell-of cells i 22 h (omega arith), at 0 (omega arith), at 1 (omega arith), at 2 (omega arith), at 3 (omega arith), at 4 (omega arith), at 5 (omega arith), at 6 (omega arith))
+
+-- KINDS
+
+-- an op has none of the control rows' opcodes
+abbrev AllSomething : List (ℕ × Token) → Type 0
+AllSomething [] = Unit {0}
+AllSomething (x ∷ l) = Something (kindOf (x .1)) × AllSomething l
+
+no-op : (t : Token) → Something (kindOf t) → opKind (kindOf t) ≡ Nothing
+unfolding kindOf opKind
+no-op (start Kind.span) h = refl
+no-op (start Kind.join) h = refl
+no-op (start Kind.loop) h = refl
+no-op (start (Kind.one k)) h = refl
+no-op (Token.op c) h = refl
+no-op Token.respan h = refl
+no-op repeat h = refl
+no-op end h = refl
+no-op halt h = refl
+no-op nothing h = absurd h
+
+op-next : (opcode : ℕ) (t u : Token) (a b : Bool) → Something (kindOf t) → opKind (kindOf u) ≡ kindOf (pick (not b) (Token.op opcode) nothing) →
+    opKind (kindOf (pick a t u)) ≡ kindOf (pick (not (a || b)) (Token.op opcode) nothing)
+unfolding kindOf
+op-next opcode t u true b h e = no-op t h
+op-next opcode t u false b h e = e
+
+op-beside : (opcode : ℕ) (l : List (ℕ × Token)) → AllSomething l → opKind (kindOf (tokenBeside opcode l nothing)) ≡ kindOf (pick (not (isOneOf opcode (map (λ (x : ℕ × Token). x .0) l))) (Token.op opcode) nothing)
+unfolding tokenBeside isOneOf opKind kindOf
+op-beside opcode [] h = refl
+op-beside opcode (x ∷ l) h = op-next opcode (x .1) (tokenBeside opcode l nothing) (eqb opcode (x .0)) (isOneOf opcode (map (λ (y : ℕ × Token). y .0) l)) (h .0) (op-beside opcode l (h .1))
+
+all-controls : (p : Profile) → AllSomething (controls p)
+unfolding controls kindOf
+all-controls p = (tt, (tt, (tt, (tt, (tt, (tt, (tt, (tt, (tt, (tt, (tt, (tt, tt))))))))))))
+
+op-of-control : (p : Profile) (opcode : ℕ) → opKind (kindOf (controlToken p opcode)) ≡ kindOf (opToken p opcode)
+unfolding controlToken opToken isOpOpcode controlOpcodes
+op-of-control p opcode = op-beside opcode (controls p) (all-controls p)
+
+module _ (p : Profile) (row : List ℕ) where
+  pub kind-control : allBits (inSpanOf row ∷ opBitsOf row) ≡ true → inSpanOf row ≡ 0 → kindOf (controlToken p (opcodeOf row)) ≡ kindOf (tokenOf p row)
+  unfolding tokenOf
+  kind-control h e = rw (h, eq-eqb (inSpanOf row) 0 e)
+
+  pub kind-op : allBits (inSpanOf row ∷ opBitsOf row) ≡ true → (inSpanOf row ≡ 0 → ⊥) → opKind (kindOf (controlToken p (opcodeOf row))) ≡ kindOf (tokenOf p row)
+  unfolding tokenOf
+  kind-op h e = rw (h, ne-eqb (inSpanOf row) 0 e) (op-of-control p (opcodeOf row))
+
+  pub kind-none : allBits (inSpanOf row ∷ opBitsOf row) ≡ false → Nothing ≡ kindOf (tokenOf p row)
+  unfolding tokenOf kindOf
+  kind-none h = rw h
+
+pub op-no : (k : RowKind) → OneOf (0 ∷ 1 ∷ 2 ∷ 3 ∷ 4 ∷ 5 ∷ 6 ∷ 7 ∷ 8 ∷ []) (tag k) → Nothing ≡ opKind k
+unfolding opKind
+op-no Span h = refl
+op-no Join h = refl
+op-no One h = refl
+op-no Loop h = refl
+op-no Op h = refl
+op-no Respan h = refl
+op-no Repeat h = refl
+op-no End h = refl
+op-no Halt h = refl
+op-no Nothing h = absurd (among 0 (1 ∷ 2 ∷ 3 ∷ 4 ∷ 5 ∷ 6 ∷ 7 ∷ 8 ∷ []) 9 h)

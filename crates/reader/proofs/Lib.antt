@@ -1,0 +1,7 @@
+pub mod RowTokens
+pub mod CellTokens
+pub mod WrongRows
+pub mod PartLaws
+pub mod LevelLaws
+pub mod ReadLaws
+pub mod ReaderExact

@@ -1,0 +1,29 @@
+-- `trace::behind_block` meets its contract.
+use mathlib.Core.Path.{sym}
+use borrow.Author.Needs.{needs}
+use Rattle.reader.specs.Reads.{BehindRead}
+use Rattle.reader.proofs.RowTokens.{rows-in}
+use Rattle.reader.proofs.ReadLaws.{behind-no, behind-wrong, behind-right}
+use Rattle.reader.proofs.trace.behind_block.Statement.{statement}
+use Rattle.reader.proofs.trace.behind_block.Tie as tie
+
+returns : tie.Need-returns
+unfolding BehindRead
+returns c =
+    let a = c .before .before .before .args in
+    λ b k u. behind-no _ _ _ _ b (sym (rows-in (a .profile) (a .cells .now))) (c .before .halts .ensures) _ (c .if1 .taken)
+
+returns-2 : tie.Need-returns-2
+unfolding BehindRead
+returns-2 c =
+    let a = c .before .before .before .before .before .before .args in
+    λ b k u. behind-wrong _ _ _ _ b (sym (rows-in (a .profile) (a .cells .now))) (c .before .before .before .before .halts .ensures) _ _ _ (c .before .before .before .if1 .left) (c .before .wrong .given .1) u
+
+returns-3 : tie.Need-returns-3
+unfolding BehindRead
+returns-3 c =
+    let a = c .before .before .before .before .before .args in
+    λ b k u. behind-right _ _ _ _ b (sym (rows-in (a .profile) (a .cells .now))) (c .before .before .before .halts .ensures) _ _ (c .before .before .if1 .left) (c .enum-told .given .1) u k
+
+pub behind-block-spec : {M : Type 1} → statement M
+behind-block-spec = tie.close (tie.spec (λ c κs. search needs) returns (λ c. search needs) (λ c. search needs) returns-2 returns-3)

@@ -1,0 +1,62 @@
+-- `trace::halts` meets its contract.
+use mathlib.Core.Path.{_≡_, _∙_, refl}
+use Prim.Native.Nat.{_≤_, _-_, _/_}
+use native.Mathlib.Omega.{arith}
+use borrow.Author.Needs.{needs}
+use lib.ListN.{length}
+use Rattle.readings.specs.Readings.{Block}
+use Rattle.readings.specs.Parser.{afterHalt}
+use Rattle.reader.specs.Rows.{wordIn, rowsFrom}
+use Rattle.reader.specs.Reads.{HaltsRead}
+use Rattle.reader.specs.declared.token.RowKind.the-variants.{Halt}
+use Rattle.reader.proofs.RowTokens.{rows-in, stands}
+use Rattle.reader.proofs.ReadLaws.{halt-more, halt-stop, halt-end}
+use Rattle.reader.proofs.trace.halts.Statement.{statement}
+use Rattle.reader.proofs.trace.halts.Tie as tie
+
+abbrev Inv-loop : tie.InvT-loop
+Inv-loop profile cells from at₀ at =
+    (from ≤ at) × (at ≤ length cells / 49)
+    × ((b : Block) → afterHalt b (rowsFrom (wordIn profile cells) from) ≡ afterHalt b (rowsFrom (wordIn profile cells) at))
+
+abbrev μ-loop : tie.MeasureT-loop
+μ-loop profile cells from at₀ at = length cells / 49 - at
+
+loop-holds : tie.Need-loop-holds Inv-loop μ-loop
+loop-holds c = (omega arith, search needs, λ b. refl)
+
+returns : tie.Need-returns Inv-loop μ-loop
+unfolding HaltsRead
+returns c =
+    let a = c .before .before .before .before .before .args in
+    let l = c .before .before .before in
+    let n = rows-in (a .profile) (a .cells .now) in
+    (omega arith, omega arith, λ b. l .loop .inv .2 b ∙ halt-stop (wordIn (a .profile) (a .cells .now)) (l .loop .at) (rw (c .before .row-kind .ensures) at (c .match .keys2)) (omega arith) b)
+
+loop-again : tie.Need-loop-again Inv-loop μ-loop
+loop-again c =
+    let h = stands _ _ _ _ Halt (c .before .before .row-kind .ensures) (c .enum-told .given .1) tt in
+    (omega arith, omega arith, λ b. c .before .before .before .before .loop .inv .2 b ∙ halt-more _ _ (h .token) (h .below) b)
+
+returns-2 : tie.Need-returns-2 Inv-loop μ-loop
+unfolding HaltsRead
+returns-2 c =
+    let a = c .before .before .before .args in
+    let l = c .before in
+    let n = rows-in (a .profile) (a .cells .now) in
+    (omega arith, omega arith, λ b. l .loop .inv .2 b ∙ halt-end (wordIn (a .profile) (a .cells .now)) (l .loop .at) (omega arith) b)
+
+pub halts-spec : {M : Type 1} → statement M
+halts-spec =
+    tie.close
+    (tie.spec
+    Inv-loop
+    μ-loop
+    loop-holds
+    (λ c κs. search needs)
+    (λ c. search needs)
+    returns
+    (λ c. search needs)
+    (λ c. search needs)
+    loop-again
+    returns-2)

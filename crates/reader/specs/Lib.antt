@@ -1,0 +1,5 @@
+pub mod Rows
+pub mod Parts
+pub mod Levels
+pub mod Reads
+pub mod Views

@@ -1,0 +1,50 @@
+-- The rows of a buffer as the reader sees them: tokens by their place, and what the code keeps of a token.
+use mathlib.Core.List.{List}
+use Prim.Native.Nat.{ℕ}
+use lib.ListN.{drop, getD}
+use Rattle.rows.specs.declared.profile.Profile.{Profile}
+use Rattle.readings.specs.Tokens.{Kind, Token, start, repeat, end, halt, nothing, tokensOf}
+use Rattle.readings.specs.Readings.{Row, numbered, allRows}
+use Rattle.reader.specs.declared.token.RowKind.{RowKind}
+use Rattle.reader.specs.declared.token.RowKind.the-variants.{Span, Join, One, Loop, Op, Respan, Repeat, End, Halt, Nothing}
+
+-- the tokens of a buffer's rows
+unfoldable pub wordIn : Profile → (cells : List ℕ) → List Token
+wordIn p cells = tokensOf p (allRows cells)
+
+-- the rows from row i on, with their numbers
+unfoldable pub rowsFrom : (w : List Token) → (i : ℕ) → List Row
+rowsFrom w i = drop i (numbered 0 w)
+
+-- the token of row i; past the end, nothing
+unfoldable pub tokenIn : (w : List Token) → (i : ℕ) → Token
+tokenIn w i = getD w i nothing
+
+abbrev pub tokenAt : Profile → (cells : List ℕ) → (i : ℕ) → Token
+tokenAt p cells i = tokenIn (wordIn p cells) i
+
+-- what the code keeps of a token: not which kind of one child, not the opcode of an op
+unfoldable pub kindOf : Token → RowKind
+kindOf (start Kind.span) = Span
+kindOf (start Kind.join) = Join
+kindOf (start Kind.loop) = Loop
+kindOf (start (Kind.one kind)) = One
+kindOf (Token.op opcode) = Op
+kindOf Token.respan = Respan
+kindOf repeat = Repeat
+kindOf end = End
+kindOf halt = Halt
+kindOf nothing = Nothing
+
+-- "An op is a row .. whose opcode is none of the profile's other than PUSH"
+unfoldable pub opKind : (control : RowKind) → RowKind
+opKind Span = Nothing
+opKind Join = Nothing
+opKind One = Nothing
+opKind Loop = Nothing
+opKind Op = Nothing
+opKind Respan = Nothing
+opKind Repeat = Nothing
+opKind End = Nothing
+opKind Halt = Nothing
+opKind Nothing = Op

@@ -1,0 +1,182 @@
+// Block and Passes, from a row on. Each way through reads every row once.
+use crate::token::RowKind;
+use crate::token::row_kind;
+use field::cell::cell;
+use rows::profile::Profile;
+ghost use mathlib.Core.Path.{_≡_};
+ghost use Prim.Native.Nat.{_/_, _<_, _≤_};
+ghost use lib.Dec.{eqb};
+ghost use lib.ListN.{length, getD};
+ghost use Rattle.readings.specs.Readings.{rowAt, allRows};
+ghost use Rattle.reader.specs.Rows.{kindOf, tokenAt, wordIn};
+ghost use Rattle.reader.specs.Parts.{earlier, wrongUnless, tooDeep, closed, OpsRead, BlockRead, PassesRead};
+
+// The lowest row with a cell that is not as asked.
+pub(crate) enum Wrong {
+    Nowhere,
+    At(usize),
+}
+
+// A part of the word: the row behind it and its lowest wrong row; or the number and the row of its refusal.
+pub(crate) enum Part {
+    Done(usize, Wrong),
+    Refused(u32, usize),
+}
+
+// The lower of two wrong rows, the first one's rows being before the second one's.
+fn first(a: Wrong, b: Wrong) -> Wrong
+    ensures { λ r. ⌜ r ≡ earlier a b ⌝ }
+{
+    match a {
+        Wrong::Nowhere => b,
+        Wrong::At(_) => a,
+    }
+}
+
+// Whether cell k of a row is as asked.
+fn ask(cells: &[u64], row: usize, k: usize, value: u64) -> Wrong
+    requires { ⌜ (row < length (now cells) / 49) × (k < 49) ⌝ }
+    ensures { λ r. ⌜ r ≡ wrongUnless (eqb (getD (rowAt (allRows (now (cells .entry))) row) k 0) value) row ⌝ }
+{
+    if cell(cells, 49 * row + k) == value {
+        Wrong::Nowhere
+    } else {
+        Wrong::At(row)
+    }
+}
+
+// The refusal of a row where no more block may start: 15 if it starts one, else 12.
+fn too_deep(kind: RowKind, row: usize) -> Part
+    ensures { λ r. ⌜ r ≡ tooDeep kind row ⌝ }
+{
+    match kind {
+        RowKind::Span | RowKind::Join | RowKind::One | RowKind::Loop => Part::Refused(15, row),
+        RowKind::Op
+        | RowKind::Respan
+        | RowKind::Repeat
+        | RowKind::End
+        | RowKind::Halt
+        | RowKind::Nothing => Part::Refused(12, row),
+    }
+}
+
+// The END of a block; `flag` is what its h4 has to be, `wrong` the lowest wrong row of the block's parts.
+fn close(profile: Profile, cells: &[u64], row: usize, flag: u64, wrong: Wrong) -> Part
+    ensures { λ r. ⌜ r ≡ closed (kindOf (tokenAt profile (now (cells .entry)) row)) row (getD (rowAt (allRows (now (cells .entry))) row) 18 0) flag wrong ⌝ }
+{
+    let kind = row_kind(profile, cells, row);
+    if let RowKind::End = kind {
+        let own = ask(cells, row, 18, flag);
+        Part::Done(row + 1, first(wrong, own))
+    } else {
+        Part::Refused(12, row)
+    }
+}
+
+// The rows behind a SPAN: ops and RESPANs, then END.
+fn ops(profile: Profile, cells: &[u64], row: usize, flag: u64) -> Part
+    requires { ⌜ row ≤ length (now cells) / 49 ⌝ }
+    ensures { λ r. ⌜ OpsRead (allRows (now (cells .entry))) (wordIn profile (now (cells .entry))) row flag r ⌝ }
+{
+    let mut at = row;
+    loop {
+        let kind = row_kind(profile, cells, at);
+        match kind {
+            RowKind::Op | RowKind::Respan => {
+                at += 1;
+            }
+            RowKind::End => {
+                let own = ask(cells, at, 18, flag);
+                return Part::Done(at + 1, own);
+            }
+            RowKind::Span
+            | RowKind::Join
+            | RowKind::One
+            | RowKind::Loop
+            | RowKind::Repeat
+            | RowKind::Halt
+            | RowKind::Nothing => {
+                return Part::Refused(12, at);
+            }
+        }
+    }
+}
+
+// A Block, where `left` blocks may open one in another; `flag` is what h4 of its END has to be.
+pub(crate) fn block(profile: Profile, cells: &[u64], row: usize, left: u32, flag: u64) -> Part
+    requires { ⌜ row ≤ length (now cells) / 49 ⌝ }
+    ensures { λ r. ⌜ BlockRead (allRows (now (cells .entry))) (wordIn profile (now (cells .entry))) row left flag r ⌝ }
+{
+    let kind = row_kind(profile, cells, row);
+    if left == 0 {
+        return too_deep(kind, row);
+    }
+    match kind {
+        RowKind::Span => ops(profile, cells, row + 1, flag),
+        RowKind::Join => {
+            let one = block(profile, cells, row + 1, left - 1, 0);
+            let Part::Done(a, v) = one else {
+                return one;
+            };
+            let two = block(profile, cells, a, left - 1, 0);
+            let Part::Done(b, w) = two else {
+                return two;
+            };
+            close(profile, cells, b, flag, first(v, w))
+        }
+        RowKind::One => {
+            let only = block(profile, cells, row + 1, left - 1, 0);
+            let Part::Done(a, v) = only else {
+                return only;
+            };
+            close(profile, cells, a, flag, v)
+        }
+        RowKind::Loop => passes(profile, cells, row, left - 1, flag),
+        RowKind::Op
+        | RowKind::Respan
+        | RowKind::Repeat
+        | RowKind::End
+        | RowKind::Halt
+        | RowKind::Nothing => Part::Refused(12, row),
+    }
+}
+
+// The Passes behind a LOOP row: a body and END, or a body, REPEAT, and Passes again; the row's count has to be their number, and h4 of END
+// `flag`.
+fn passes(profile: Profile, cells: &[u64], row: usize, left: u32, flag: u64) -> Part
+    requires { ⌜ row < length (now cells) / 49 ⌝ }
+    ensures { λ r. ⌜ PassesRead (allRows (now (cells .entry))) (wordIn profile (now (cells .entry))) row left flag r ⌝ }
+{
+    let mut at = row + 1;
+    let mut count: u64 = 0;
+    let mut so_far = Wrong::Nowhere;
+    loop {
+        let body = block(profile, cells, at, left, 1);
+        let Part::Done(next, wrong) = body else {
+            return body;
+        };
+        let kind = row_kind(profile, cells, next);
+        count += 1;
+        so_far = first(so_far, wrong);
+        match kind {
+            RowKind::Repeat => {
+                at = next + 1;
+            }
+            RowKind::End => {
+                let counted = ask(cells, row, 23, count);
+                let own = ask(cells, next, 18, flag);
+                return Part::Done(next + 1, first(counted, first(so_far, own)));
+            }
+            RowKind::Span
+            | RowKind::Join
+            | RowKind::One
+            | RowKind::Loop
+            | RowKind::Op
+            | RowKind::Respan
+            | RowKind::Halt
+            | RowKind::Nothing => {
+                return Part::Refused(12, next);
+            }
+        }
+    }
+}

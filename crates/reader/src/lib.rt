@@ -1,0 +1,7 @@
+// The reader: which buffers are traces, the depth of each row, and a row's own cells.
+mod depths;
+mod grammar;
+mod scan;
+mod token;
+pub mod trace;
+pub mod view;

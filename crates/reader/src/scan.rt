@@ -1,0 +1,23 @@
+// Refusals 1, 2 and 11 of a buffer that is read.
+use field::cell::any_big;
+use rows::profile::Profile;
+use rows::profile::is_wrong;
+ghost use mathlib.Core.Path.{_≡_};
+ghost use Rattle.readings.specs.Answers.{readerRefusal};
+
+// The first of 1, 2 and 11 that holds, else 0; `depths` is how many depth numbers are lent.
+pub(crate) fn refusal(profile: Profile, cells: &[u64], depths: usize) -> u32
+    ensures { λ r. ⌜ r ≡ readerRefusal profile (now (cells .entry)) depths ⌝ }
+{
+    if any_big(cells) {
+        return 1;
+    }
+    if is_wrong(profile) {
+        return 2;
+    }
+    let rows = cells.len() / 49;
+    if ((0 < cells.len() % 49) | (16777216 < rows)) | (depths < rows) {
+        return 11;
+    }
+    0
+}

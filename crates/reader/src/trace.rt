@@ -1,0 +1,104 @@
+// Reading a trace: its answer, and the depth of each row.
+use crate::depths::fill;
+use crate::grammar::Part;
+use crate::grammar::Wrong;
+use crate::grammar::block;
+use crate::scan::refusal;
+use crate::token::RowKind;
+use crate::token::row_kind;
+use rows::profile::Profile;
+ghost use mathlib.Core.Path.{_≡_};
+ghost use Prim.Native.Nat.{_/_, _≤_};
+ghost use lib.ListN.{length};
+ghost use Rattle.readings.specs.Readings.{allRows};
+ghost use Rattle.readings.specs.Answers.{depthsAfter};
+ghost use Rattle.readings.specs.Parser.{answer};
+ghost use Rattle.reader.specs.Rows.{wordIn};
+ghost use Rattle.reader.specs.Reads.{traceRead, HaltsRead, BehindRead, cellsAnswer};
+
+// What is answered of a buffer: 0, or the number and the row of its refusal; the number of program rows, 0 on a refusal.
+pub struct TraceRead {
+    pub number: u32,
+    pub row: usize,
+    pub program_rows: usize,
+}
+
+// The first row from `from` on that is no HALT, or the end.
+fn halts(profile: Profile, cells: &[u64], from: usize) -> usize
+    requires { ⌜ from ≤ length (now cells) / 49 ⌝ }
+    ensures { λ r. ⌜ HaltsRead (wordIn profile (now (cells .entry))) from r ⌝ }
+{
+    let mut at = from;
+    while at < cells.len() / 49 {
+        let kind = row_kind(profile, cells, at);
+        let RowKind::Halt = kind else {
+            return at;
+        };
+        at += 1;
+    }
+    at
+}
+
+// The answer behind a Block that ends before row `next`.
+fn behind_block(profile: Profile, cells: &[u64], next: usize, wrong: Wrong) -> TraceRead
+    requires { ⌜ next ≤ length (now cells) / 49 ⌝ }
+    ensures { λ r. ⌜ BehindRead (allRows (now (cells .entry))) (wordIn profile (now (cells .entry))) next wrong r ⌝ }
+{
+    let end = halts(profile, cells, next);
+    let rows = cells.len() / 49;
+    if (next == rows) | (end < rows) {
+        return TraceRead {
+            number: 12,
+            row: end,
+            program_rows: 0,
+        };
+    }
+    match wrong {
+        Wrong::At(row) => TraceRead {
+            number: 13,
+            row,
+            program_rows: 0,
+        },
+        Wrong::Nowhere => TraceRead {
+            number: 0,
+            row: 0,
+            program_rows: next,
+        },
+    }
+}
+
+// The answer of a buffer that 1, 2 and 11 pass.
+pub(crate) fn read_cells(profile: Profile, cells: &[u64]) -> TraceRead
+    ensures { λ r. ⌜ r ≡ traceRead (cellsAnswer profile (now (cells .entry))) ⌝ }
+{
+    let root = block(profile, cells, 0, 64, 0);
+    match root {
+        Part::Refused(number, row) => TraceRead {
+            number,
+            row,
+            program_rows: 0,
+        },
+        Part::Done(next, wrong) => behind_block(profile, cells, next, wrong),
+    }
+}
+
+// Reads a trace: the answer, and, where it is accepted, one depth a row. A refusal changes no depth.
+pub fn read_trace(profile: Profile, cells: &[u64], depths: &mut [u32]) -> TraceRead
+    ensures { λ r. ⌜ r ≡ traceRead (answer profile (now (cells .entry)) (length (now (depths .entry)))) ⌝ }
+    ensures { λ _. ⌜ now (depths .exit) ≡ depthsAfter (length (now (cells .entry)) / 49) (answer profile (now (cells .entry)) (length (now (depths .entry)))) (now (depths .entry)) ⌝ }
+{
+    let number = refusal(profile, cells, depths.len());
+    if number != 0 {
+        return TraceRead {
+            number,
+            row: 0,
+            program_rows: 0,
+        };
+    }
+    let read = read_cells(profile, cells);
+    if read.number != 0 {
+        return read;
+    }
+    fill(profile, cells, depths);
+    read
+}
