@@ -3,4 +3,3 @@ pub mod Bounds
 pub mod Inverse
 pub mod Table
 pub mod Column
-pub mod Cases

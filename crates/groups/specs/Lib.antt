@@ -5,7 +5,5 @@ pub mod Flags
 pub mod GroupsLeft
 pub mod GroupOfOperation
 pub mod Contexts
-pub mod CasesGroups
 pub mod Helpers
-pub mod CasesHelpers
 pub mod Families

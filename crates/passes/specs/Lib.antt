@@ -1,4 +1,3 @@
 pub mod Buffers
 pub mod Passes
 pub mod LoopCounts
-pub mod CasesPasses

@@ -1,0 +1,67 @@
+-- Document 01, C10: "Fields: row, name or opcode, addr, count". The listing of a trace, as bytes.
+use mathlib.Core.List.{List, [], _∷_, _++_}
+use Prim.Native.Nat.{ℕ, zero, suc, _+_, _/_, _%_}
+use Prim.Native.Char.{code}
+use Prim.Native.String.{String, [] as []ˢ, _∷_ as _∷ˢ_}
+use lib.Dec.{ltb, eqb}
+use Rattle.groups.specs.Answer.{pick}
+use Rattle.rows.specs.declared.profile.Profile.{Profile}
+use Rattle.passes.specs.Buffers.{addrOf}
+use Rattle.passes.specs.Passes.{opcodeOf}
+use Rattle.readings.specs.Tokens.{countOf}
+use Rattle.readings.specs.Readings.{allRows}
+
+-- the bytes of an ASCII text
+unfoldable pub bytes : String → List ℕ
+bytes []ˢ = []
+bytes (c ∷ˢ text) = code c ∷ bytes text
+
+-- texts, each as a line: a newline behind it
+unfoldable pub textLines : List String → List ℕ
+textLines [] = []
+textLines (text ∷ texts) = bytes text ++ (10 ∷ textLines texts)
+
+-- the decimal digits of a number that has at most k, from the highest on
+unfoldable pub digitsWithin : (k n : ℕ) → List ℕ
+digitsWithin zero n = []
+digitsWithin (suc k) n = pick (ltb n 10) ((48 + n) ∷ []) (digitsWithin k (n / 10) ++ ((48 + n % 10) ∷ []))
+
+-- a number of 64 bits has at most 20
+abbrev pub decimal : ℕ → List ℕ
+decimal n = digitsWithin 20 n
+
+-- the names of the control rows beside their opcodes: all of the profile's other than PUSH, which is an op
+unfoldable pub names : Profile → List (ℕ × String)
+names p =
+    (p .span, "SPAN")
+    ∷ (p .respan, "RESPAN")
+    ∷ (p .join, "JOIN")
+    ∷ (p .split, "SPLIT")
+    ∷ (p .«loop_op», "LOOP")
+    ∷ (p .repeat, "REPEAT")
+    ∷ (p .call, "CALL")
+    ∷ (p .syscall, "SYSCALL")
+    ∷ (p .«dyn_op», "DYN")
+    ∷ (p .dyncall, "DYNCALL")
+    ∷ (p .end, "END")
+    ∷ (p .halt, "HALT")
+    ∷ []
+
+-- "name or opcode"
+unfoldable pub nameBeside : (opcode : ℕ) → List (ℕ × String) → List ℕ
+nameBeside opcode [] = decimal opcode
+nameBeside opcode (x ∷ l) = pick (eqb opcode (x .0)) (bytes (x .1)) (nameBeside opcode l)
+
+-- a row's line: a space between its fields, and a newline
+unfoldable pub rowLine : Profile → (number : ℕ) → (row : List ℕ) → List ℕ
+rowLine p number row =
+    decimal number ++ (32 ∷ nameBeside (opcodeOf row) (names p)) ++ (32 ∷ decimal (addrOf row)) ++ (32 ∷ decimal (countOf row)) ++ (10 ∷ [])
+
+-- the lines of rows, the first of which has the given number
+unfoldable pub rowLines : Profile → (number : ℕ) → (rows : List (List ℕ)) → List ℕ
+rowLines p number [] = []
+rowLines p number (row ∷ rows) = rowLine p number row ++ rowLines p (suc number) rows
+
+-- the header, and a line for each row of a trace
+unfoldable pub listing : Profile → (cells : List ℕ) → List ℕ
+listing p cells = bytes "row op addr count\n" ++ rowLines p 0 (allRows cells)

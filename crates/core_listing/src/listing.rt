@@ -1,0 +1,89 @@
+// The listing of a trace: a header, and a line for each row. "Fields: row, name or opcode, addr, count".
+use field::cell::cell;
+use io::print_decimal;
+use io::write_all;
+use libc::STDOUT_FILENO;
+use reader::view::row;
+use rows::profile::Profile;
+use rows::profile::opcodes_of;
+
+fn wide(x: u8) -> u64 {
+    x as u64
+}
+
+// The number that the bit cells of a row are, by their lowest bits.
+fn opcode_of(cells: &[u64]) -> u64 {
+    (cell(cells, 7) % 2 + 2 * (cell(cells, 8) % 2) + 4 * (cell(cells, 9) % 2))
+        + (8 * (cell(cells, 10) % 2) + 16 * (cell(cells, 11) % 2))
+        + (32 * (cell(cells, 12) % 2) + 64 * (cell(cells, 13) % 2))
+}
+
+// The opcode's place among those of the profile, or how many they are.
+fn place_of(opcodes: &[u8], opcode: u64) -> usize {
+    let mut i = 0;
+    while i < opcodes.len() {
+        if wide(opcodes[i]) == opcode {
+            return i;
+        }
+        i += 1;
+    }
+    i
+}
+
+fn write(text: &[u8]) {
+    write_all(STDOUT_FILENO, text);
+}
+
+fn write_number(n: u64) {
+    print_decimal(STDOUT_FILENO, n);
+}
+
+// The name of a control row, by its opcode's place in the profile; the opcode of an op, PUSH among them.
+fn write_name(place: usize, opcode: u64) {
+    match place {
+        0 => write(b"SPAN"),
+        1 => write(b"RESPAN"),
+        2 => write(b"JOIN"),
+        3 => write(b"SPLIT"),
+        4 => write(b"LOOP"),
+        5 => write(b"REPEAT"),
+        6 => write(b"CALL"),
+        7 => write(b"SYSCALL"),
+        8 => write(b"DYN"),
+        9 => write(b"DYNCALL"),
+        11 => write(b"END"),
+        12 => write(b"HALT"),
+        _ => write_number(opcode),
+    }
+}
+
+// The line of a row.
+fn write_row(opcodes: &[u8], number: usize, cells: &[u64]) {
+    let opcode = opcode_of(cells);
+    write_number(number as u64);
+    write(b" ");
+    write_name(place_of(opcodes, opcode), opcode);
+    write(b" ");
+    write_number(cell(cells, 6));
+    write(b" ");
+    write_number(cell(cells, 23));
+    write(b"\n");
+}
+
+// The header, and the lines of all rows.
+pub fn write_listing(profile: Profile, cells: &[u64]) {
+    let opcodes = opcodes_of(profile);
+    write(b"row op addr count\n");
+    let mut number = 0;
+    while number < cells.len() / 49 {
+        write_row(&opcodes, number, row(cells, number));
+        number += 1;
+    }
+}
+
+// The message of a refusal.
+pub fn write_refusal(number: u32) {
+    write(b"refused: ");
+    write_number(number as u64);
+    write(b"\n");
+}

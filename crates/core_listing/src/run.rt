@@ -1,0 +1,197 @@
+// C10's run: "a loop at address 1 under 0, two passes of a one-group block at 3 and 5 with the operation 5, height 10". Node 0 is the loop,
+// node 1 its body.
+use groups::helpers::OperationHelperRegisters;
+use groups::word::Word;
+use passes::finish::finish;
+use rows::continuation::CalleeWord;
+use rows::continuation::Captured;
+use rows::continuation::ContextInfo;
+use rows::continuation::Continuation;
+use rows::continuation::LoopCondition;
+use rows::continuation::StoredValues;
+use rows::cycle::finalize_clock_cycle;
+use rows::ids::ContextId;
+use rows::ids::MastNodeId;
+use rows::ids::RowIndex;
+use rows::profile::Profile;
+use rows::replay::DecoderState;
+use rows::replay::Positions;
+use rows::row::copy_in;
+use rows::state::StackState;
+use rows::state::SystemState;
+use rows::tracer::CoreTraceGenerationTracer;
+use rows::tracer::TracerFinalState;
+ghost use Prim.Native.Nat.{_<_};
+
+const NODES: [u32; 12] = [5, 1, 0, 0, 0, 0, 2, 0, 0, 1, 0, 1];
+
+const DIGESTS: [u64; 8] = [10, 11, 12, 13, 20, 21, 22, 23];
+
+const BATCHES: [u32; 12] = [1, 0, 1, 1, 1, 1, 1, 1, 1, 1, 1, 0];
+
+const GROUPS: [u64; 8] = [5, 0, 0, 0, 0, 0, 0, 0];
+
+const OPS: [u8; 1] = [5];
+
+const ADDRESSES: [u64; 3] = [1, 3, 5];
+
+const PARENTS: [u64; 3] = [0, 1, 1];
+
+const ENDS: [u64; 9] = [3, 1, 0, 5, 1, 0, 1, 0, 0];
+
+// The opcodes of the Miden VM documentation's decoder chapter, and a step of 2.
+pub fn profile() -> Profile {
+    Profile {
+        span: 86,
+        respan: 120,
+        join: 87,
+        split: 84,
+        loop_op: 85,
+        repeat: 116,
+        call: 108,
+        syscall: 104,
+        dyn_op: 88,
+        dyncall: 92,
+        push: 91,
+        end: 112,
+        halt: 124,
+        step: 2,
+    }
+}
+
+// The continuation of cycle n.
+fn continuation(n: u32) -> Continuation {
+    match n {
+        0 => Continuation::StartNode(MastNodeId(0)),
+        1 | 5 => Continuation::StartNode(MastNodeId(1)),
+        2 | 6 => Continuation::ResumeBasicBlock {
+            node_id: MastNodeId(1),
+            batch_index: 0,
+            op_idx_in_batch: 0,
+        },
+        3 | 7 => Continuation::FinishBasicBlock(MastNodeId(1)),
+        _ => Continuation::FinishLoop(MastNodeId(0)),
+    }
+}
+
+// Another pass after the first, none after the second.
+fn condition(n: u32) -> LoopCondition {
+    match n {
+        4 => LoopCondition::Is(true),
+        8 => LoopCondition::Is(false),
+        _ => LoopCondition::Absent,
+    }
+}
+
+// What is stored for cycle n.
+fn values(n: u32) -> StoredValues {
+    let captured = Captured {
+        condition: condition(n),
+        callee: CalleeWord::Absent,
+        info: ContextInfo::Absent,
+    };
+    StoredValues {
+        continuation: continuation(n),
+        is_loop_body: n == 3 || n == 7,
+        captured,
+    }
+}
+
+// Storing and cycle n. A refusal is kept by the tracer, and each later call answers it.
+fn cycle(
+    profile: Profile,
+    tracer: CoreTraceGenerationTracer,
+    n: u32,
+    fragment: &mut [u64],
+) -> CoreTraceGenerationTracer {
+    let system = SystemState {
+        clk: RowIndex(n),
+        ctx: ContextId(0),
+        fn_hash: Word(0, 0, 0, 0),
+    };
+    let stack = StackState {
+        stack_top: [0, 0, 0, 0, 0, 0, 0, 0, 0, 0, 0, 0, 0, 0, 0, 0],
+        stack_depth: 16,
+        overflow_addr: 0,
+    };
+    let stored = tracer.start_clock_cycle(values(n));
+    let finished = finalize_clock_cycle(
+        &NODES,
+        &DIGESTS,
+        &BATCHES,
+        &GROUPS,
+        &OPS,
+        &ADDRESSES,
+        &PARENTS,
+        &ENDS,
+        profile,
+        system,
+        stack,
+        OperationHelperRegisters::Empty,
+        stored.tracer,
+        fragment,
+    );
+    finished.tracer
+}
+
+// One pass of the body, from its start in cycle `first` to the loop's next REPEAT or END.
+fn pass(
+    profile: Profile,
+    tracer: CoreTraceGenerationTracer,
+    first: u32,
+    fragment: &mut [u64],
+) -> CoreTraceGenerationTracer
+    requires { ⌜ first < 9 ⌝ }
+{
+    let started = cycle(profile, tracer, first, fragment);
+    let operated = cycle(profile, started, first + 1, fragment);
+    let ended = cycle(profile, operated, first + 2, fragment);
+    cycle(profile, ended, first + 3, fragment)
+}
+
+// The nine cycles on a fresh tracer, and its final state.
+fn run(profile: Profile, fragment: &mut [u64]) -> TracerFinalState {
+    let state = DecoderState {
+        current_addr: 0,
+        parent_addr: 0,
+    };
+    let at = Positions {
+        addresses: 0,
+        parents: 0,
+        ends: 0,
+    };
+    let fresh = CoreTraceGenerationTracer::new(state, at);
+    let started = cycle(profile, fresh, 0, fragment);
+    let once = pass(profile, started, 1, fragment);
+    let twice = pass(profile, once, 5, fragment);
+    twice.into_final_state()
+}
+
+// The 25 cells built last.
+fn built_cells(last: TracerFinalState) -> [u64; 25] {
+    let system = last.last_system_cols;
+    let hash = system.fn_hash;
+    let stack = last.last_stack_cols;
+    let top = stack.top;
+    let mut built = [0u64; 25];
+    copy_in(
+        &mut built,
+        0,
+        &[system.clk, system.ctx, hash.0, hash.1, hash.2, hash.3],
+    );
+    copy_in(&mut built, 6, &top);
+    copy_in(&mut built, 22, &[stack.b0, stack.b1, stack.h0]);
+    built
+}
+
+// The run in one fragment of ten rows, finished to height 10; the number of the first refusal, else 0.
+pub fn write_trace(profile: Profile, cells: &mut [u64]) -> u32 {
+    let last = run(profile, cells);
+    if last.refusal != 0 {
+        return last.refusal;
+    }
+    let counts = [(last.num_rows_written % 0x1_0000_0000) as u32];
+    let built = built_cells(last);
+    let top = [0, 0, 0, 0, 0, 0, 0, 0, 0, 0, 0, 0, 0, 0, 0, 0];
+    finish(profile, cells, 10, &counts, &built, top, 10)
+}

@@ -1,0 +1,28 @@
+// Replays runs whose answers were made by the listed Rust, one file of data/ a list, and writes how many came out right.
+mod given;
+mod list;
+mod parts;
+
+use lists::text;
+use lists::text::report;
+
+fn runs(name: &[u8]) {
+    let mut numbers = [0u64; 8192];
+    text::load(name, &mut numbers);
+    report(name, list::right(&numbers), numbers[0]);
+}
+
+fn main() {
+    runs(b"runs_01");
+    runs(b"runs_02");
+    runs(b"runs_03");
+    runs(b"runs_04");
+    runs(b"runs_05");
+    runs(b"runs_06");
+    runs(b"runs_07");
+    runs(b"runs_08");
+    runs(b"runs_09");
+    runs(b"runs_10");
+    runs(b"runs_11");
+    runs(b"runs_12");
+}
