@@ -6,7 +6,7 @@ use Rattle.groups.specs.Words.{wordAt, beyond}
 use Rattle.groups.specs.Batches.{isBatch, batchAt, bigGroup, startsAt}
 use Rattle.groups.specs.Flags.{flagsUpTo8, batchFlags}
 use Rattle.groups.specs.GroupOfOperation.{falling, placeIn, groupFrom, groupOf}
-use Rattle.groups.specs.GroupsLeft.{counts, doubled, roundUp, groupsOf, sumGroups, anyAbove8, groupSum, pushes}
+use Rattle.groups.specs.GroupsLeft.{counts, sumGroups, anyAbove8, groupSum, pushes}
 use Rattle.groups.specs.Contexts.{tooLarge, consumed, opContext, contextInGroup, contextAtOp}
 use Rattle.groups.specs.Helpers.{allBelow, registerCells, u32Values, helpersOf, helpersAnswer}
 use Rattle.rows.specs.Profiles.{opcodes, isOneOf, twoEqual, lacksBits, profileWrong}
@@ -28,5 +28,5 @@ use Rattle.cases.specs.LoopRun.{loopForest, loopQueues, begin, storing, 
 use Rattle.cases.specs.Cases.{leftAfterPush, onOneRow, table, Agrees, AllAgree}
 
 pub cases : AllAgree table
-unfolding table Agrees AllAgree leftAfterPush onOneRow bytes textLines digitsWithin names nameBeside rowLine rowLines listing loopForest loopQueues begin storing cycleAt loopCalls loopFragments loopTrace after afterAll finalState cycle cycleWith scanOf lentBig forestTooLarge anyLongBlock anyLargeBatch cycleBig cycleCells stateCells tracerCells fixedCells registerCells systemCells stackCells anyFrom profileWrong opcodes twoEqual isOneOf lacksBits fragmentWrong made startNode startKind startBlock startOne finished repeated finishLoop bodyOf blockKind entryKind operationMade resumed nodeAt nodeOf isSlot digestAt opcodeAt blockOf startedAt entryAt endAt batchAt isBatch bigGroup beyond startsAt batchFlags flagsUpTo8 contextAtOp groupOf falling groupFrom placeIn contextInGroup consumed counts doubled roundUp groupsOf sumGroups anyAbove8 groupSum pushes opContext tooLarge helpersAnswer allBelow u32Values helpersOf tracerAfter leftAfter storedIn fragmentAfter putRow rowCells decoderCells fresh builtSystem builtStack noSystem noStack lastSystem lastStack controlFlow basicBlockBatch operation wordAt finalStates countsOf builtCells cellsOf refusalAll firstOf rowsBig sumOf fragmentsWrong bufferWrong fewerRows anyAbove heightWrong notFull loopWithoutBody anyWithoutBody bodyEnds rowsOf opcodeOf lowBits flaggedEnd finisherBuffer allPasses onRows flat fixedUp firstRow withSides laterRows builtOf multiplied withCounts inverted inverseOf euclid lastBuilt halted lastRow haltRow haltDecoder haltStack padded paddingRows paddingRow allRows
+unfolding table Agrees AllAgree leftAfterPush onOneRow bytes textLines digitsWithin names nameBeside rowLine rowLines listing loopForest loopQueues begin storing cycleAt loopCalls loopFragments loopTrace after afterAll finalState cycle cycleWith scanOf lentBig forestTooLarge anyLongBlock anyLargeBatch cycleBig cycleCells stateCells tracerCells fixedCells registerCells systemCells stackCells anyFrom profileWrong opcodes twoEqual isOneOf lacksBits fragmentWrong made startNode startKind startBlock startOne finished repeated finishLoop bodyOf blockKind entryKind operationMade resumed nodeAt nodeOf isSlot digestAt opcodeAt blockOf startedAt entryAt endAt batchAt isBatch bigGroup beyond startsAt batchFlags flagsUpTo8 contextAtOp groupOf falling groupFrom placeIn contextInGroup consumed counts sumGroups anyAbove8 groupSum pushes opContext tooLarge helpersAnswer allBelow u32Values helpersOf tracerAfter leftAfter storedIn fragmentAfter putRow rowCells decoderCells fresh builtSystem builtStack noSystem noStack lastSystem lastStack controlFlow basicBlockBatch operation wordAt finalStates countsOf builtCells cellsOf refusalAll firstOf rowsBig sumOf fragmentsWrong bufferWrong fewerRows anyAbove heightWrong notFull loopWithoutBody anyWithoutBody bodyEnds rowsOf opcodeOf lowBits flaggedEnd finisherBuffer allPasses onRows flat fixedUp firstRow withSides laterRows builtOf multiplied withCounts inverted inverseOf euclid lastBuilt halted lastRow haltRow haltDecoder haltStack padded paddingRows paddingRow allRows
 cases = (refl, (refl, (refl, (refl, (refl, (refl, (refl, (refl, (refl, (refl, tt))))))))))

@@ -49,13 +49,13 @@ checked-spec =
     (λ c. search needs)
     (λ c. search needs)
     returns-2
-    (λ c κs. search needs)
+    (λ c κs. tt)
     returns-3
     returns-4
-    (λ c κs. search needs)
+    (λ c κs. tt)
     returns-5
     returns-6
-    (λ c κs. search needs)
+    (λ c κs. tt)
     (λ c. search needs)
     (λ c. search needs)
     returns-7

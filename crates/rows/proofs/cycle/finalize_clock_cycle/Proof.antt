@@ -10,4 +10,4 @@ returns c = rw (← (c .before .before .before .before .scan-lent .ensures)) (c 
 
 pub finalize-clock-cycle-spec : {M : Type 1} → statement M
 finalize-clock-cycle-spec =
-    tie.close (tie.spec (λ c κs. search needs) (λ c κs. search needs) (λ c. search needs) returns)
+    tie.close (tie.spec (λ c κs. tt) (λ c κs. search needs) (λ c. search needs) returns)

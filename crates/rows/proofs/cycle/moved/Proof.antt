@@ -11,4 +11,4 @@ returns c = rw (c .before .before .before .before .before .left-after .ensures, 
 pub moved-spec : {M : Type 1} → statement M
 moved-spec =
     tie.close
-    (tie.spec (λ c κs. search needs) (λ c κs. search needs) (λ c κs. search needs) (λ c. search needs) returns)
+    (tie.spec (λ c κs. tt) (λ c κs. search needs) (λ c κs. search needs) (λ c. search needs) returns)

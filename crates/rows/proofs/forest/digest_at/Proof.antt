@@ -38,10 +38,10 @@ pub digest-at-spec : {M : Type 1} → statement M
 digest-at-spec =
     tie.close
     (tie.spec
-    (λ c κs. search needs)
+    (λ c κs. tt)
     returns
     returns-2
     (λ c. search needs)
     (λ c. search needs)
-    (λ c κs. search needs)
+    (λ c κs. tt)
     returns-3)

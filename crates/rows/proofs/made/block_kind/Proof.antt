@@ -16,7 +16,7 @@ pub block-kind-spec : {M : Type 1} → statement M
 block-kind-spec =
     tie.close
     (tie.spec
-    (λ c κs. search needs)
+    (λ c κs. tt)
     (λ c. search needs)
     (λ c. search needs)
     returns

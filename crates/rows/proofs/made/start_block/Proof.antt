@@ -27,14 +27,14 @@ pub start-block-spec : {M : Type 1} → statement M
 start-block-spec =
     tie.close
     (tie.spec
-    (λ c κs. search needs)
+    (λ c κs. tt)
     (λ c. search needs)
     (λ c. search needs)
     returns
     (λ c. search needs)
-    (λ c κs. search needs)
+    (λ c κs. tt)
     (λ c. search needs)
     (λ c. search needs)
     returns-2
-    (λ c κs. search needs)
+    (λ c κs. tt)
     returns-3)

@@ -19,5 +19,5 @@ start-dyn-spec =
     (λ c. search needs)
     (λ c. search needs)
     returns
-    (λ c κs. search needs)
+    (λ c κs. tt)
     returns-2)

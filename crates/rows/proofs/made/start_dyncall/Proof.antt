@@ -29,5 +29,5 @@ start-dyncall-spec =
     (λ c. search needs)
     returns-2
     (λ c. search needs)
-    (λ c κs. search needs)
+    (λ c κs. tt)
     returns-3)

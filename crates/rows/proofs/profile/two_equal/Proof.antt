@@ -37,7 +37,7 @@ two-equal-spec =
     (λ c. refl)
     (λ c. search needs)
     (λ c. search needs)
-    (λ c κs. search needs)
+    (λ c κs. tt)
     (λ c. search needs)
     (λ c. search needs)
     loop-again

@@ -25,7 +25,7 @@ pub end-lent-spec : {M : Type 1} → statement M
 end-lent-spec =
     tie.close
     (tie.spec
-    (λ c κs. search needs)
+    (λ c κs. tt)
     (λ c. search needs)
     (λ c. search needs)
     returns

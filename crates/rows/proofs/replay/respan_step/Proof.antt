@@ -9,4 +9,4 @@ unfolding respanStep
 returns c = rw (c .add .ensures)
 
 pub respan-step-spec : {M : Type 1} → statement M
-respan-step-spec = tie.close (tie.spec (λ c κs. search needs) returns)
+respan-step-spec = tie.close (tie.spec (λ c κs. tt) returns)

@@ -20,7 +20,7 @@ pub built-big-spec : {M : Type 1} → statement M
 built-big-spec =
     tie.close
     (tie.spec
-    (λ c κs. search needs)
+    (λ c κs. tt)
     (λ c. search needs)
-    (λ c κs. search needs)
+    (λ c κs. tt)
     returns)

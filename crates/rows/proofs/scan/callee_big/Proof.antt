@@ -17,4 +17,4 @@ returns-2 c = rw (c .before .before .callee .given .1, c .is-beyond .ensures, or
 pub callee-big-spec : {M : Type 1} → statement M
 callee-big-spec =
     tie.close
-    (tie.spec (λ c. search needs) (λ c. search needs) (λ c κs. search needs) returns returns-2)
+    (tie.spec (λ c. search needs) (λ c. search needs) (λ c κs. tt) returns returns-2)

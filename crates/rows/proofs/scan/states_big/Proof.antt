@@ -15,7 +15,7 @@ pub states-big-spec : {M : Type 1} → statement M
 states-big-spec =
     tie.close
     (tie.spec
-    (λ c κs. search needs)
+    (λ c κs. tt)
     (λ c. search needs)
-    (λ c κs. search needs)
+    (λ c κs. tt)
     returns)

@@ -22,7 +22,7 @@ pub to-hasher-state-second-word-spec : {M : Type 1} → statement M
 to-hasher-state-second-word-spec =
     tie.close
     (tie.spec
-    (λ c κs. search needs)
+    (λ c κs. tt)
     (λ c. search needs)
     (λ c. search needs)
     (λ c. search needs)
