@@ -22,14 +22,13 @@ use crate::tracer::CoreTraceGenerationTracer;
 use crate::tracer::StoredContinuation;
 use groups::helpers::OperationHelperRegisters;
 ghost use mathlib.Core.Path.{_≡_};
-ghost use Prim.Native.Nat.{_+_, _*_, _/_, _≤_, _<_};
+ghost use Prim.Native.Nat.{_+_, _/_, _<_};
 ghost use lib.ListN.{length};
 ghost use Rattle.groups.specs.Answer.{number, accepted, pick};
 ghost use Rattle.rows.specs.Forests.{forest};
 ghost use Rattle.rows.specs.Addresses.{queues};
 ghost use Rattle.rows.specs.Made.{toldMade};
 ghost use Rattle.rows.specs.Cells.{rowCells, putRow};
-ghost use Rattle.rows.specs.Scans.{scanOf};
 ghost use Rattle.rows.specs.Cycles.{cycleWith, HasRoom, cycle, leftAfter, keeping, tracerAfter, lastSystem, lastStack, fragmentAfter};
 
 // What a finish answers: 0 or the refusal's number, and the tracer.
