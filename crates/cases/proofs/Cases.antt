@@ -9,14 +9,15 @@ use Rattle.groups.specs.GroupOfOperation.{falling, placeIn, groupFrom, groupOf}
 use Rattle.groups.specs.GroupsLeft.{counts, sumGroups, anyAbove8, groupSum, pushes}
 use Rattle.groups.specs.Contexts.{tooLarge, consumed, opContext, contextInGroup, contextAtOp}
 use Rattle.groups.specs.Helpers.{allBelow, registerCells, u32Values, helpersOf, helpersAnswer}
-use Rattle.rows.specs.Profiles.{opcodes, isOneOf, twoEqual, lacksBits, profileWrong}
-use Rattle.rows.specs.Forests.{isSlot, nodeOf, nodeAt, digestAt, opcodeAt, blockOf}
-use Rattle.rows.specs.Addresses.{entryAt, startedAt, endAt}
-use Rattle.rows.specs.DecoderRows.{controlFlow, basicBlockBatch, operation, decoderCells}
-use Rattle.rows.specs.Built.{builtSystem, builtStack, noSystem, noStack, systemCells, stackCells}
+use Rattle.records.specs.Profiles.{opcodes, isOneOf, twoEqual, lacksBits, profileWrong}
+use Rattle.records.specs.Forests.{isSlot, nodeOf, nodeAt, digestAt, opcodeAt, blockOf}
+use Rattle.records.specs.Addresses.{entryAt, startedAt, endAt}
+use Rattle.records.specs.DecoderRows.{controlFlow, basicBlockBatch, operation, decoderCells}
+use Rattle.records.specs.Built.{builtSystem, builtStack, noSystem, noStack, systemCells, stackCells}
 use Rattle.rows.specs.Made.{startBlock, startOne, startKind, startNode, blockKind, entryKind, finished, bodyOf, repeated, finishLoop, operationMade, resumed, made}
-use Rattle.rows.specs.Cells.{rowCells, putRow}
-use Rattle.rows.specs.Scans.{lentBig, anyLongBlock, anyLargeBatch, forestTooLarge, scanOf, stateCells, tracerCells, fixedCells, cycleCells, cycleBig, fragmentWrong}
+use Rattle.records.specs.Cells.{rowCells, putRow}
+use Rattle.rows.specs.Scans.{lentBig, anyLongBlock, anyLargeBatch, forestTooLarge, scanOf, stateCells, tracerCells, fixedCells, cycleCells, cycleBig}
+use Rattle.records.specs.Cells.{fragmentWrong}
 use Rattle.rows.specs.Cycles.{fresh, storedIn, cycleWith, cycle, leftAfter, tracerAfter, lastSystem, lastStack, fragmentAfter, finalState}
 use Rattle.passes.specs.Buffers.{rowsOf, flat, onRows, lastRow}
 use Rattle.passes.specs.Passes.{withSides, firstRow, laterRows, fixedUp, builtOf, lowBits, opcodeOf, flaggedEnd, bodyEnds, withCounts, anyWithoutBody, multiplied, loopWithoutBody, inverted, haltDecoder, haltStack, haltRow, halted, paddingRow, paddingRows, padded, rowsBig, bufferWrong, fewerRows, sumOf, anyAbove, notFull, firstOf, fragmentsWrong, heightWrong, refusalAll, lastBuilt, allPasses}

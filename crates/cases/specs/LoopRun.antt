@@ -5,13 +5,13 @@ use mathlib.Core.List.{List, [], _∷_}
 use Prim.Native.Nat.{ℕ}
 use lib.ListN.{replicate}
 use Rattle.groups.specs.declared.helpers.OperationHelperRegisters.{OperationHelperRegisters}
-use Rattle.rows.specs.declared.profile.Profile.{Profile}
-use Rattle.rows.specs.declared.continuation.Continuation.{Continuation}
-use Rattle.rows.specs.declared.continuation.LoopCondition.{LoopCondition}
-use Rattle.rows.specs.declared.continuation.CalleeWord.{CalleeWord}
-use Rattle.rows.specs.declared.continuation.ContextInfo.{ContextInfo}
-use Rattle.rows.specs.Forests.{Forest, nodeId}
-use Rattle.rows.specs.Addresses.{Queues}
+use Rattle.records.specs.declared.profile.Profile.{Profile}
+use Rattle.records.specs.declared.continuation.Continuation.{Continuation}
+use Rattle.records.specs.declared.continuation.LoopCondition.{LoopCondition}
+use Rattle.records.specs.declared.continuation.CalleeWord.{CalleeWord}
+use Rattle.records.specs.declared.continuation.ContextInfo.{ContextInfo}
+use Rattle.records.specs.Forests.{Forest, nodeId}
+use Rattle.records.specs.Addresses.{Queues}
 use Rattle.rows.specs.Made.{Place}
 use Rattle.runs.specs.Calls.{Call, store, finish, Fragment}
 use Rattle.runs.specs.Finished.{writtenByFinisher}

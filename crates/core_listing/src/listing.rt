@@ -4,8 +4,8 @@ use io::print_decimal;
 use io::write_all;
 use libc::STDOUT_FILENO;
 use reader::view::row;
-use rows::profile::Profile;
-use rows::profile::opcodes_of;
+use records::profile::Profile;
+use records::profile::opcodes_of;
 
 fn wide(x: u8) -> u64 {
     x as u64

@@ -6,7 +6,7 @@ use Prim.Native.Nat.{ℕ, zero, suc, _+_, _*_, _/_, _<_}
 use native.Mathlib.Omega.{arith}
 use lib.ListN.{length, take, drop, getD}
 use lib.Seq.{getD-take, getD-drop}
-use Rattle.rows.specs.declared.profile.Profile.{Profile}
+use Rattle.records.specs.declared.profile.Profile.{Profile}
 use Rattle.passes.specs.Buffers.{rowsOf}
 use Rattle.passes.proofs.RowLists.{length-rows, wide-rows, row-at, as-rows}
 use Rattle.readings.specs.Tokens.{Kind, Token, start, repeat, end, halt, tokenOf, tokensOf, countOf}

@@ -8,19 +8,21 @@ use borrow.Author.Tests.{eqb-true, eq-eqb, leb-false}
 use lib.Dec.{eqb}
 use lib.ListN.{length}
 use Rattle.groups.specs.Answer.{Answer, accepted, refused, pick, number}
-use Rattle.rows.specs.declared.profile.Profile.{Profile}
-use Rattle.rows.specs.declared.state.SystemState.{SystemState}
-use Rattle.rows.specs.declared.state.StackState.{StackState}
-use Rattle.rows.specs.declared.continuation.StoredValues.{StoredValues}
+use Rattle.records.specs.declared.profile.Profile.{Profile}
+use Rattle.records.specs.declared.state.SystemState.{SystemState}
+use Rattle.records.specs.declared.state.StackState.{StackState}
+use Rattle.records.specs.declared.continuation.StoredValues.{StoredValues}
 use Rattle.rows.specs.declared.made.MadeRow.{MadeRow}
 use Rattle.rows.specs.declared.calls.Replayed.{Replayed}
 use Rattle.rows.specs.declared.tracer.CoreTraceGenerationTracer.{CoreTraceGenerationTracer}
-use Rattle.rows.specs.Forests.{Forest}
-use Rattle.rows.specs.Addresses.{Queues}
+use Rattle.records.specs.Forests.{Forest}
+use Rattle.records.specs.Addresses.{Queues}
 use Rattle.rows.specs.Made.{Place, place}
 use Rattle.rows.specs.Cycles.{fresh, storing, storedIn, keeping, tracerAfter, fragmentAfter, finalState}
-use Rattle.rows.specs.Calls as records
-use Rattle.rows.specs.Calls.{stores, finishes, callIn, recordAt, partsAt, forestIn, forestOf, Setting, scanned, refusing, told, nextState, nextPositions}
+use Rattle.rows.specs.Calls as replays
+use Rattle.records.specs.CallRecords as records
+use Rattle.rows.specs.Calls.{partsAt, forestIn, forestOf, Setting, scanned, refusing, told, nextState, nextPositions}
+use Rattle.records.specs.CallRecords.{stores, finishes, callIn, recordAt}
 use Rattle.rows.specs.SingleCalls.{singleDone, singleWritten, singlyThrough, singlyWritten}
 use Rattle.rows.proofs.CallSteps.{told-number}
 use Rattle.rows.proofs.ReplaySingly.{replay-singly}
@@ -183,7 +185,7 @@ module _ (p : Profile) (f : Forest) (directory : List ℕ) (q : Queues) (here : 
   unfolding told
   fragment-rows = ap (λ (x : Replayed). x .rows) (as-calls .answer-is)
 
-  pub fragment-built : toldOf p f directory q here l .built ≡ records.builtCells (finalState (end .tracer) .«last_system_cols») (finalState (end .tracer) .«last_stack_cols»)
+  pub fragment-built : toldOf p f directory q here l .built ≡ replays.builtCells (finalState (end .tracer) .«last_system_cols») (finalState (end .tracer) .«last_stack_cols»)
   unfolding told
   fragment-built = ap (λ (x : Replayed). x .built) (as-calls .answer-is)
 
@@ -211,7 +213,7 @@ module _ (p : Profile) (f : Forest) (directory : List ℕ) (q : Queues) where
       (replayed-counts lents (nextPlace p f directory q here l) (h .1) ∙ ap (λ (x : Place). countsOf (finalStates p q (fragmentsOf f directory lents) x)) (fragment-place p f directory q here l (h .0)))
 
   pub replayed-built : (lents : List Lent) (here : Place) → AllReplayed p f directory q lents here → builtReplayed p f directory q lents here ≡ builtCells (finalStates p q (fragmentsOf f directory lents) here)
-  unfolding AllReplayed fragmentsOf builtReplayed finalStates builtCells records.builtCells
+  unfolding AllReplayed fragmentsOf builtReplayed finalStates builtCells replays.builtCells
   replayed-built [] here h = refl
   replayed-built (l ∷ lents) here h =
       ap₂ _++_ (fragment-built p f directory q here l (h .0))

@@ -1,9 +1,9 @@
 -- What is finished over replayed fragments is a trace, and its reading is the nesting of the records.
 use mathlib.Core.List.{List}
 use Prim.Native.Nat.{ℕ}
-use Rattle.rows.specs.declared.profile.Profile.{Profile}
-use Rattle.rows.specs.Forests.{Forest}
-use Rattle.rows.specs.Addresses.{Queues}
+use Rattle.records.specs.declared.profile.Profile.{Profile}
+use Rattle.records.specs.Forests.{Forest}
+use Rattle.records.specs.Addresses.{Queues}
 use Rattle.rows.specs.Made.{Place}
 use Rattle.readings.specs.Readings.{Trace}
 use Rattle.runs.specs.Finished.{Runs}

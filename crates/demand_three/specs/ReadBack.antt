@@ -3,7 +3,7 @@ use mathlib.Core.Path.{_≡_}
 use mathlib.Core.List.{List, _++_}
 use Prim.Native.Nat.{ℕ, _+_, _*_, _/_, _≤_, _<_}
 use lib.ListN.{length, drop, getD}
-use Rattle.rows.specs.declared.profile.Profile.{Profile}
+use Rattle.records.specs.declared.profile.Profile.{Profile}
 use Rattle.readings.specs.Tokens.{Kind, start, tokenOf}
 use Rattle.readings.specs.Readings.{Block, Passes, programRows, depthList, passesIn, rowAt, allRows, Trace}
 use Rattle.readings.specs.Answers.{accepted, numberOf, rowOf, programRowsOf, depthsAfter}

@@ -6,14 +6,16 @@ use mathlib.Core.List.{List, [], _∷_, _++_}
 use Prim.Native.Nat.{ℕ, zero, suc, _*_, _/_, _≤_}
 use lib.ListN.{length, take}
 use Rattle.groups.specs.Answer.{Answer, accepted, refused}
-use Rattle.rows.specs.declared.profile.Profile.{Profile}
+use Rattle.records.specs.declared.profile.Profile.{Profile}
 use Rattle.rows.specs.declared.calls.Replayed.{Replayed}
-use Rattle.rows.specs.Forests.{Forest}
-use Rattle.rows.specs.Addresses.{Queues}
-use Rattle.rows.specs.Profiles.{twoEqual}
+use Rattle.records.specs.Forests.{Forest}
+use Rattle.records.specs.Addresses.{Queues}
+use Rattle.records.specs.Profiles.{twoEqual}
 use Rattle.rows.specs.Made.{Place, place}
-use Rattle.rows.specs.Calls as records
-use Rattle.rows.specs.Calls.{stores, finishes, callIn, recordAt, partsAt, forestIn, Setting, scanned, replayed, replayedFragment}
+use Rattle.rows.specs.Calls as replays
+use Rattle.records.specs.CallRecords as records
+use Rattle.rows.specs.Calls.{partsAt, forestIn, Setting, scanned, replayed, replayedFragment}
+use Rattle.records.specs.CallRecords.{stores, finishes, callIn, recordAt}
 use Rattle.passes.specs.Passes.{refusalAll}
 use Rattle.readings.specs.Readings as readings
 use Rattle.runs.specs.Calls.{Call, store, finish, Fragment, OneSize}

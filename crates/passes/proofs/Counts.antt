@@ -10,7 +10,7 @@ use borrow.Author.Tests.{ltb-true, ltb-false, eqb-false, lt-ltb, le-ltb}
 use lib.Dec.{ltb, eqb}
 use lib.ListN.{length, drop, getD, drop-of-length-le}
 use lib.Seq.{drop-cons}
-use Rattle.rows.specs.Scans.{fragmentWrong}
+use Rattle.records.specs.Cells.{fragmentWrong}
 use Rattle.passes.specs.Passes.{rowsBig, bufferWrong, fewerRows, sumOf, anyAbove, notFull, noFragment, fragmentsWrong, refusal1}
 use Rattle.passes.proofs.Checks.{neither, none-first, rows-all}
 

@@ -7,9 +7,9 @@ use native.Mathlib.Omega.{arith}
 use borrow.Author.Tests.{ltb-false, leb-false}
 use lib.Dec.{ltb, leb, eqb}
 use lib.ListN.{length, take, drop, length-take, length-drop}
-use Rattle.rows.specs.declared.profile.Profile.{Profile}
+use Rattle.records.specs.declared.profile.Profile.{Profile}
 use Rattle.field.specs.Bounds.{anyFrom}
-use Rattle.rows.specs.Profiles.{profileWrong}
+use Rattle.records.specs.Profiles.{profileWrong}
 use Rattle.passes.specs.Buffers.{rowsOf}
 use Rattle.passes.specs.Passes.{firstOf, rowsBig, bufferWrong, fewerRows, sumOf, anyAbove, notFull, noFragment, fragmentsWrong, heightWrong, loopWithoutBody, refusal2, refusalAll}
 use Rattle.passes.proofs.Checks.{neither, none-first}

@@ -5,8 +5,8 @@ use Prim.Native.Nat.{ℕ, zero, suc, pred, _+_, _-_, _*_, _≤_, _<_}
 use native.Mathlib.Omega.{arith}
 use lib.ListN.{length, take, drop, getD, set, length-append, length-take, length-drop}
 use lib.Seq.{drop-drop}
-use Rattle.rows.specs.Built.{reversed16}
-use Rattle.rows.specs.Cells.{putRow}
+use Rattle.records.specs.Built.{reversed16}
+use Rattle.records.specs.Cells.{putRow}
 use Rattle.passes.specs.Buffers.{rowsOf, flat, onRows}
 use Rattle.passes.specs.Passes.{withSides, firstRow, laterRows, fixedUp, builtOf}
 use Rattle.passes.proofs.RowLists.{Wide, length-rows, wide-rows, row-at, put-set, as-rows, on-rows, on-flat}

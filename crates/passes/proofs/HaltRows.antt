@@ -6,16 +6,16 @@ use native.Mathlib.Omega.{arith}
 use lib.ListN.{length, take, drop, length-append, length-take, length-drop}
 use lib.Seq.{drop-drop}
 use Rattle.groups.specs.Words.{wordAt}
-use Rattle.rows.specs.declared.profile.Profile.{Profile}
-use Rattle.rows.specs.declared.decoder_row.DecoderRow.{DecoderRow}
-use Rattle.rows.specs.declared.state.SystemCols.{SystemCols}
-use Rattle.rows.specs.declared.state.StackCols.{StackCols}
-use Rattle.rows.specs.DecoderRows.{noWord, decoderCells, controlFlow}
-use Rattle.rows.specs.Built.{systemCells, stackCells}
-use Rattle.rows.specs.Cells.{rowCells, putRow}
+use Rattle.records.specs.declared.profile.Profile.{Profile}
+use Rattle.records.specs.declared.decoder_row.DecoderRow.{DecoderRow}
+use Rattle.records.specs.declared.state.SystemCols.{SystemCols}
+use Rattle.records.specs.declared.state.StackCols.{StackCols}
+use Rattle.records.specs.DecoderRows.{noWord, decoderCells, controlFlow}
+use Rattle.records.specs.Built.{systemCells, stackCells}
+use Rattle.records.specs.Cells.{rowCells, putRow}
 use Rattle.passes.specs.Buffers.{rowsOf, flat, onRows, lastRow}
 use Rattle.passes.specs.Passes.{firstHalf, haltDecoder, haltStack, haltRow, halted, paddingRow, paddingRows, padded}
-use Rattle.rows.proofs.Windows.{window}
+use Rattle.records.proofs.Windows.{window}
 use Rattle.passes.proofs.RowLists.{Wide, wide-app, length-rows, wide-rows, as-rows, last-rows, last-cell, length-last, put-behind}
 
 -- h0 to h3 of the last row stand 35 cells before its end

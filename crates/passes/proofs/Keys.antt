@@ -9,7 +9,7 @@ use lib.ListN.{length, take, set}
 use borrow.Author.Tests.{le-leb}
 use Rattle.sorted.specs.Order.{occurrences, Ordered, Sorts, SortsFirst}
 use Rattle.sorted.proofs.Counts.{hit-same, count-more}
-use Rattle.rows.specs.declared.profile.Profile.{Profile}
+use Rattle.records.specs.declared.profile.Profile.{Profile}
 use Rattle.passes.specs.LoopCounts.{rowAt, isLoop, nextAddr, endsIn, Tallied, Held, Took, Table}
 
 module _ (p : Profile) (c : List ℕ) (from next : ℕ) where

@@ -8,8 +8,8 @@ use native.Mathlib.Omega.{arith}
 use borrow.Author.Tests.{ltb-false, eqb-false, lt-ltb, le-ltb, le-leb, lt-leb}
 use lib.Dec.{ltb, leb, eqb}
 use lib.ListN.{length}
-use Rattle.rows.specs.declared.profile.Profile.{Profile}
-use Rattle.rows.specs.Profiles.{profileWrong}
+use Rattle.records.specs.declared.profile.Profile.{Profile}
+use Rattle.records.specs.Profiles.{profileWrong}
 use Rattle.passes.proofs.Checks.{neither}
 use Rattle.passes.specs.Passes.{firstOf, rowsBig, bufferWrong, fewerRows, refusal3, refusal4, refusal5, unlessRefused}
 

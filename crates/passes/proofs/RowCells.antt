@@ -8,7 +8,7 @@ use lib.Dec.{eqb}
 use lib.ListN.{getD, set, take, drop, length-set}
 use lib.Seq.{getD-take, getD-drop, getD-set-other}
 use borrow.Author.Tests.{eq-eqb, ne-eqb}
-use Rattle.rows.specs.declared.profile.Profile.{Profile}
+use Rattle.records.specs.declared.profile.Profile.{Profile}
 use Rattle.passes.specs.Buffers.{h4Of}
 use Rattle.passes.specs.Passes.{lowBits, opcodeOf, flaggedEnd}
 use Rattle.passes.specs.LoopCounts.{rowAt, Alike}

@@ -5,7 +5,7 @@ use Prim.Native.Nat.{ℕ, zero, suc, _+_, _*_, _≤_, _<_}
 use native.Mathlib.Omega.{arith}
 use lib.ListN.{length, take, drop, getD, set, length-append, length-take, length-drop, take-append-drop}
 use lib.Seq.{take-at, drop-at, drop-drop, take-add, take-append-add, drop-append-add, getD-take, getD-drop}
-use Rattle.rows.specs.Cells.{putRow}
+use Rattle.records.specs.Cells.{putRow}
 use Rattle.passes.specs.Buffers.{rowsOf, flat, onRows, lastRow}
 
 -- each row has 49 cells

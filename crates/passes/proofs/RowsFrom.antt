@@ -11,7 +11,7 @@ use lib.ListN.{set, take, drop}
 use lib.Seq.{drop-drop}
 use borrow.Author.Tests.{eq-eqb, ne-eqb}
 use Rattle.groups.specs.Answer.{pick}
-use Rattle.rows.specs.declared.profile.Profile.{Profile}
+use Rattle.records.specs.declared.profile.Profile.{Profile}
 use Rattle.passes.specs.Buffers.{rowsOf}
 use Rattle.passes.specs.Passes.{flaggedEnd, bodyEnds, withCounts, anyWithoutBody, loopWithoutBody}
 use Rattle.passes.specs.LoopCounts.{rowAt, rowsFrom, isLoop, nextAddr, endsIn, lacksFrom, Alike}

@@ -6,7 +6,7 @@ use native.Mathlib.Nat.{zero-add, suc-add}
 use native.Mathlib.Omega.{arith}
 use lib.ListN.{length, take, drop, length-append, length-drop}
 use lib.Seq.{paste, length-paste-head, take-length, take-take, take-add, take-nil, drop-nil, drop-drop, take-append-add, drop-append-add, length-take-le}
-use Rattle.rows.specs.Cells.{putRow}
+use Rattle.records.specs.Cells.{putRow}
 use Rattle.passes.specs.Passes.{withSides}
 
 drop-take : (i n : ℕ) (l : List ℕ) → drop i (take (i + n) l) ≡ take n (drop i l)

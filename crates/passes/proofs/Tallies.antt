@@ -10,7 +10,7 @@ use lib.Seq.{getD-set-same, getD-set-other}
 use Rattle.sorted.specs.Order.{hit, occurrences, Ordered, Lower}
 use Rattle.sorted.proofs.Counts.{hit-same, hit-other}
 use Rattle.sorted.proofs.Search.{lower-unique, found-inside, found-is}
-use Rattle.rows.specs.declared.profile.Profile.{Profile}
+use Rattle.records.specs.declared.profile.Profile.{Profile}
 use Rattle.passes.specs.Passes.{flaggedEnd}
 use Rattle.passes.specs.LoopCounts.{rowAt, nextAddr, endsIn, Tallied, Bumped}
 use Rattle.passes.proofs.RowsFrom.{ends-more, ends-one}

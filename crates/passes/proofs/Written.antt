@@ -6,7 +6,7 @@ use Prim.Native.Nat.{ℕ, suc, _+_, _-_, _*_, _≤_, _<_}
 use native.Mathlib.Omega.{arith}
 use lib.ListN.{length, set, take, drop, take-append-drop}
 use lib.Seq.{take-add, take-set-le, take-set-lt, drop-set-add, drop-set-lt}
-use Rattle.rows.specs.declared.profile.Profile.{Profile}
+use Rattle.records.specs.declared.profile.Profile.{Profile}
 use Rattle.passes.specs.Buffers.{rowsOf, flat, onRows}
 use Rattle.passes.specs.Passes.{withCounts, multiplied}
 use Rattle.passes.specs.LoopCounts.{rowAt, rowsFrom, isLoop, nextAddr, endsIn, countedFrom, Alike}

@@ -7,7 +7,7 @@ use Prim.Native.Nat.{ℕ, _+_, _-_, _*_, _≤_, _<_}
 use lib.Dec.{eqb}
 use lib.ListN.{length, take, drop, getD}
 use Rattle.sorted.specs.Order.{hit, occurrences, Ordered, Lower}
-use Rattle.rows.specs.declared.profile.Profile.{Profile}
+use Rattle.records.specs.declared.profile.Profile.{Profile}
 use Rattle.passes.specs.Buffers.{rowsOf, flat, addrOf}
 use Rattle.passes.specs.Passes.{opcodeOf, bodyEnds, withCounts, anyWithoutBody}
 

@@ -8,11 +8,11 @@ use Rattle.field.specs.Modulus.{P}
 use Rattle.field.specs.Inverse.{inverseOf}
 use Rattle.groups.specs.Answer.{pick}
 use Rattle.groups.specs.declared.word.Word.{Word}
-use Rattle.rows.specs.declared.profile.Profile.{Profile}
+use Rattle.records.specs.declared.profile.Profile.{Profile}
 use Rattle.field.specs.Bounds.{anyFrom}
-use Rattle.rows.specs.Profiles.{profileWrong}
-use Rattle.rows.specs.DecoderRows.{noWord, controlFlow, decoderCells}
-use Rattle.rows.specs.Built.{reversed16}
+use Rattle.records.specs.Profiles.{profileWrong}
+use Rattle.records.specs.DecoderRows.{noWord, controlFlow, decoderCells}
+use Rattle.records.specs.Built.{reversed16}
 use Rattle.passes.specs.Buffers.{rowsOf, onRows, lastRow, addrOf, h4Of}
 
 -- PASS 1

@@ -2,15 +2,15 @@
 use crate::buffer::rows_big;
 use field::cell::any_big;
 use groups::number::number;
-use rows::row::copy_in;
-use rows::row::fragment_wrong;
+use records::row::copy_in;
+use records::row::fragment_wrong;
 ghost use mathlib.Core.Path.{_≡_};
 ghost use mathlib.Core.Bool.{false, _||_};
 ghost use Prim.Native.Nat.{_+_, _-_, _*_, _≤_, _<_, min};
 ghost use lib.ListN.{length, getD, take, drop};
 ghost use Rattle.field.specs.Modulus.{P};
 ghost use Rattle.field.specs.Bounds.{anyFrom};
-ghost use Rattle.rows.specs.Cells.{putRow};
+ghost use Rattle.records.specs.Cells.{putRow};
 ghost use Rattle.passes.specs.Buffers.{onRows};
 ghost use Rattle.passes.specs.Passes.{withSides, firstRow, laterRows, fixedUp, builtOf, rowsBig, sumOf, anyAbove, notFull, noFragment, fragmentsWrong, refusal1, unlessRefused};
 

@@ -10,8 +10,8 @@ use lib.Dec.{eqb, ltb}
 use lib.ListN.{length, getD, take, drop}
 use lib.Seq.{getD-drop}
 use Rattle.groups.specs.Answer.{pick}
-use Rattle.rows.specs.declared.profile.Profile.{Profile}
-use Rattle.rows.specs.Profiles.{isOneOf}
+use Rattle.records.specs.declared.profile.Profile.{Profile}
+use Rattle.records.specs.Profiles.{isOneOf}
 use Rattle.passes.specs.Passes.{opcodeOf}
 use Rattle.passes.proofs.RowCells.{row-cell, opcode-cells}
 use Rattle.readings.specs.Tokens.{Kind, Token, start, repeat, end, halt, nothing, controls, tokenBeside, controlToken, controlOpcodes, isOpOpcode, opToken, inSpanOf, opBitsOf, allBits, tokenOf}

@@ -11,9 +11,9 @@ use lib.Dec.{eqb, ltb}
 use lib.ListN.{length, drop, length-drop}
 use Rattle.field.specs.Modulus.{P}
 use Rattle.groups.specs.Answer.{pick}
-use Rattle.rows.specs.declared.profile.Profile.{Profile}
+use Rattle.records.specs.declared.profile.Profile.{Profile}
 use Rattle.field.specs.Bounds.{anyFrom}
-use Rattle.rows.specs.Profiles.{profileWrong}
+use Rattle.records.specs.Profiles.{profileWrong}
 use Rattle.passes.specs.Passes.{bufferWrong, firstOf}
 use Rattle.passes.proofs.Checks.{neither, none-first}
 use Rattle.readings.specs.Tokens.{Token, start, repeat, end, halt, nothing}

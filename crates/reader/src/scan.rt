@@ -1,7 +1,7 @@
 // Refusals 1, 2 and 11 of a buffer that is read.
 use field::cell::any_big;
-use rows::profile::Profile;
-use rows::profile::is_wrong;
+use records::profile::Profile;
+use records::profile::is_wrong;
 ghost use mathlib.Core.Path.{_≡_};
 ghost use Rattle.readings.specs.Answers.{readerRefusal};
 

@@ -1,6 +1,6 @@
 // What a row is to the grammar.
 use field::cell::cell;
-use rows::profile::Profile;
+use records::profile::Profile;
 ghost use mathlib.Core.Path.{_≡_};
 ghost use mathlib.Core.List.{_∷_};
 ghost use Prim.Native.Nat.{_/_, _<_};

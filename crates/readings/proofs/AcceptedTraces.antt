@@ -9,9 +9,9 @@ use borrow.Author.Tests.{ltb-false, le-ltb}
 use lib.Dec.{ltb}
 use lib.ListN.{length, drop}
 use Rattle.field.specs.Modulus.{P}
-use Rattle.rows.specs.declared.profile.Profile.{Profile}
+use Rattle.records.specs.declared.profile.Profile.{Profile}
 use Rattle.field.specs.Bounds.{anyFrom}
-use Rattle.rows.specs.Profiles.{profileWrong}
+use Rattle.records.specs.Profiles.{profileWrong}
 use Rattle.passes.specs.Buffers.{rowsOf}
 use Rattle.passes.proofs.Checks.{none-first}
 use Rattle.passes.proofs.RowLists.{length-rows}

@@ -6,9 +6,9 @@ use Prim.Native.Nat.{ℕ, _/_, _%_}
 use native.Mathlib.Omega.{arith}
 use lib.ListN.{length, take, set, replicate}
 use Rattle.field.specs.Modulus.{P}
-use Rattle.rows.specs.declared.profile.Profile.{Profile}
+use Rattle.records.specs.declared.profile.Profile.{Profile}
 use Rattle.field.specs.Bounds.{anyFrom}
-use Rattle.rows.specs.Profiles.{opcodes, isOneOf, twoEqual, profileWrong, lacksBits}
+use Rattle.records.specs.Profiles.{opcodes, isOneOf, twoEqual, profileWrong, lacksBits}
 use Rattle.passes.specs.Buffers.{rowsOf, flat}
 use Rattle.passes.specs.Passes.{opcodeOf, lowBits, bufferWrong, firstOf}
 use Rattle.readings.specs.Tokens.{split, call, syscall, dyncall, Kind, Token, start, repeat, end, halt, controls, tokenBeside, controlToken, controlOpcodes, isOpOpcode, opToken, allBits, tokenOf, tokensOf}

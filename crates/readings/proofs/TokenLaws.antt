@@ -9,9 +9,9 @@ use lib.Dec.{leb, eqb}
 use lib.ListN.{length, getD}
 use Rattle.field.specs.Modulus.{P}
 use Rattle.groups.specs.Answer.{pick}
-use Rattle.rows.specs.declared.profile.Profile.{Profile}
+use Rattle.records.specs.declared.profile.Profile.{Profile}
 use Rattle.field.specs.Bounds.{anyFrom}
-use Rattle.rows.specs.Profiles.{opcodes, isOneOf, twoEqual, profileWrong, lacksBits}
+use Rattle.records.specs.Profiles.{opcodes, isOneOf, twoEqual, profileWrong, lacksBits}
 use Rattle.passes.proofs.Checks.{neither}
 use Rattle.passes.specs.Passes.{opcodeOf}
 use Rattle.readings.specs.Tokens.{split, call, syscall, dyn, dyncall, Kind, Token, start, repeat, end, halt, nothing, opcodeOfKind, controls, tokenBeside, controlToken, isOpOpcode, opToken, inSpanOf, opBitsOf, allBits, tokenOf}

@@ -6,9 +6,9 @@ use Prim.Native.Nat.{ℕ, suc, pred, _/_, _≤_, _<_}
 use lib.Dec.{ltb}
 use lib.ListN.{length, drop}
 use Rattle.field.specs.Modulus.{P}
-use Rattle.rows.specs.declared.profile.Profile.{Profile}
+use Rattle.records.specs.declared.profile.Profile.{Profile}
 use Rattle.field.specs.Bounds.{anyFrom}
-use Rattle.rows.specs.Profiles.{profileWrong}
+use Rattle.records.specs.Profiles.{profileWrong}
 use Rattle.passes.specs.Passes.{bufferWrong, firstOf}
 use Rattle.readings.specs.Tokens.{Kind, Token, start, repeat, end, halt, nothing, tokensOf}
 use Rattle.readings.specs.Readings.{Block, Word, depthOf, programRows, depthList, Ask, flag, count, asks, Meets, Reading, allRows}

@@ -4,9 +4,9 @@ use mathlib.Core.List.{List, [], _∷_, List·Memᴰ}
 use Prim.Native.Nat.{ℕ, suc, _-_, _/_, _≤_, max}
 use lib.ListN.{length, getD, replicate}
 use Rattle.field.specs.Modulus.{P}
-use Rattle.rows.specs.declared.profile.Profile.{Profile}
+use Rattle.records.specs.declared.profile.Profile.{Profile}
 use Rattle.field.specs.Bounds.{anyFrom}
-use Rattle.rows.specs.Profiles.{profileWrong}
+use Rattle.records.specs.Profiles.{profileWrong}
 use Rattle.passes.specs.Buffers.{rowsOf, h4Of}
 use Rattle.passes.specs.Passes.{bufferWrong, firstOf}
 use Rattle.readings.specs.Tokens.{OneChild, Kind, Token, start, repeat, end, halt, opcodeOfKind, countOf, tokensOf}

@@ -5,8 +5,8 @@ use Prim.Native.Nat.{ℕ}
 use lib.Dec.{ltb, eqb}
 use lib.ListN.{take, drop, getD}
 use Rattle.groups.specs.Answer.{pick}
-use Rattle.rows.specs.declared.profile.Profile.{Profile}
-use Rattle.rows.specs.Profiles.{isOneOf}
+use Rattle.records.specs.declared.profile.Profile.{Profile}
+use Rattle.records.specs.Profiles.{isOneOf}
 use Rattle.passes.specs.Passes.{opcodeOf}
 
 -- "SPLIT, CALL, SYSCALL, DYN or DYNCALL, then Block END": the kinds of one child

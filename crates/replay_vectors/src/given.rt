@@ -2,9 +2,9 @@
 use lists::text::item;
 use lists::text::low8;
 use rows::calls::Replayed;
-use rows::profile::Profile;
-use rows::replay::DecoderState;
-use rows::replay::Positions;
+use records::profile::Profile;
+use records::replay::DecoderState;
+use records::replay::Positions;
 
 // The thirteen opcodes and the step.
 pub fn profile_of(v: &[u64], at: usize) -> Profile {

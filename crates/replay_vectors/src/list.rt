@@ -21,7 +21,7 @@ use lists::text::one_if;
 use passes::finish::finish;
 use rows::calls::Replayed;
 use rows::calls::replay_calls;
-use rows::profile::Profile;
+use records::profile::Profile;
 ghost use Prim.Native.Nat.{_≤_};
 ghost use lib.ListN.{length};
 

@@ -1,10 +1,10 @@
 // The numbers of a tracer and of a final state, in the order of the lists.
 use groups::word::Word;
-use rows::continuation::CalleeWord;
-use rows::continuation::ContextInfo;
-use rows::continuation::Continuation;
-use rows::continuation::LoopCondition;
-use rows::ids::MastNodeId;
+use records::continuation::CalleeWord;
+use records::continuation::ContextInfo;
+use records::continuation::Continuation;
+use records::continuation::LoopCondition;
+use records::ids::MastNodeId;
 use rows::tracer::CoreTraceGenerationTracer;
 use rows::tracer::StoredContinuation;
 use rows::tracer::TracerFinalState;

@@ -9,15 +9,15 @@ use Rattle.field.specs.Modulus.{P}
 use Rattle.field.specs.Bounds.{anyFrom}
 use Rattle.field.proofs.AnyFrom.{any-append}
 use Rattle.groups.specs.Words.{beyond}
-use Rattle.rows.specs.Built.{cells16, systemCells, stackCells}
+use Rattle.records.specs.Built.{cells16, systemCells, stackCells}
 use Rattle.rows.specs.Scans.{stateCells, tracerCells, fixedCells}
-use Rattle.rows.specs.declared.replay.DecoderState.{DecoderState}
-use Rattle.rows.specs.declared.state.StackCols.{StackCols}
-use Rattle.rows.specs.declared.state.StackState.{StackState}
-use Rattle.rows.specs.declared.state.SystemCols.{SystemCols}
-use Rattle.rows.specs.declared.state.SystemState.{SystemState}
+use Rattle.records.specs.declared.replay.DecoderState.{DecoderState}
+use Rattle.records.specs.declared.state.StackCols.{StackCols}
+use Rattle.records.specs.declared.state.StackState.{StackState}
+use Rattle.records.specs.declared.state.SystemCols.{SystemCols}
+use Rattle.records.specs.declared.state.SystemState.{SystemState}
 use Rattle.rows.specs.declared.tracer.CoreTraceGenerationTracer.{CoreTraceGenerationTracer}
-use Rattle.rows.proofs.Windows.{all-16}
+use Rattle.records.proofs.Windows.{all-16}
 
 -- a word's four cells, one more, and the rest
 five : (a b c d e x : Bool) → (a || (b || (c || (d || (e || x))))) ≡ ((a || (b || (c || d))) || (e || x))

@@ -9,12 +9,13 @@ use borrow.Author.Tests.{eqb-true}
 use lib.Dec.{eqb}
 use lib.ListN.{take, drop}
 use Rattle.groups.specs.Answer.{Answer, accepted, refused, pick}
-use Rattle.rows.specs.declared.continuation.StoredValues.{StoredValues}
+use Rattle.records.specs.declared.continuation.StoredValues.{StoredValues}
 use Rattle.rows.specs.declared.tracer.CoreTraceGenerationTracer.{CoreTraceGenerationTracer}
 use Rattle.rows.specs.declared.tracer.TracerFinalState.{TracerFinalState}
-use Rattle.rows.specs.Built.{noSystem, noStack}
+use Rattle.records.specs.Built.{noSystem, noStack}
 use Rattle.rows.specs.Cycles.{finalState, lastSystem, lastStack}
-use Rattle.rows.specs.Calls.{Setting, storing, storingDone, callIn, recordAt, callDone, callWritten, through, written, told}
+use Rattle.rows.specs.Calls.{Setting, storingDone, callDone, callWritten, through, written, told}
+use Rattle.records.specs.CallRecords.{storing, callIn, recordAt}
 use Rattle.rows.proofs.Picks.{pick-same, pick-step}
 
 pub storing-done : (s : Setting) (t : CoreTraceGenerationTracer) (found : Answer StoredValues) → callDone s t (storing found) ≡ storingDone t found

@@ -1,13 +1,8 @@
 pub mod AnyAll
 pub mod BigCells
-pub mod Bits
 pub mod CallSteps
 pub mod Cuts
-pub mod EndQueue
 pub mod PartScans
 pub mod Picks
 pub mod ReplaySingly
-pub mod Rooms
-pub mod Slots
 pub mod Steps
-pub mod Windows

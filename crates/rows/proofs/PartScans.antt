@@ -11,8 +11,8 @@ use lib.Seq.{getD-take, getD-drop}
 use Rattle.field.specs.Modulus.{P}
 use Rattle.field.specs.Bounds.{anyFrom}
 use Rattle.rows.specs.declared.directory.Parts.{Parts}
-use Rattle.rows.specs.Forests.{Forest}
-use Rattle.rows.specs.Addresses.{Queues}
+use Rattle.records.specs.Forests.{Forest}
+use Rattle.records.specs.Addresses.{Queues}
 use Rattle.rows.specs.Scans.{lentBig, anyLongBlock, anyLargeBatch, forestTooLarge}
 use Rattle.rows.specs.Calls.{window, forestIn}
 

@@ -9,21 +9,23 @@ use lib.Dec.{leb, ltb, eqb}
 use lib.ListN.{length}
 use Rattle.groups.specs.Answer.{Answer, accepted, refused, andThen, pick, number}
 use Rattle.groups.specs.declared.helpers.OperationHelperRegisters.{OperationHelperRegisters}
-use Rattle.rows.specs.declared.profile.Profile.{Profile}
-use Rattle.rows.specs.declared.replay.DecoderState.{DecoderState}
-use Rattle.rows.specs.declared.replay.Positions.{Positions}
-use Rattle.rows.specs.declared.state.SystemState.{SystemState}
-use Rattle.rows.specs.declared.state.StackState.{StackState}
-use Rattle.rows.specs.declared.continuation.Continuation.{Continuation}
+use Rattle.records.specs.declared.profile.Profile.{Profile}
+use Rattle.records.specs.declared.replay.DecoderState.{DecoderState}
+use Rattle.records.specs.declared.replay.Positions.{Positions}
+use Rattle.records.specs.declared.state.SystemState.{SystemState}
+use Rattle.records.specs.declared.state.StackState.{StackState}
+use Rattle.records.specs.declared.continuation.Continuation.{Continuation}
 use Rattle.rows.specs.declared.made.MadeRow.{MadeRow}
 use Rattle.rows.specs.declared.tracer.CoreTraceGenerationTracer.{CoreTraceGenerationTracer}
-use Rattle.rows.specs.Forests.{Forest}
-use Rattle.rows.specs.Addresses.{Queues}
-use Rattle.rows.specs.Profiles.{profileWrong}
+use Rattle.records.specs.Forests.{Forest}
+use Rattle.records.specs.Addresses.{Queues}
+use Rattle.records.specs.Profiles.{profileWrong}
 use Rattle.rows.specs.Made.{place, made}
-use Rattle.rows.specs.Scans.{lentBig, forestTooLarge, scanOf, cycleBig, fragmentWrong}
+use Rattle.rows.specs.Scans.{lentBig, forestTooLarge, scanOf, cycleBig}
+use Rattle.records.specs.Cells.{fragmentWrong}
 use Rattle.rows.specs.Cycles.{fresh, storing, storedIn, continuationOf, refuseIf, cycleWith, cycle, keeping, tracerAfter, fragmentAfter}
-use Rattle.rows.specs.Calls.{Setting, Call, stores, finishes, partsAt, forestIn, forestOf, refusing, callIn, recordAt, callDone, callWritten, through, written, ending, told, scanned, replayed, replayedFragment}
+use Rattle.rows.specs.Calls.{Setting, partsAt, forestIn, forestOf, refusing, callDone, callWritten, through, written, ending, told, scanned, replayed, replayedFragment}
+use Rattle.records.specs.CallRecords.{Call, stores, finishes, callIn, recordAt}
 use Rattle.rows.specs.SingleCalls.{singleDone, singleWritten, singlyThrough, singlyWritten}
 use Rattle.rows.proofs.CallSteps.{told-number}
 use Rattle.rows.proofs.PartScans.{never, part-big, part-too-large}

@@ -6,14 +6,14 @@ use Prim.Native.Nat.{ℕ, _+_, _*_, _/_}
 use lib.Dec.{ltb}
 use lib.ListN.{length, getD}
 use Rattle.groups.specs.Answer.{Answer, accepted, refused, pick}
-use Rattle.rows.specs.Addresses.{startedAt, startTold, startStep, afterStart, endAt, endTold, endStep, afterEnd}
-use Rattle.rows.specs.declared.replay.DecoderState.{DecoderState}
-use Rattle.rows.specs.declared.replay.Positions.{Positions}
-use Rattle.rows.specs.declared.replay.NodeEndData.{NodeEndData}
-use Rattle.rows.specs.declared.replay.Started.{Started}
-use Rattle.rows.specs.declared.replay.StartStep.{StartStep}
-use Rattle.rows.specs.declared.replay.Ended.{Ended}
-use Rattle.rows.specs.declared.replay.EndStep.{EndStep}
+use Rattle.records.specs.Addresses.{startedAt, startTold, startStep, afterStart, endAt, endTold, endStep, afterEnd}
+use Rattle.records.specs.declared.replay.DecoderState.{DecoderState}
+use Rattle.records.specs.declared.replay.Positions.{Positions}
+use Rattle.records.specs.declared.replay.NodeEndData.{NodeEndData}
+use Rattle.records.specs.declared.replay.Started.{Started}
+use Rattle.records.specs.declared.replay.StartStep.{StartStep}
+use Rattle.records.specs.declared.replay.Ended.{Ended}
+use Rattle.records.specs.declared.replay.EndStep.{EndStep}
 
 -- of any look-up that a start goes by
 module _ (at : Positions) (state : DecoderState) (step : StartStep) where

@@ -6,32 +6,33 @@ use lib.Dec.{leb, ltb, eqb}
 use lib.ListN.{length}
 use Rattle.groups.specs.Answer.{Answer, accepted, refused, andThen, pick, number}
 use Rattle.groups.specs.declared.helpers.OperationHelperRegisters.{OperationHelperRegisters}
-use Rattle.rows.specs.declared.profile.Profile.{Profile}
-use Rattle.rows.specs.declared.replay.DecoderState.{DecoderState}
-use Rattle.rows.specs.declared.replay.Positions.{Positions}
-use Rattle.rows.specs.declared.state.SystemState.{SystemState}
-use Rattle.rows.specs.declared.state.StackState.{StackState}
-use Rattle.rows.specs.declared.state.SystemCols.{SystemCols}
-use Rattle.rows.specs.declared.state.StackCols.{StackCols}
-use Rattle.rows.specs.declared.continuation.Continuation.{Continuation}
-use Rattle.rows.specs.declared.continuation.LoopCondition.{LoopCondition}
-use Rattle.rows.specs.declared.continuation.CalleeWord.{CalleeWord}
-use Rattle.rows.specs.declared.continuation.ContextInfo.{ContextInfo}
-use Rattle.rows.specs.declared.continuation.Captured.{Captured}
-use Rattle.rows.specs.declared.continuation.StoredValues.{StoredValues}
-use Rattle.rows.specs.declared.continuation.Used.{Used}
+use Rattle.records.specs.declared.profile.Profile.{Profile}
+use Rattle.records.specs.declared.replay.DecoderState.{DecoderState}
+use Rattle.records.specs.declared.replay.Positions.{Positions}
+use Rattle.records.specs.declared.state.SystemState.{SystemState}
+use Rattle.records.specs.declared.state.StackState.{StackState}
+use Rattle.records.specs.declared.state.SystemCols.{SystemCols}
+use Rattle.records.specs.declared.state.StackCols.{StackCols}
+use Rattle.records.specs.declared.continuation.Continuation.{Continuation}
+use Rattle.records.specs.declared.continuation.LoopCondition.{LoopCondition}
+use Rattle.records.specs.declared.continuation.CalleeWord.{CalleeWord}
+use Rattle.records.specs.declared.continuation.ContextInfo.{ContextInfo}
+use Rattle.records.specs.declared.continuation.Captured.{Captured}
+use Rattle.records.specs.declared.continuation.StoredValues.{StoredValues}
+use Rattle.records.specs.declared.continuation.Used.{Used}
 use Rattle.rows.specs.declared.made.MadeRow.{MadeRow}
 use Rattle.rows.specs.declared.made.Made.{Made}
 use Rattle.rows.specs.declared.scan.Scan.{Scan}
 use Rattle.rows.specs.declared.tracer.StoredContinuation.{StoredContinuation}
 use Rattle.rows.specs.declared.tracer.CoreTraceGenerationTracer.{CoreTraceGenerationTracer}
 use Rattle.rows.specs.declared.tracer.TracerFinalState.{TracerFinalState}
-use Rattle.rows.specs.Forests.{Forest}
-use Rattle.rows.specs.Addresses.{Queues}
-use Rattle.rows.specs.Built.{builtSystem, builtStack, noSystem, noStack}
+use Rattle.records.specs.Forests.{Forest}
+use Rattle.records.specs.Addresses.{Queues}
+use Rattle.records.specs.Built.{builtSystem, builtStack, noSystem, noStack}
 use Rattle.rows.specs.Made.{place, made}
-use Rattle.rows.specs.Cells.{rowCells, putRow}
-use Rattle.rows.specs.Scans.{scanOf, cycleBig, fragmentWrong}
+use Rattle.records.specs.Cells.{rowCells, putRow}
+use Rattle.rows.specs.Scans.{scanOf, cycleBig}
+use Rattle.records.specs.Cells.{fragmentWrong}
 
 -- "a fresh tracer (nothing stored, no refusal, no row)"
 unfoldable pub fresh : DecoderState → Positions → CoreTraceGenerationTracer

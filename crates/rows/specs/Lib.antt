@@ -1,10 +1,4 @@
-pub mod Profiles
-pub mod Forests
-pub mod Addresses
-pub mod DecoderRows
-pub mod Built
 pub mod Made
-pub mod Cells
 pub mod Scans
 pub mod Cycles
 pub mod Calls

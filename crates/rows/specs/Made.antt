@@ -12,27 +12,27 @@ use Rattle.groups.specs.declared.word.Word.{Word}
 use Rattle.groups.specs.declared.batch.Block.{Block}
 use Rattle.groups.specs.declared.context.OpContext.{OpContext}
 use Rattle.groups.specs.declared.helpers.OperationHelperRegisters.{OperationHelperRegisters}
-use Rattle.rows.specs.declared.ids.MastNodeId.{MastNodeId}
-use Rattle.rows.specs.declared.profile.Profile.{Profile}
-use Rattle.rows.specs.declared.forest.Node.{Node}
-use Rattle.rows.specs.declared.replay.DecoderState.{DecoderState}
-use Rattle.rows.specs.declared.replay.Positions.{Positions}
-use Rattle.rows.specs.declared.decoder_row.DecoderRow.{DecoderRow}
-use Rattle.rows.specs.declared.decoder_row.EndBlockStackEntryKind.{EndBlockStackEntryKind}
-use Rattle.rows.specs.declared.continuation.Continuation.{Continuation}
-use Rattle.rows.specs.declared.continuation.Captured.{Captured}
-use Rattle.rows.specs.declared.continuation.LoopCondition.{LoopCondition}
-use Rattle.rows.specs.declared.continuation.CalleeWord.{CalleeWord}
-use Rattle.rows.specs.declared.continuation.ContextInfo.{ContextInfo}
-use Rattle.rows.specs.declared.continuation.ExecutionContextInfo.{ExecutionContextInfo}
-use Rattle.rows.specs.declared.continuation.Used.{Used}
+use Rattle.records.specs.declared.ids.MastNodeId.{MastNodeId}
+use Rattle.records.specs.declared.profile.Profile.{Profile}
+use Rattle.records.specs.declared.forest.Node.{Node}
+use Rattle.records.specs.declared.replay.DecoderState.{DecoderState}
+use Rattle.records.specs.declared.replay.Positions.{Positions}
+use Rattle.records.specs.declared.decoder_row.DecoderRow.{DecoderRow}
+use Rattle.records.specs.declared.decoder_row.EndBlockStackEntryKind.{EndBlockStackEntryKind}
+use Rattle.records.specs.declared.continuation.Continuation.{Continuation}
+use Rattle.records.specs.declared.continuation.Captured.{Captured}
+use Rattle.records.specs.declared.continuation.LoopCondition.{LoopCondition}
+use Rattle.records.specs.declared.continuation.CalleeWord.{CalleeWord}
+use Rattle.records.specs.declared.continuation.ContextInfo.{ContextInfo}
+use Rattle.records.specs.declared.continuation.ExecutionContextInfo.{ExecutionContextInfo}
+use Rattle.records.specs.declared.continuation.Used.{Used}
 use Rattle.rows.specs.declared.made.MadeRow.{MadeRow}
 use Rattle.rows.specs.declared.made.Made.{Made}
 use Rattle.rows.specs.declared.made.Finish.{Finish}
 use Rattle.rows.specs.declared.made.KindFound.{KindFound}
-use Rattle.rows.specs.Forests.{Forest, nodeAt, digestAt, opcodeAt, blockOf}
-use Rattle.rows.specs.Addresses.{Queues, startedAt, afterStart, endAt, stateAfterEnd, afterEnd, respanStep}
-use Rattle.rows.specs.DecoderRows.{noWord, controlFlow, basicBlockBatch, operation, flagWord}
+use Rattle.records.specs.Forests.{Forest, nodeAt, digestAt, opcodeAt, blockOf}
+use Rattle.records.specs.Addresses.{Queues, startedAt, afterStart, endAt, stateAfterEnd, afterEnd, respanStep}
+use Rattle.records.specs.DecoderRows.{noWord, controlFlow, basicBlockBatch, operation, flagWord}
 
 -- where a cycle stands: the address state and the queue positions
 pub record Place : Type 0 where

@@ -8,23 +8,23 @@ use Rattle.field.specs.Modulus.{P}
 use Rattle.groups.specs.Answer.{pick}
 use Rattle.groups.specs.Helpers.{registerCells}
 use Rattle.groups.specs.declared.helpers.OperationHelperRegisters.{OperationHelperRegisters}
-use Rattle.rows.specs.declared.profile.Profile.{Profile}
-use Rattle.rows.specs.declared.state.SystemState.{SystemState}
-use Rattle.rows.specs.declared.state.StackState.{StackState}
-use Rattle.rows.specs.declared.state.SystemCols.{SystemCols}
-use Rattle.rows.specs.declared.state.StackCols.{StackCols}
-use Rattle.rows.specs.declared.replay.DecoderState.{DecoderState}
-use Rattle.rows.specs.declared.continuation.CalleeWord.{CalleeWord}
-use Rattle.rows.specs.declared.continuation.ContextInfo.{ContextInfo}
-use Rattle.rows.specs.declared.continuation.Captured.{Captured}
+use Rattle.records.specs.declared.profile.Profile.{Profile}
+use Rattle.records.specs.declared.state.SystemState.{SystemState}
+use Rattle.records.specs.declared.state.StackState.{StackState}
+use Rattle.records.specs.declared.state.SystemCols.{SystemCols}
+use Rattle.records.specs.declared.state.StackCols.{StackCols}
+use Rattle.records.specs.declared.replay.DecoderState.{DecoderState}
+use Rattle.records.specs.declared.continuation.CalleeWord.{CalleeWord}
+use Rattle.records.specs.declared.continuation.ContextInfo.{ContextInfo}
+use Rattle.records.specs.declared.continuation.Captured.{Captured}
 use Rattle.rows.specs.declared.tracer.CoreTraceGenerationTracer.{CoreTraceGenerationTracer}
 use Rattle.rows.specs.declared.scan.Scan.{Scan}
 use Rattle.field.specs.Bounds.{anyFrom}
-use Rattle.rows.specs.Profiles.{profileWrong}
-use Rattle.rows.specs.Forests.{Forest}
-use Rattle.rows.specs.Addresses.{Queues}
-use Rattle.rows.specs.DecoderRows.{wordCells}
-use Rattle.rows.specs.Built.{systemCells, cells16, stackCells}
+use Rattle.records.specs.Profiles.{profileWrong}
+use Rattle.records.specs.Forests.{Forest}
+use Rattle.records.specs.Addresses.{Queues}
+use Rattle.records.specs.DecoderRows.{wordCells}
+use Rattle.records.specs.Built.{systemCells, cells16, stackCells}
 
 -- Refusal 1, of what is lent: "input cell ≥ p, used or not, .. whole queues and forest included .., or operation opcode ≥ 128"
 unfoldable pub lentBig : Forest → Queues → Bool
@@ -79,6 +79,3 @@ cycleCells system stack registers t =
 unfoldable pub cycleBig : SystemState → StackState → OperationHelperRegisters → CoreTraceGenerationTracer → Bool
 cycleBig system stack registers t = anyFrom P (cycleCells system stack registers t)
 
--- Refusal 11 of a finish, of its fragment: "buffer no multiple of 49, over 2^24 rows, fewer rows than said"
-unfoldable pub fragmentWrong : (cells rows : ℕ) → Bool
-fragmentWrong cells rows = ltb 0 (cells % 49) || (ltb 16777216 (cells / 49) || ltb (cells / 49) rows)

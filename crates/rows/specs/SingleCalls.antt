@@ -4,7 +4,8 @@ use Prim.Native.Nat.{ℕ, zero, suc}
 use Rattle.groups.specs.Answer.{Answer, accepted, refused}
 use Rattle.rows.specs.declared.tracer.CoreTraceGenerationTracer.{CoreTraceGenerationTracer}
 use Rattle.rows.specs.Cycles.{storedIn, cycle, tracerAfter, fragmentAfter}
-use Rattle.rows.specs.Calls.{Setting, Call, stores, finishes, forestOf, refusing, callIn, recordAt}
+use Rattle.rows.specs.Calls.{Setting, forestOf, refusing}
+use Rattle.records.specs.CallRecords.{Call, stores, finishes, callIn, recordAt}
 
 -- the tracer after a call: that of `start_clock_cycle` or `finalize_clock_cycle`. The scan of the setting is not used
 unfoldable pub singleDone : Setting → CoreTraceGenerationTracer → Answer Call → CoreTraceGenerationTracer

@@ -1,29 +1,29 @@
 // Replay: a list of storings and cycles, lent as records, on a fresh tracer over one fragment. All records are run without the fragment
 // first; where one refuses, its number is answered and nothing is written.
-use crate::call_record::RegistersFound;
-use crate::call_record::Small;
-use crate::call_record::StoredFound;
-use crate::call_record::SystemFound;
-use crate::call_record::narrow;
-use crate::call_record::registers_at;
-use crate::call_record::stack_at;
-use crate::call_record::stored_at;
-use crate::call_record::system_at;
+use records::call_record::RegistersFound;
+use records::call_record::Small;
+use records::call_record::StoredFound;
+use records::call_record::SystemFound;
+use records::call_record::narrow;
+use records::call_record::registers_at;
+use records::call_record::stack_at;
+use records::call_record::stored_at;
+use records::call_record::system_at;
 use crate::cycle::cycle_with;
 use crate::cycle::kept;
 use crate::directory::part_of_cells;
 use crate::directory::part_of_numbers;
 use crate::directory::part_of_opcodes;
 use crate::directory::parts_at;
-use crate::profile::Profile;
-use crate::replay::DecoderState;
-use crate::replay::Positions;
+use records::profile::Profile;
+use records::replay::DecoderState;
+use records::replay::Positions;
 use crate::scan::Scan;
 use crate::scan::scan_lent;
-use crate::state::StackCols;
-use crate::state::StackState;
-use crate::state::SystemCols;
-use crate::state::SystemState;
+use records::state::StackCols;
+use records::state::StackState;
+use records::state::SystemCols;
+use records::state::SystemState;
 use crate::tracer::CoreTraceGenerationTracer;
 use field::cell::cell;
 use groups::helpers::OperationHelperRegisters;
@@ -31,9 +31,10 @@ ghost use mathlib.Core.Path.{_≡_};
 ghost use Prim.Native.Nat.{_/_};
 ghost use lib.ListN.{length};
 ghost use Rattle.groups.specs.Answer.{accepted, pick};
-ghost use Rattle.rows.specs.Forests.{forest};
-ghost use Rattle.rows.specs.Addresses.{queues};
-ghost use Rattle.rows.specs.Calls.{setting, scanned, refusing, storedInRecord, storingDone, finishIn, finishes, callIn, callDone, callWritten, through, written, ending, builtCells, nextState, nextPositions, told, replayed, replayedFragment};
+ghost use Rattle.records.specs.Forests.{forest};
+ghost use Rattle.records.specs.Addresses.{queues};
+ghost use Rattle.rows.specs.Calls.{setting, scanned, refusing, storingDone, callDone, callWritten, through, written, ending, builtCells, nextState, nextPositions, told, replayed, replayedFragment};
+ghost use Rattle.records.specs.CallRecords.{storedInRecord, finishIn, finishes, callIn};
 
 // What a replay answers: 0 or the refusal's number, and on 0 how many rows are written, the cells built last (clk, ctx, fn_hash 4; top
 // 16, b0, b1, helper), and the address state and queue positions for the next fragment. On a refusal all others are 0.

@@ -1,15 +1,15 @@
 // The checks of a finish that look at everything lent. Profile, forest and queues do not change between cycles, so what a scan of them
 // finds is a value of its own.
-use crate::continuation::CalleeWord;
-use crate::continuation::ContextInfo;
-use crate::profile::Profile;
-use crate::profile::any_big_opcode;
-use crate::profile::is_wrong;
-use crate::replay::DecoderState;
-use crate::state::StackCols;
-use crate::state::StackState;
-use crate::state::SystemCols;
-use crate::state::SystemState;
+use records::continuation::CalleeWord;
+use records::continuation::ContextInfo;
+use records::profile::Profile;
+use records::profile::any_big_opcode;
+use records::profile::is_wrong;
+use records::replay::DecoderState;
+use records::state::StackCols;
+use records::state::StackState;
+use records::state::SystemCols;
+use records::state::SystemState;
 use crate::tracer::CoreTraceGenerationTracer;
 use field::cell::any_big;
 use field::felt::Felt;
@@ -21,8 +21,8 @@ ghost use Prim.Native.Nat.{_+_, _*_, _/_, _≤_, _<_};
 ghost use lib.ListN.{length};
 ghost use Rattle.field.specs.Modulus.{P};
 ghost use Rattle.field.specs.Bounds.{anyFrom};
-ghost use Rattle.rows.specs.Forests.{forest};
-ghost use Rattle.rows.specs.Addresses.{queues};
+ghost use Rattle.records.specs.Forests.{forest};
+ghost use Rattle.records.specs.Addresses.{queues};
 ghost use Rattle.rows.specs.Scans.{lentBig, anyLongBlock, anyLargeBatch, forestTooLarge, scanOf, calleeCells, infoCells, stateCells, tracerCells, cycleBig};
 
 // What a scan finds: a cell or opcode that is too big (1), a wrong profile (2), a forest past its limits (11).

@@ -1,14 +1,14 @@
 // The tracer of one fragment: what is stored for the next row, the address state and queue positions, and the cells last built.
-use crate::continuation::CalleeWord;
-use crate::continuation::Captured;
-use crate::continuation::ContextInfo;
-use crate::continuation::Continuation;
-use crate::continuation::LoopCondition;
-use crate::continuation::StoredValues;
-use crate::replay::DecoderState;
-use crate::replay::Positions;
-use crate::state::StackCols;
-use crate::state::SystemCols;
+use records::continuation::CalleeWord;
+use records::continuation::Captured;
+use records::continuation::ContextInfo;
+use records::continuation::Continuation;
+use records::continuation::LoopCondition;
+use records::continuation::StoredValues;
+use records::replay::DecoderState;
+use records::replay::Positions;
+use records::state::StackCols;
+use records::state::SystemCols;
 ghost use mathlib.Core.Path.{_≡_};
 ghost use Rattle.rows.specs.Cycles.{fresh, storedIn, lastSystem, lastStack, finalState};
 

@@ -18,26 +18,27 @@ use Rattle.groups.specs.declared.word.Word.{Word}
 use Rattle.groups.specs.declared.batch.Batch.{Batch}
 use Rattle.groups.specs.declared.helpers.OperationHelperRegisters.{OperationHelperRegisters}
 use Rattle.groups.specs.declared.batch.Block.{Block}
-use Rattle.rows.specs.declared.ids.MastNodeId.{MastNodeId}
-use Rattle.rows.specs.declared.profile.Profile.{Profile}
-use Rattle.rows.specs.declared.forest.Node.{Node}
-use Rattle.rows.specs.declared.replay.Positions.{Positions}
-use Rattle.rows.specs.declared.continuation.LoopCondition.{LoopCondition}
-use Rattle.rows.specs.declared.continuation.CalleeWord.{CalleeWord}
-use Rattle.rows.specs.declared.continuation.ContextInfo.{ContextInfo}
-use Rattle.rows.specs.declared.continuation.Continuation.{Continuation}
-use Rattle.rows.specs.declared.continuation.Captured.{Captured}
-use Rattle.rows.specs.declared.continuation.Used.{Used}
+use Rattle.records.specs.declared.ids.MastNodeId.{MastNodeId}
+use Rattle.records.specs.declared.profile.Profile.{Profile}
+use Rattle.records.specs.declared.forest.Node.{Node}
+use Rattle.records.specs.declared.replay.Positions.{Positions}
+use Rattle.records.specs.declared.continuation.LoopCondition.{LoopCondition}
+use Rattle.records.specs.declared.continuation.CalleeWord.{CalleeWord}
+use Rattle.records.specs.declared.continuation.ContextInfo.{ContextInfo}
+use Rattle.records.specs.declared.continuation.Continuation.{Continuation}
+use Rattle.records.specs.declared.continuation.Captured.{Captured}
+use Rattle.records.specs.declared.continuation.Used.{Used}
 use Rattle.rows.specs.declared.made.MadeRow.{MadeRow}
 use Rattle.rows.specs.declared.made.Finish.{Finish}
-use Rattle.rows.specs.declared.state.SystemState.{SystemState}
-use Rattle.rows.specs.declared.state.StackState.{StackState}
+use Rattle.records.specs.declared.state.SystemState.{SystemState}
+use Rattle.records.specs.declared.state.StackState.{StackState}
 use Rattle.rows.specs.declared.tracer.StoredContinuation.{StoredContinuation}
 use Rattle.rows.specs.declared.tracer.CoreTraceGenerationTracer.{CoreTraceGenerationTracer}
-use Rattle.rows.specs.Forests.{Forest, isSlot, nodeOf, nodeAt, digestAt, opcodeAt, blockOf}
-use Rattle.rows.specs.Addresses.{Queues, entryAt, startedAt, afterStart, endAt}
-use Rattle.rows.specs.Profiles.{profileWrong}
-use Rattle.rows.specs.Scans.{lentBig, forestTooLarge, scanOf, cycleBig, fragmentWrong}
+use Rattle.records.specs.Forests.{Forest, isSlot, nodeOf, nodeAt, digestAt, opcodeAt, blockOf}
+use Rattle.records.specs.Addresses.{Queues, entryAt, startedAt, afterStart, endAt}
+use Rattle.records.specs.Profiles.{profileWrong}
+use Rattle.rows.specs.Scans.{lentBig, forestTooLarge, scanOf, cycleBig}
+use Rattle.records.specs.Cells.{fragmentWrong}
 use Rattle.rows.specs.Made.{Place, place, calleeOf, infoOf, conditionOf, startBlock, startTwo, startOne, startDyn, startDyncall, startKind, startNode, callKind, dynKind, blockKind, entryKind, finished, bodyOf, repeated, finishLoop, operationMade, resumed, respanned, made}
 use Rattle.rows.specs.Cycles.{continuationOf, refuseIf, cycleWith, cycle}
 

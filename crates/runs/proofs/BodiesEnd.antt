@@ -8,11 +8,11 @@ use borrow.Author.Tests.{eqb-true, ne-eqb}
 use lib.Dec.{eqb}
 use Rattle.groups.specs.Answer.{pick}
 use Rattle.groups.specs.declared.batch.Block.{Block}
-use Rattle.rows.specs.declared.profile.Profile.{Profile}
-use Rattle.rows.specs.declared.replay.DecoderState.{DecoderState}
-use Rattle.rows.specs.Forests.{Forest}
-use Rattle.rows.specs.Addresses.{Queues, respanStep}
-use Rattle.rows.specs.Profiles.{opcodes, profileWrong}
+use Rattle.records.specs.declared.profile.Profile.{Profile}
+use Rattle.records.specs.declared.replay.DecoderState.{DecoderState}
+use Rattle.records.specs.Forests.{Forest}
+use Rattle.records.specs.Addresses.{Queues, respanStep}
+use Rattle.records.specs.Profiles.{opcodes, profileWrong}
 use Rattle.rows.specs.Made.{Place}
 use Rattle.passes.specs.Buffers.{addrOf, h4Of}
 use Rattle.passes.specs.Passes.{opcodeOf, bodyEnds, anyWithoutBody, loopWithoutBody}

@@ -11,14 +11,14 @@ use Rattle.field.specs.Modulus.{P}
 use Rattle.field.specs.Inverse.{inverseOf}
 use Rattle.field.proofs.InverseLaws.{inverse-below}
 use Rattle.groups.specs.Answer.{pick}
-use Rattle.rows.specs.declared.profile.Profile.{Profile}
+use Rattle.records.specs.declared.profile.Profile.{Profile}
 use Rattle.field.specs.Bounds.{anyFrom}
-use Rattle.rows.specs.DecoderRows.{controlFlow, decoderCells}
-use Rattle.rows.specs.Built.{reversed16}
+use Rattle.records.specs.DecoderRows.{controlFlow, decoderCells}
+use Rattle.records.specs.Built.{reversed16}
 use Rattle.passes.specs.Buffers.{flat, lastRow, addrOf}
 use Rattle.passes.specs.Passes.{withSides, firstRow, laterRows, fixedUp, opcodeOf, flaggedEnd, bodyEnds, withCounts, multiplied, inverted, haltDecoder, haltStack, haltRow, halted, paddingRow, paddingRows, padded}
 use Rattle.passes.proofs.Checks.{neither}
-use Rattle.rows.proofs.Bits.{bit-mul}
+use Rattle.records.proofs.Bits.{bit-mul}
 
 unfoldable pub Below : List ℕ → Type 0
 Below [] = Unit {0}

@@ -5,12 +5,12 @@ use mathlib.Core.List.{List, [], _∷_}
 use Prim.Native.Nat.{ℕ, suc, _+_}
 use native.Mathlib.Omega.{arith}
 use Rattle.groups.specs.declared.batch.Block.{Block}
-use Rattle.rows.specs.declared.profile.Profile.{Profile}
-use Rattle.rows.specs.declared.replay.DecoderState.{DecoderState}
-use Rattle.rows.specs.Forests.{Forest}
-use Rattle.rows.specs.Profiles.{twoEqual}
-use Rattle.rows.specs.Addresses.{respanStep}
-use Rattle.rows.specs.DecoderRows.{bit}
+use Rattle.records.specs.declared.profile.Profile.{Profile}
+use Rattle.records.specs.declared.replay.DecoderState.{DecoderState}
+use Rattle.records.specs.Forests.{Forest}
+use Rattle.records.specs.Profiles.{twoEqual}
+use Rattle.records.specs.Addresses.{respanStep}
+use Rattle.records.specs.DecoderRows.{bit}
 use Rattle.readings.specs.Readings.{Ask, passesIn, endRowOf, asksOf, asksOfPasses}
 use Rattle.runs.specs.Happened.{Cycle}
 use Rattle.runs.specs.ProperRuns.{withLoop, loopStarts, InBlock, Run, RunPasses, opsFrom, treeFrom, passesFrom}

@@ -16,19 +16,20 @@ use Rattle.groups.specs.GroupsLeft.{counts, doubled, roundUp, groupsOf, sumGrou
 use Rattle.groups.specs.Contexts.{tooLarge, consumed, opContext, contextInGroup, contextAtOp, contextAtBatchStart}
 use Rattle.groups.specs.Helpers.{allBelow, registerCells, u32Values, helpersOf, helpersAnswer}
 use Rattle.groups.specs.declared.helpers.OperationHelperRegisters.{OperationHelperRegisters}
-use Rattle.rows.specs.declared.continuation.Continuation.{Continuation}
-use Rattle.rows.specs.declared.continuation.LoopCondition.{LoopCondition}
-use Rattle.rows.specs.declared.continuation.CalleeWord.{CalleeWord}
-use Rattle.rows.specs.declared.continuation.ContextInfo.{ContextInfo}
+use Rattle.records.specs.declared.continuation.Continuation.{Continuation}
+use Rattle.records.specs.declared.continuation.LoopCondition.{LoopCondition}
+use Rattle.records.specs.declared.continuation.CalleeWord.{CalleeWord}
+use Rattle.records.specs.declared.continuation.ContextInfo.{ContextInfo}
 use Rattle.field.specs.Bounds.{anyFrom}
-use Rattle.rows.specs.Profiles.{opcodes, isOneOf, twoEqual, lacksBits, profileWrong}
-use Rattle.rows.specs.Forests.{Forest, isSlot, nodeId, slotBlock, nodeOf, nodeAt, digestAt, opcodeAt, blockOf}
-use Rattle.rows.specs.Addresses.{Queues, entryAt, startedAt, endAt, respanStep}
-use Rattle.rows.specs.DecoderRows.{controlFlow, basicBlockBatch, operation, decoderCells}
-use Rattle.rows.specs.Built.{builtSystem, builtStack, noSystem, noStack, systemCells, stackCells}
+use Rattle.records.specs.Profiles.{opcodes, isOneOf, twoEqual, lacksBits, profileWrong}
+use Rattle.records.specs.Forests.{Forest, isSlot, nodeId, slotBlock, nodeOf, nodeAt, digestAt, opcodeAt, blockOf}
+use Rattle.records.specs.Addresses.{Queues, entryAt, startedAt, endAt, respanStep}
+use Rattle.records.specs.DecoderRows.{controlFlow, basicBlockBatch, operation, decoderCells}
+use Rattle.records.specs.Built.{builtSystem, builtStack, noSystem, noStack, systemCells, stackCells}
 use Rattle.rows.specs.Made.{Place, startBlock, startTwo, startOne, startDyn, startDyncall, startKind, startNode, callKind, dynKind, blockKind, entryKind, finished, bodyOf, repeated, finishLoop, operationMade, resumed, respanned, made}
-use Rattle.rows.specs.Cells.{rowCells, putRow}
-use Rattle.rows.specs.Scans.{lentBig, anyLongBlock, anyLargeBatch, forestTooLarge, scanOf, stateCells, tracerCells, fixedCells, cycleCells, cycleBig, fragmentWrong}
+use Rattle.records.specs.Cells.{rowCells, putRow}
+use Rattle.rows.specs.Scans.{lentBig, anyLongBlock, anyLargeBatch, forestTooLarge, scanOf, stateCells, tracerCells, fixedCells, cycleCells, cycleBig}
+use Rattle.records.specs.Cells.{fragmentWrong}
 use Rattle.rows.specs.Cycles.{fresh, storedIn, cycleWith, cycle, leftAfter, tracerAfter, lastSystem, lastStack, fragmentAfter, finalState}
 use Rattle.passes.specs.Buffers.{rowsOf, flat, onRows, lastRow, addrOf}
 use Rattle.passes.specs.Passes.{withSides, firstRow, laterRows, fixedUp, builtOf, lowBits, opcodeOf, flaggedEnd, bodyEnds, withCounts, anyWithoutBody, multiplied, loopWithoutBody, inverted, haltDecoder, haltStack, haltRow, halted, paddingRow, paddingRows, padded, rowsBig, bufferWrong, fewerRows, sumOf, anyAbove, notFull, firstOf, fragmentsWrong, heightWrong, refusalAll, lastBuilt, allPasses}

@@ -8,10 +8,10 @@ use native.Mathlib.Omega.{arith}
 use lib.Dec.{eqb}
 use lib.ListN.{length, getD, length-append}
 use Rattle.groups.specs.Answer.{pick}
-use Rattle.rows.specs.declared.profile.Profile.{Profile}
-use Rattle.rows.specs.declared.replay.DecoderState.{DecoderState}
-use Rattle.rows.specs.Forests.{Forest}
-use Rattle.rows.specs.Profiles.{twoEqual, profileWrong}
+use Rattle.records.specs.declared.profile.Profile.{Profile}
+use Rattle.records.specs.declared.replay.DecoderState.{DecoderState}
+use Rattle.records.specs.Forests.{Forest}
+use Rattle.records.specs.Profiles.{twoEqual, profileWrong}
 use Rattle.passes.specs.Buffers.{lastRow, h4Of}
 use Rattle.passes.specs.Passes.{fixedUp, opcodeOf, multiplied, inverted, haltRow, halted, paddingRows, padded}
 use Rattle.passes.proofs.RowLists.{Wide, wide-app}

@@ -11,22 +11,22 @@ use Rattle.field.specs.Modulus.{P}
 use Rattle.groups.specs.Answer.{Answer, accepted, refused, pick}
 use Rattle.groups.specs.Batches.{batchAt}
 use Rattle.groups.specs.declared.batch.Batch.{Batch}
-use Rattle.rows.specs.declared.profile.Profile.{Profile}
-use Rattle.rows.specs.declared.forest.Node.{Node}
-use Rattle.rows.specs.declared.replay.DecoderState.{DecoderState}
-use Rattle.rows.specs.declared.continuation.Continuation.{Continuation}
-use Rattle.rows.specs.declared.continuation.StoredValues.{StoredValues}
+use Rattle.records.specs.declared.profile.Profile.{Profile}
+use Rattle.records.specs.declared.forest.Node.{Node}
+use Rattle.records.specs.declared.replay.DecoderState.{DecoderState}
+use Rattle.records.specs.declared.continuation.Continuation.{Continuation}
+use Rattle.records.specs.declared.continuation.StoredValues.{StoredValues}
 use Rattle.rows.specs.declared.made.MadeRow.{MadeRow}
 use Rattle.rows.specs.declared.tracer.StoredContinuation.{StoredContinuation}
 use Rattle.rows.specs.declared.tracer.CoreTraceGenerationTracer.{CoreTraceGenerationTracer}
-use Rattle.rows.specs.Forests.{Forest, nodeAt, opcodeAt, blockOf}
-use Rattle.rows.specs.Addresses.{Queues, startedAt, endAt}
+use Rattle.records.specs.Forests.{Forest, nodeAt, opcodeAt, blockOf}
+use Rattle.records.specs.Addresses.{Queues, startedAt, endAt}
 use Rattle.field.specs.Bounds.{anyFrom}
 use Rattle.rows.specs.Scans.{lentBig, cycleBig}
 use Rattle.rows.specs.Made.{Place, conditionOf}
-use Rattle.rows.specs.DecoderRows.{decoderCells}
-use Rattle.rows.specs.Built.{systemCells, stackCells}
-use Rattle.rows.specs.Cells.{rowCells, putRow}
+use Rattle.records.specs.DecoderRows.{decoderCells}
+use Rattle.records.specs.Built.{systemCells, stackCells}
+use Rattle.records.specs.Cells.{rowCells, putRow}
 use Rattle.passes.specs.Buffers.{flat}
 use Rattle.passes.specs.Passes.{sumOf}
 use Rattle.rows.specs.Cycles.{fresh, storing, storedIn, tracerAfter, fragmentAfter, finalState, lastSystem, lastStack}

@@ -12,22 +12,23 @@ use Rattle.field.specs.Modulus.{P}
 use Rattle.groups.specs.Answer.{Answer, accepted, andThen, number}
 use Rattle.groups.specs.Helpers.{registerCells}
 use Rattle.groups.specs.declared.helpers.OperationHelperRegisters.{OperationHelperRegisters}
-use Rattle.rows.specs.declared.profile.Profile.{Profile}
-use Rattle.rows.specs.declared.replay.DecoderState.{DecoderState}
-use Rattle.rows.specs.declared.state.SystemState.{SystemState}
-use Rattle.rows.specs.declared.state.StackState.{StackState}
-use Rattle.rows.specs.declared.continuation.Continuation.{Continuation}
-use Rattle.rows.specs.declared.continuation.Captured.{Captured}
-use Rattle.rows.specs.declared.continuation.StoredValues.{StoredValues}
+use Rattle.records.specs.declared.profile.Profile.{Profile}
+use Rattle.records.specs.declared.replay.DecoderState.{DecoderState}
+use Rattle.records.specs.declared.state.SystemState.{SystemState}
+use Rattle.records.specs.declared.state.StackState.{StackState}
+use Rattle.records.specs.declared.continuation.Continuation.{Continuation}
+use Rattle.records.specs.declared.continuation.Captured.{Captured}
+use Rattle.records.specs.declared.continuation.StoredValues.{StoredValues}
 use Rattle.rows.specs.declared.made.MadeRow.{MadeRow}
 use Rattle.rows.specs.declared.tracer.StoredContinuation.{StoredContinuation}
 use Rattle.rows.specs.declared.tracer.CoreTraceGenerationTracer.{CoreTraceGenerationTracer}
-use Rattle.rows.specs.Forests.{Forest}
-use Rattle.rows.specs.Addresses.{Queues}
-use Rattle.rows.specs.Profiles.{profileWrong}
-use Rattle.rows.specs.DecoderRows.{wordCells}
-use Rattle.rows.specs.Built.{builtSystem, builtStack, noSystem, noStack, systemCells, cells16, stackCells}
-use Rattle.rows.specs.Scans.{lentBig, forestTooLarge, scanOf, calleeCells, infoCells, stateCells, tracerCells, fixedCells, cycleCells, cycleBig, fragmentWrong}
+use Rattle.records.specs.Forests.{Forest}
+use Rattle.records.specs.Addresses.{Queues}
+use Rattle.records.specs.Profiles.{profileWrong}
+use Rattle.records.specs.DecoderRows.{wordCells}
+use Rattle.records.specs.Built.{builtSystem, builtStack, noSystem, noStack, systemCells, cells16, stackCells}
+use Rattle.rows.specs.Scans.{lentBig, forestTooLarge, scanOf, calleeCells, infoCells, stateCells, tracerCells, fixedCells, cycleCells, cycleBig}
+use Rattle.records.specs.Cells.{fragmentWrong}
 use Rattle.rows.specs.Made.{Place, place, made}
 use Rattle.rows.specs.Cycles.{fresh, continuationOf, refuseIf, cycleWith, cycle, tracerAfter}
 use Rattle.passes.specs.Passes.{fixedUp, builtOf}

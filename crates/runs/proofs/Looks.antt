@@ -9,15 +9,15 @@ use borrow.Author.Tests.{lt-ltb, eq-eqb}
 use lib.Dec.{eqb}
 use lib.ListN.{getD}
 use Rattle.groups.specs.Answer.{pick}
-use Rattle.rows.specs.declared.profile.Profile.{Profile}
-use Rattle.rows.specs.declared.replay.DecoderState.{DecoderState}
-use Rattle.rows.specs.declared.decoder_row.DecoderRow.{DecoderRow}
-use Rattle.rows.specs.declared.state.SystemCols.{SystemCols}
-use Rattle.rows.specs.declared.state.StackCols.{StackCols}
-use Rattle.rows.specs.Profiles.{opcodes, profileWrong}
-use Rattle.rows.specs.DecoderRows.{bit, opBits, decoderCells}
-use Rattle.rows.specs.Built.{systemCells}
-use Rattle.rows.specs.Cells.{rowCells}
+use Rattle.records.specs.declared.profile.Profile.{Profile}
+use Rattle.records.specs.declared.replay.DecoderState.{DecoderState}
+use Rattle.records.specs.declared.decoder_row.DecoderRow.{DecoderRow}
+use Rattle.records.specs.declared.state.SystemCols.{SystemCols}
+use Rattle.records.specs.declared.state.StackCols.{StackCols}
+use Rattle.records.specs.Profiles.{opcodes, profileWrong}
+use Rattle.records.specs.DecoderRows.{bit, opBits, decoderCells}
+use Rattle.records.specs.Built.{systemCells}
+use Rattle.records.specs.Cells.{rowCells}
 use Rattle.passes.specs.Buffers.{addrOf, h4Of}
 use Rattle.passes.specs.Passes.{lowBits, opcodeOf}
 use Rattle.readings.specs.Tokens.{OneChild, Kind, Token, opcodeOfKind, controlToken, isOpOpcode, opToken, countOf, allBits, tokenOf}

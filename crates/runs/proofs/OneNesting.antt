@@ -3,9 +3,9 @@ use mathlib.Core.Path.{_≡_, _∙_, sym}
 use mathlib.Core.Bool.{Bool}
 use mathlib.Core.List.{List, []}
 use Prim.Native.Nat.{ℕ}
-use Rattle.rows.specs.declared.profile.Profile.{Profile}
-use Rattle.rows.specs.Forests.{Forest}
-use Rattle.rows.specs.Addresses.{Queues}
+use Rattle.records.specs.declared.profile.Profile.{Profile}
+use Rattle.records.specs.Forests.{Forest}
+use Rattle.records.specs.Addresses.{Queues}
 use Rattle.rows.specs.Made.{Place}
 use Rattle.readings.proofs.OneReading.{one-tree}
 use Rattle.runs.specs.Calls.{Fragment}

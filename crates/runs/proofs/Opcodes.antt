@@ -7,9 +7,9 @@ use native.Mathlib.Omega.{arith}
 use borrow.Author.Tests.{leb-false, eqb-false, ne-eqb, not-true}
 use lib.Dec.{leb, eqb}
 use lib.ListN.{length, getD}
-use Rattle.rows.specs.declared.profile.Profile.{Profile}
+use Rattle.records.specs.declared.profile.Profile.{Profile}
 use Rattle.field.specs.Bounds.{anyFrom}
-use Rattle.rows.specs.Profiles.{opcodes, isOneOf, twoEqual, profileWrong}
+use Rattle.records.specs.Profiles.{opcodes, isOneOf, twoEqual, profileWrong}
 use Rattle.passes.proofs.Checks.{neither}
 use Rattle.readings.specs.Tokens.{controls, controlOpcodes, isOpOpcode}
 

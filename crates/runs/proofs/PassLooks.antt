@@ -11,11 +11,11 @@ use lib.ListN.{length, take, drop, getD, set, length-append, length-take, length
 use lib.Seq.{take-at, drop-at, take-take, drop-drop, take-set-le, take-set-lt, drop-set-add, getD-take, getD-drop, getD-set-same, getD-set-other, take-nil, drop-nil}
 use Rattle.field.specs.Inverse.{inverseOf}
 use Rattle.groups.specs.Answer.{pick}
-use Rattle.rows.specs.declared.profile.Profile.{Profile}
-use Rattle.rows.specs.Profiles.{opcodes, profileWrong}
-use Rattle.rows.specs.DecoderRows.{noWord, controlFlow, decoderCells}
-use Rattle.rows.specs.Built.{reversed16, noSystem, noStack, systemCells}
-use Rattle.rows.specs.Cells.{rowCells}
+use Rattle.records.specs.declared.profile.Profile.{Profile}
+use Rattle.records.specs.Profiles.{opcodes, profileWrong}
+use Rattle.records.specs.DecoderRows.{noWord, controlFlow, decoderCells}
+use Rattle.records.specs.Built.{reversed16, noSystem, noStack, systemCells}
+use Rattle.records.specs.Cells.{rowCells}
 use Rattle.passes.specs.Buffers.{addrOf, h4Of}
 use Rattle.passes.specs.Passes.{withSides, firstRow, laterRows, fixedUp, lowBits, opcodeOf, flaggedEnd, bodyEnds, withCounts, multiplied, inverted, firstHalf, haltDecoder, haltStack, haltRow, paddingRow, paddingRows}
 use Rattle.passes.proofs.RowLists.{Wide}

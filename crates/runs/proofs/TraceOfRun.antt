@@ -10,11 +10,11 @@ use lib.ListN.{length, take, drop, length-take, length-drop}
 use lib.Seq.{take-at}
 use Rattle.field.specs.Modulus.{P}
 use Rattle.groups.specs.declared.batch.Block.{Block}
-use Rattle.rows.specs.declared.profile.Profile.{Profile}
-use Rattle.rows.specs.Forests.{Forest}
-use Rattle.rows.specs.Addresses.{Queues}
+use Rattle.records.specs.declared.profile.Profile.{Profile}
+use Rattle.records.specs.Forests.{Forest}
+use Rattle.records.specs.Addresses.{Queues}
 use Rattle.field.specs.Bounds.{anyFrom}
-use Rattle.rows.specs.Profiles.{profileWrong}
+use Rattle.records.specs.Profiles.{profileWrong}
 use Rattle.rows.specs.Made.{Place}
 use Rattle.passes.specs.Buffers.{rowsOf, flat, onRows}
 use Rattle.passes.specs.Passes.{fixedUp, builtOf, multiplied, inverted, halted, padded, sumOf, anyAbove, rowsBig, bufferWrong, fewerRows, noFragment, fragmentsWrong, heightWrong, firstOf, lastBuilt, refusal1, refusal2, refusal5, unlessRefused, refusalAll, allPasses}

@@ -9,21 +9,21 @@ use borrow.Author.Tests.{ne-eqb, eq-eqb}
 use lib.Dec.{eqb}
 use lib.ListN.{length, take, drop}
 use Rattle.groups.specs.Answer.{Answer, accepted, refused}
-use Rattle.rows.specs.declared.profile.Profile.{Profile}
-use Rattle.rows.specs.declared.decoder_row.DecoderRow.{DecoderRow}
-use Rattle.rows.specs.declared.state.SystemCols.{SystemCols}
-use Rattle.rows.specs.declared.state.StackCols.{StackCols}
-use Rattle.rows.specs.declared.continuation.Continuation.{Continuation}
-use Rattle.rows.specs.declared.continuation.StoredValues.{StoredValues}
+use Rattle.records.specs.declared.profile.Profile.{Profile}
+use Rattle.records.specs.declared.decoder_row.DecoderRow.{DecoderRow}
+use Rattle.records.specs.declared.state.SystemCols.{SystemCols}
+use Rattle.records.specs.declared.state.StackCols.{StackCols}
+use Rattle.records.specs.declared.continuation.Continuation.{Continuation}
+use Rattle.records.specs.declared.continuation.StoredValues.{StoredValues}
 use Rattle.rows.specs.declared.made.MadeRow.{MadeRow}
 use Rattle.rows.specs.declared.tracer.StoredContinuation.{StoredContinuation}
 use Rattle.rows.specs.declared.tracer.CoreTraceGenerationTracer.{CoreTraceGenerationTracer}
 use Rattle.rows.specs.declared.tracer.TracerFinalState.{TracerFinalState}
-use Rattle.rows.specs.Addresses.{Queues}
+use Rattle.records.specs.Addresses.{Queues}
 use Rattle.rows.specs.Made.{Place}
-use Rattle.rows.specs.DecoderRows.{decoderCells}
-use Rattle.rows.specs.Built.{builtSystem, builtStack, noSystem, noStack, systemCells, stackCells}
-use Rattle.rows.specs.Cells.{rowCells}
+use Rattle.records.specs.DecoderRows.{decoderCells}
+use Rattle.records.specs.Built.{builtSystem, builtStack, noSystem, noStack, systemCells, stackCells}
+use Rattle.records.specs.Cells.{rowCells}
 use Rattle.rows.specs.Cycles.{fresh, tracerAfter, finalState, lastSystem, lastStack}
 use Rattle.passes.specs.Passes.{withSides, firstRow, laterRows, fixedUp, builtOf}
 use Rattle.runs.specs.Calls.{Handed, Call, store, finish, Fragment, Held, answered, after, numberOf, afterAll, Accepted, opened, closed, placeOf, AllAccepted, finalStates, countsOf, builtCells, OneSize}

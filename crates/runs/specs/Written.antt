@@ -3,12 +3,12 @@ use mathlib.Core.List.{List, [], _∷_, _++_}
 use Prim.Native.Nat.{ℕ}
 use lib.ListN.{take, drop}
 use Rattle.groups.specs.Answer.{Answer, accepted, refused}
-use Rattle.rows.specs.declared.profile.Profile.{Profile}
+use Rattle.records.specs.declared.profile.Profile.{Profile}
 use Rattle.rows.specs.declared.made.MadeRow.{MadeRow}
 use Rattle.rows.specs.declared.tracer.CoreTraceGenerationTracer.{CoreTraceGenerationTracer}
-use Rattle.rows.specs.Addresses.{Queues}
+use Rattle.records.specs.Addresses.{Queues}
 use Rattle.rows.specs.Made.{Place}
-use Rattle.rows.specs.Cells.{rowCells}
+use Rattle.records.specs.Cells.{rowCells}
 use Rattle.rows.specs.Cycles.{lastSystem, lastStack}
 use Rattle.runs.specs.Calls.{Call, store, finish, Fragment, Held, answered, after, opened, closed, placeOf}
 

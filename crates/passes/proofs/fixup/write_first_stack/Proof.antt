@@ -4,8 +4,8 @@ use mathlib.Core.List.{List, [], _∷_, _++_}
 use Prim.Native.Nat.{ℕ}
 use native.Mathlib.Omega.{arith}
 use borrow.Author.Needs.{needs}
-use Rattle.rows.specs.Built.{reversed16}
-use Rattle.rows.proofs.Rooms.{copy-fits}
+use Rattle.records.specs.Built.{reversed16}
+use Rattle.records.proofs.Rooms.{copy-fits}
 use Rattle.passes.specs.Passes.{firstRow}
 use Rattle.passes.proofs.Sides.{stack-copied}
 use Rattle.passes.proofs.fixup.write_first_stack.Statement.{statement}

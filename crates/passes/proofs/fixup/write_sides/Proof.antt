@@ -5,7 +5,7 @@ use native.Mathlib.Omega.{arith}
 use borrow.Author.Needs.{needs}
 use lib.ListN.{length, take, drop, length-take, length-drop}
 use lib.Seq.{paste, length-take-le, take-all}
-use Rattle.rows.proofs.Rooms.{copy-fits}
+use Rattle.records.proofs.Rooms.{copy-fits}
 use Rattle.passes.proofs.Sides.{length-paste, sides-copied}
 use Rattle.passes.proofs.fixup.write_sides.Statement.{statement}
 use Rattle.passes.proofs.fixup.write_sides.Tie as tie

@@ -7,9 +7,9 @@ use borrow.Author.Needs.{needs}
 use lib.Dec.{leb}
 use lib.ListN.{length}
 use Rattle.field.specs.Modulus.{P}
-use Rattle.rows.specs.declared.profile.Profile.{Profile}
+use Rattle.records.specs.declared.profile.Profile.{Profile}
 use Rattle.field.specs.Bounds.{anyFrom}
-use Rattle.rows.specs.Profiles.{profileWrong}
+use Rattle.records.specs.Profiles.{profileWrong}
 use Rattle.passes.specs.Passes.{firstOf, rowsBig, bufferWrong, refusal4}
 use Rattle.passes.proofs.Refusals.{fewer-more}
 use Rattle.passes.proofs.halt.halt_refusal.Statement.{statement}

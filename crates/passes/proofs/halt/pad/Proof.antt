@@ -6,12 +6,12 @@ use native.Mathlib.Omega.{arith}
 use borrow.Author.Needs.{needs}
 use lib.ListN.{length, take, drop}
 use lib.Seq.{take-take}
-use Rattle.rows.specs.declared.profile.Profile.{Profile}
-use Rattle.rows.specs.DecoderRows.{noWord, controlFlow}
-use Rattle.rows.specs.Built.{stackCells}
+use Rattle.records.specs.declared.profile.Profile.{Profile}
+use Rattle.records.specs.DecoderRows.{noWord, controlFlow}
+use Rattle.records.specs.Built.{stackCells}
 use Rattle.passes.specs.Buffers.{rowsOf, onRows, lastRow}
-use Rattle.rows.specs.Cells.{rowCells}
-use Rattle.rows.proofs.Rooms.{row-fits}
+use Rattle.records.specs.Cells.{rowCells}
+use Rattle.records.proofs.Rooms.{row-fits}
 use Rattle.passes.specs.Passes.{firstHalf, padded}
 use Rattle.passes.proofs.RowLists.{length-put}
 use Rattle.passes.proofs.HaltRows.{last-stack, length-row, padding-row, padded-none, put-padding}

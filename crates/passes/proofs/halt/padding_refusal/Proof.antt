@@ -6,8 +6,8 @@ use Prim.Native.Nat.{ℕ}
 use borrow.Author.Needs.{needs}
 use lib.Dec.{ltb, eqb}
 use lib.ListN.{length}
-use Rattle.rows.specs.declared.profile.Profile.{Profile}
-use Rattle.rows.specs.Profiles.{profileWrong}
+use Rattle.records.specs.declared.profile.Profile.{Profile}
+use Rattle.records.specs.Profiles.{profileWrong}
 use Rattle.passes.specs.Passes.{firstOf, rowsBig, bufferWrong, fewerRows, refusal5}
 use Rattle.passes.proofs.halt.padding_refusal.Statement.{statement}
 use Rattle.passes.proofs.halt.padding_refusal.Tie as tie

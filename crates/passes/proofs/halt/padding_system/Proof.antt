@@ -1,6 +1,6 @@
 -- `halt::padding_system` meets its contract.
 use mathlib.Core.Path.{refl}
-use Rattle.rows.specs.Built.{systemCells}
+use Rattle.records.specs.Built.{systemCells}
 use Rattle.passes.proofs.halt.padding_system.Statement.{statement}
 use Rattle.passes.proofs.halt.padding_system.Tie as tie
 

@@ -6,7 +6,7 @@ use native.Mathlib.Omega.{arith}
 use borrow.Author.Needs.{needs}
 use lib.ListN.{length, drop}
 use lib.Seq.{take-take}
-use Rattle.rows.proofs.Rooms.{row-fits}
+use Rattle.records.proofs.Rooms.{row-fits}
 use Rattle.passes.specs.Buffers.{rowsOf, lastRow}
 use Rattle.passes.proofs.HaltRows.{halt-row, put-halt}
 use Rattle.passes.proofs.halt.push_halt.Statement.{statement}

@@ -1,8 +1,8 @@
 -- `halt::stack_of` meets its contract.
 use native.Mathlib.Omega.{arith}
 use borrow.Author.Needs.{needs}
-use Rattle.rows.specs.Built.{stackCells}
-use Rattle.rows.proofs.Windows.{read-take}
+use Rattle.records.specs.Built.{stackCells}
+use Rattle.records.proofs.Windows.{read-take}
 use Rattle.passes.proofs.halt.stack_of.Statement.{statement}
 use Rattle.passes.proofs.halt.stack_of.Tie as tie
 

@@ -2,8 +2,8 @@
 use native.Mathlib.Omega.{arith}
 use borrow.Author.Needs.{needs}
 use Rattle.groups.specs.Words.{wordAt}
-use Rattle.rows.specs.Built.{systemCells}
-use Rattle.rows.proofs.Windows.{read-take}
+use Rattle.records.specs.Built.{systemCells}
+use Rattle.records.proofs.Windows.{read-take}
 use Rattle.passes.proofs.halt.system_of.Statement.{statement}
 use Rattle.passes.proofs.halt.system_of.Tie as tie
 

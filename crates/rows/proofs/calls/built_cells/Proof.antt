@@ -1,7 +1,7 @@
 -- `calls::built_cells` meets its contract.
 use mathlib.Core.Path.{refl}
 use Rattle.rows.specs.Calls.{builtCells}
-use Rattle.rows.specs.Built.{systemCells, stackCells}
+use Rattle.records.specs.Built.{systemCells, stackCells}
 use borrow.Author.Needs.{needs}
 use Rattle.rows.proofs.calls.built_cells.Statement.{statement}
 use Rattle.rows.proofs.calls.built_cells.Tie as tie

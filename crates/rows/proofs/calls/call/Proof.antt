@@ -2,7 +2,7 @@
 use mathlib.Core.Path.{sym, _∙_}
 use borrow.Author.Needs.{needs}
 use borrow.Author.Tests.{eq-eqb, ne-eqb}
-use Rattle.rows.specs.Calls.{storedInRecord, callIn}
+use Rattle.records.specs.CallRecords.{storedInRecord, callIn}
 use Rattle.rows.proofs.Picks.{pick-same}
 use Rattle.rows.proofs.CallSteps.{storing-done, storing-written}
 use Rattle.rows.proofs.calls.call.Statement.{statement}

@@ -1,6 +1,7 @@
 -- `calls::cycle_call` meets its contract: what the record encodes, in the order of the refusals.
 use borrow.Author.Needs.{needs}
-use Rattle.rows.specs.Calls.{finishIn, callDone, callWritten}
+use Rattle.rows.specs.Calls.{callDone, callWritten}
+use Rattle.records.specs.CallRecords.{finishIn}
 use Rattle.rows.proofs.Picks.{pick-same}
 use Rattle.rows.proofs.calls.cycle_call.Statement.{statement}
 use Rattle.rows.proofs.calls.cycle_call.Tie as tie

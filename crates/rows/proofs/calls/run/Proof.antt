@@ -5,8 +5,8 @@ use native.Mathlib.Omega.{arith}
 use borrow.Author.Needs.{needs}
 use lib.ListN.{length}
 use Rattle.groups.specs.Answer.{pick}
-use Rattle.rows.specs.Forests.{forest}
-use Rattle.rows.specs.Addresses.{queues}
+use Rattle.records.specs.Forests.{forest}
+use Rattle.records.specs.Addresses.{queues}
 use Rattle.rows.specs.Calls.{setting, through, written}
 use Rattle.rows.proofs.Picks.{pick-same}
 use Rattle.rows.proofs.CallSteps.{Ran, ran-none, ran-more}

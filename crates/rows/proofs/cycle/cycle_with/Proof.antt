@@ -2,7 +2,7 @@
 use borrow.Author.Needs.{needs}
 use Rattle.rows.specs.Cycles.{tracerAfter, fragmentAfter}
 use Rattle.rows.proofs.Picks.{pick-same}
-use Rattle.rows.proofs.Rooms.{row-next}
+use Rattle.records.proofs.Rooms.{row-next}
 use Rattle.rows.proofs.cycle.cycle_with.Statement.{statement}
 use Rattle.rows.proofs.cycle.cycle_with.Tie as tie
 

@@ -1,7 +1,7 @@
 -- `cycle::put_row` meets its contract.
 use mathlib.Core.Path.{_∙_}
 use borrow.Author.Needs.{needs}
-use Rattle.rows.proofs.Rooms.{row-within}
+use Rattle.records.proofs.Rooms.{row-within}
 use Rattle.rows.proofs.cycle.put_row.Statement.{statement}
 use Rattle.rows.proofs.cycle.put_row.Tie as tie
 

@@ -1,6 +1,6 @@
 -- `made::finish_node` meets its contract.
 use borrow.Author.Needs.{needs}
-use Rattle.rows.specs.DecoderRows.{endWord}
+use Rattle.records.specs.DecoderRows.{endWord}
 use Rattle.rows.proofs.Steps.{end-refused, end-moved}
 use Rattle.rows.specs.Made.{finished}
 use Rattle.rows.proofs.made.finish_node.Statement.{statement}

@@ -6,8 +6,8 @@ use Prim.Native.Nat.{ℕ}
 use types.Run.{OneOf, miss}
 use denote.Enum.Declared.{tagOf}
 use Rattle.groups.specs.Answer.{refused}
-use Rattle.rows.specs.declared.forest.Node.{Node}
-use Rattle.rows.proofs.forest.Node.{the-type}
+use Rattle.records.specs.declared.forest.Node.{Node}
+use Rattle.records.proofs.forest.Node.{the-type}
 use Rattle.rows.specs.Made.{repeated, bodyOf}
 use Rattle.rows.proofs.made.repeat_row.Statement.{statement}
 use Rattle.rows.proofs.made.repeat_row.Tie as tie

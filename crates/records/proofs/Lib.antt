@@ -1,0 +1,5 @@
+pub mod Bits
+pub mod EndQueue
+pub mod Rooms
+pub mod Slots
+pub mod Windows

@@ -1,0 +1,18 @@
+-- `call_record::names_nothing` meets its contract.
+use Rattle.records.specs.CallRecords.{namesNothing}
+use Rattle.records.proofs.call_record.names_nothing.Statement.{statement}
+use Rattle.records.proofs.call_record.names_nothing.Tie as tie
+
+returns : tie.Need-returns
+unfolding namesNothing
+returns c = rw (← (c .before .before .before .cell .ensures), ← (c .before .before .cell2 .ensures), ← (c .before .cell3 .ensures), ← (c .cell4 .ensures))
+
+pub names-nothing-spec : {M : Type 1} → statement M
+names-nothing-spec =
+    tie.close
+    (tie.spec
+    (λ c κs. tt)
+    (λ c κs. tt)
+    (λ c κs. tt)
+    (λ c κs. tt)
+    returns)

@@ -1,0 +1,24 @@
+-- `call_record::respan_at` meets its contract.
+use Rattle.records.specs.CallRecords.{respanIn}
+use borrow.Author.Needs.{needs}
+use Rattle.records.proofs.call_record.respan_at.Statement.{statement}
+use Rattle.records.proofs.call_record.respan_at.Tie as tie
+
+returns : tie.Need-returns
+unfolding respanIn
+returns c = rw (← (c .before .before .before .cell .ensures), ← (c .before .before .narrow .ensures 5), c .enum-told .given .1)
+
+returns-2 : tie.Need-returns-2
+unfolding respanIn
+returns-2 c = rw (← (c .before .before .before .before .cell .ensures), ← (c .before .before .before .narrow .ensures 5), c .before .batch .given .1)
+
+pub respan-at-spec : {M : Type 1} → statement M
+respan-at-spec =
+    tie.close
+    (tie.spec
+    (λ c κs. tt)
+    (λ c κs. tt)
+    (λ c. search needs)
+    (λ c. search needs)
+    returns
+    returns-2)

@@ -1,0 +1,18 @@
+-- `StackCols::build` meets its contract.
+use borrow.Author.Needs.{needs}
+use Rattle.records.specs.Built.{builtStack}
+use Rattle.records.proofs.state.StackCols.build.Statement.{statement}
+use Rattle.records.proofs.state.StackCols.build.Tie as tie
+
+returns : tie.Need-returns
+unfolding builtStack
+returns c = rw (c .before .before .reversed .ensures, c .before .overflow-helper .ensures)
+
+pub build-spec : {M : Type 1} → statement M
+build-spec =
+    tie.close
+    (tie.spec
+    (λ c κs. tt)
+    (λ c κs. tt)
+    (λ c. search needs)
+    returns)

@@ -1,0 +1,13 @@
+-- `SystemCols::build` meets its contract.
+use mathlib.Core.Path.{refl}
+use borrow.Author.Needs.{needs}
+use Rattle.records.specs.Built.{builtSystem}
+use Rattle.records.proofs.state.SystemCols.build.Statement.{statement}
+use Rattle.records.proofs.state.SystemCols.build.Tie as tie
+
+returns : tie.Need-returns
+unfolding builtSystem
+returns c = refl
+
+pub build-spec : {M : Type 1} → statement M
+build-spec = tie.close (tie.spec (λ c. search needs) (λ c. search needs) (λ c. search needs) returns)

@@ -1,0 +1,139 @@
+// The address state of the decoder, and the lent queues that move it: block addresses, parent addresses, and three cells an END.
+use field::cell::cell;
+use field::felt::add;
+ghost use mathlib.Core.Path.{_≡_};
+ghost use Prim.Native.Nat.{_+_, _*_, _≤_, _<_};
+ghost use Rattle.records.specs.Addresses.{startStep, endStep, respanStep, endAt, toldEnd};
+
+#[repr(C)]
+pub struct DecoderState {
+    pub current_addr: u64,
+    pub parent_addr: u64,
+}
+
+// How many entries of each queue are used.
+#[repr(C)]
+pub struct Positions {
+    pub addresses: usize,
+    pub parents: usize,
+    pub ends: usize,
+}
+
+// An entry of the end queue: the address that ends, and the state after it.
+pub struct NodeEndData {
+    pub ended_node_addr: u64,
+    pub prev_addr: u64,
+    pub prev_parent_addr: u64,
+}
+
+pub enum EndFound {
+    At(NodeEndData),
+    Missing,
+}
+
+pub enum Started {
+    Moved(Positions),
+    Refused(u32),
+}
+
+// The answer of a start, and the state after it: as it was on a refusal.
+pub struct StartStep {
+    pub answer: Started,
+    pub state: DecoderState,
+}
+
+pub enum Ended {
+    Moved(u64, Positions),
+    Refused(u32),
+}
+
+// The answer of an end, the address that ended first, and the state after it: as it was on a refusal.
+pub struct EndStep {
+    pub answer: Ended,
+    pub state: DecoderState,
+}
+
+// The entry of the end queue at a position, or 22.
+pub fn end_at(ends: &[u64], at: usize) -> EndFound
+    ensures { λ r. ⌜ toldEnd r ≡ endAt (now (ends .entry)) at ⌝ }
+{
+    if ends.len() / 3 <= at {
+        return EndFound::Missing;
+    }
+    EndFound::At(NodeEndData {
+        ended_node_addr: cell(ends, 3 * at),
+        prev_addr: cell(ends, 3 * at + 1),
+        prev_parent_addr: cell(ends, 3 * at + 2),
+    })
+}
+
+// A node starts: its address and its parent's come from their queues. 20, 21: a queue is used up.
+pub fn start_lent(
+    state: DecoderState,
+    addresses: &[u64],
+    parents: &[u64],
+    at: Positions,
+) -> StartStep
+    ensures { λ r. ⌜ r ≡ startStep (now (addresses .entry)) (now (parents .entry)) at state ⌝ }
+{
+    if addresses.len() <= at.addresses {
+        return StartStep {
+            answer: Started::Refused(20),
+            state,
+        };
+    }
+    if parents.len() <= at.parents {
+        return StartStep {
+            answer: Started::Refused(21),
+            state,
+        };
+    }
+    let next = Positions {
+        addresses: at.addresses + 1,
+        parents: at.parents + 1,
+        ends: at.ends,
+    };
+    let moved = DecoderState {
+        current_addr: cell(addresses, at.addresses),
+        parent_addr: cell(parents, at.parents),
+    };
+    StartStep {
+        answer: Started::Moved(next),
+        state: moved,
+    }
+}
+
+// A node ends: the queue's entry gives its address and the state after it. 22: the queue is used up.
+pub fn end_lent(state: DecoderState, ends: &[u64], at: Positions) -> EndStep
+    ensures { λ r. ⌜ r ≡ endStep (now (ends .entry)) at state ⌝ }
+{
+    let EndFound::At(entry) = end_at(ends, at.ends) else {
+        return EndStep {
+            answer: Ended::Refused(22),
+            state,
+        };
+    };
+    let next = Positions {
+        addresses: at.addresses,
+        parents: at.parents,
+        ends: at.ends + 1,
+    };
+    let moved = DecoderState {
+        current_addr: entry.prev_addr,
+        parent_addr: entry.prev_parent_addr,
+    };
+    EndStep {
+        answer: Ended::Moved(entry.ended_node_addr, next),
+        state: moved,
+    }
+}
+
+// A new batch: the current address grows by the step modulo p.
+pub fn respan_step(state: DecoderState, step: u64) -> DecoderState
+    ensures { λ r. ⌜ r ≡ respanStep step state ⌝ }
+{
+    DecoderState {
+        current_addr: add(state.current_addr, step),
+        parent_addr: state.parent_addr,
+    }
+}
