@@ -4,6 +4,7 @@ pub mod Bits
 pub mod CallSteps
 pub mod Cuts
 pub mod EndQueue
+pub mod LentState
 pub mod PartScans
 pub mod Picks
 pub mod ReplaySingly
