@@ -19,9 +19,9 @@ use lists::text::item;
 use lists::text::low32;
 use lists::text::one_if;
 use passes::finish::finish;
+use records::profile::Profile;
 use rows::calls::Replayed;
 use rows::calls::replay_calls;
-use records::profile::Profile;
 ghost use Prim.Native.Nat.{_≤_};
 ghost use lib.ListN.{length};
 
