@@ -19,4 +19,4 @@ returns-2 c =
     rw (c .are .ensures, sym (s .before .all-below .ensures) ∙ not-false _ (s .if1 .left))
 
 pub limbs-spec : {M : Type 1} → statement M
-limbs-spec = tie.close (tie.spec (λ c κs. search needs) returns (λ c κs. search needs) returns-2)
+limbs-spec = tie.close (tie.spec (λ c κs. tt) returns (λ c κs. search needs) returns-2)

@@ -21,4 +21,4 @@ returns-2 c =
 pub limbs-and-inverse-spec : {M : Type 1} → statement M
 limbs-and-inverse-spec =
     tie.close
-    (tie.spec (λ c κs. search needs) returns (λ c κs. search needs) (λ c κs. search needs) (λ c κs. search needs) returns-2)
+    (tie.spec (λ c κs. tt) returns (λ c κs. search needs) (λ c κs. search needs) (λ c κs. search needs) returns-2)

@@ -29,9 +29,9 @@ pub rows-big-spec : {M : Type 1} → statement M
 rows-big-spec =
     tie.close
     (tie.spec
-    (λ c κs. search needs)
+    (λ c κs. tt)
     returns
     (λ c. search needs)
     slice-aggregate-any-big
-    (λ c κs. search needs)
+    (λ c κs. tt)
     returns-2)

@@ -57,19 +57,19 @@ pub finish-refusal-spec : {M : Type 1} → statement M
 finish-refusal-spec =
     tie.close
     (tie.spec
-    (λ c κs. search needs)
+    (λ c κs. tt)
     returns
-    (λ c κs. search needs)
+    (λ c κs. tt)
     returns-2
-    (λ c κs. search needs)
+    (λ c κs. tt)
     returns-3
     (λ c. search needs)
-    (λ c κs. search needs)
-    (λ c κs. search needs)
+    (λ c κs. tt)
+    (λ c κs. tt)
     returns-4
-    (λ c κs. search needs)
+    (λ c κs. tt)
     returns-5
-    (λ c κs. search needs)
+    (λ c κs. tt)
     returns-6
     any-without-body-requires
     returns-7

@@ -9,4 +9,4 @@ unfolding heightWrong
 returns c = rw (c .fewer-rows .ensures)
 
 pub height-wrong-spec : {M : Type 1} → statement M
-height-wrong-spec = tie.close (tie.spec (λ c κs. search needs) returns)
+height-wrong-spec = tie.close (tie.spec (λ c κs. tt) returns)

@@ -37,7 +37,7 @@ any-above-spec =
     Inv-loop
     μ-loop
     (λ c. refl)
-    (λ c κs. search needs)
+    (λ c κs. tt)
     (λ c. search needs)
     (λ c. search needs)
     loop-again

@@ -28,7 +28,7 @@ pub fixup-stack-and-system-rows-spec : {M : Type 1} → statement M
 fixup-stack-and-system-rows-spec =
     tie.close
     (tie.spec
-    (λ c κs. search needs)
+    (λ c κs. tt)
     (λ c. search needs)
     returns
     fixup-rows-requires

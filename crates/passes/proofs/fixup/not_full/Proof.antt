@@ -52,9 +52,9 @@ not-full-spec =
     returns
     (λ c. search needs)
     loop-holds
-    (λ c κs. search needs)
+    (λ c κs. tt)
     (λ c. search needs)
     (λ c. search needs)
     loop-again
-    (λ c κs. search needs)
+    (λ c κs. tt)
     returns-2)

@@ -36,12 +36,12 @@ write-sides-spec =
     (tie.spec
     (λ c. search needs)
     slice-aggregate-copy-in
-    (λ c κs. search needs)
+    (λ c κs. tt)
     (λ c. search needs)
     (λ c. search needs)
     (λ c. search needs)
     (λ c. search needs)
     (λ c. search needs)
-    (λ c κs. search needs)
+    (λ c κs. tt)
     (λ c. search needs)
     returns)

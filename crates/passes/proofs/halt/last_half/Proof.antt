@@ -18,4 +18,4 @@ returns-2 c =
 
 pub last-half-spec : {M : Type 1} → statement M
 last-half-spec =
-    tie.close (tie.spec returns (λ c. search needs) (λ c. search needs) (λ c κs. search needs) returns-2)
+    tie.close (tie.spec returns (λ c. search needs) (λ c. search needs) (λ c κs. tt) returns-2)

@@ -25,7 +25,7 @@ pub pad-core-row-major-spec : {M : Type 1} → statement M
 pad-core-row-major-spec =
     tie.close
     (tie.spec
-    (λ c κs. search needs)
+    (λ c κs. tt)
     (λ c. search needs)
     returns
     pad-requires

@@ -14,4 +14,4 @@ returns c =
     rw (c .before .before .cell .ensures, c .before .cell2 .ensures, c .word-at .ensures) (read-take (s .args .cells .now) 0 6 (omega arith))
 
 pub system-of-spec : {M : Type 1} → statement M
-system-of-spec = tie.close (tie.spec (λ c κs. search needs) (λ c κs. search needs) (λ c κs. search needs) returns)
+system-of-spec = tie.close (tie.spec (λ c κs. tt) (λ c κs. search needs) (λ c κs. search needs) returns)

@@ -26,9 +26,9 @@ pub helper-refusal-spec : {M : Type 1} → statement M
 helper-refusal-spec =
     tie.close
     (tie.spec
-    (λ c κs. search needs)
+    (λ c κs. tt)
     returns
-    (λ c κs. search needs)
-    (λ c κs. search needs)
+    (λ c κs. tt)
+    (λ c κs. tt)
     returns-2
     returns-3)

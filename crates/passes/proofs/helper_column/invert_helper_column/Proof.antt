@@ -24,7 +24,7 @@ pub invert-helper-column-spec : {M : Type 1} → statement M
 invert-helper-column-spec =
     tie.close
     (tie.spec
-    (λ c κs. search needs)
+    (λ c κs. tt)
     (λ c. search needs)
     returns
     invert-helpers-requires

@@ -11,4 +11,4 @@ returns c =
     c .before .before .invert-column .ensures ∙ inverted-rows (s .args .rows) (s .args .buffer .now) (s .pre)
 
 pub invert-helpers-spec : {M : Type 1} → statement M
-invert-helpers-spec = tie.close (tie.spec (λ c κs. search needs) (λ c. search needs) returns)
+invert-helpers-spec = tie.close (tie.spec (λ c κs. tt) (λ c. search needs) returns)

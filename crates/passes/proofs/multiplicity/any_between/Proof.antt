@@ -57,7 +57,7 @@ any-between-spec =
     (λ c κs. omega arith)
     (λ c. omega arith)
     (λ c κs. omega arith)
-    (λ c κs. search needs)
+    (λ c κs. tt)
     returns
     (λ c. omega arith)
     (λ c. omega arith)

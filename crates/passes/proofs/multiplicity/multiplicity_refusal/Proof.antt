@@ -37,12 +37,12 @@ pub multiplicity-refusal-spec : {M : Type 1} → statement M
 multiplicity-refusal-spec =
     tie.close
     (tie.spec
-    (λ c κs. search needs)
+    (λ c κs. tt)
     returns
-    (λ c κs. search needs)
+    (λ c κs. tt)
     returns-2
-    (λ c κs. search needs)
-    (λ c κs. search needs)
+    (λ c κs. tt)
+    (λ c κs. tt)
     returns-3
     any-without-body-requires
     returns-4

@@ -27,7 +27,7 @@ pub set-loop-body-multiplicities-spec : {M : Type 1} → statement M
 set-loop-body-multiplicities-spec =
     tie.close
     (tie.spec
-    (λ c κs. search needs)
+    (λ c κs. tt)
     (λ c. search needs)
     returns
     write-multiplicities-requires

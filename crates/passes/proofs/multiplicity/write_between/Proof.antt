@@ -52,7 +52,7 @@ write-between-spec =
     (λ c κs. omega arith)
     (λ c. omega arith)
     (λ c κs. omega arith)
-    (λ c κs. search needs)
+    (λ c κs. tt)
     (λ c. omega (arith, c .before .before .before .before .before .before .before .loop .inv .2 .size))
     (λ c. omega (arith, c .before .before .before .before .before .before .before .loop .inv .2 .size))
     (λ c. omega (arith, c .before .before .before .before .before .before .before .loop .inv .2 .size))

@@ -20,4 +20,4 @@ returns-2 c =
     rw (ne-eqb _ _ (λ e. c .if1 .left (c .before .cell .ensures ∙ sym (cell-of (a .cells .now) (a .row) (a .k) (search needs) (search needs)) ∙ e)))
 
 pub ask-spec : {M : Type 1} → statement M
-ask-spec = tie.close (tie.spec (λ c. search needs) (λ c. search needs) (λ c κs. search needs) returns returns-2)
+ask-spec = tie.close (tie.spec (λ c. search needs) (λ c. search needs) (λ c κs. tt) returns returns-2)

@@ -27,4 +27,4 @@ returns-2 : tie.Need-returns-2
 returns-2 c = closed-no _ _ _ _ _ (rw (c .before .row-kind .ensures) at (c .match .keys2))
 
 pub close-spec : {M : Type 1} → statement M
-close-spec = tie.close (tie.spec (λ c κs. search needs) (λ c. search needs) ask-requires add-t9 (λ c κs. search needs) returns returns-2)
+close-spec = tie.close (tie.spec (λ c κs. tt) (λ c. search needs) ask-requires add-t9 (λ c κs. search needs) returns returns-2)

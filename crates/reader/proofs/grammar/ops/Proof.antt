@@ -82,7 +82,7 @@ ops-spec =
     Inv-loop
     μ-loop
     loop-holds
-    (λ c κs. search needs)
+    (λ c κs. tt)
     add-at
     loop-less
     loop-again

@@ -22,4 +22,4 @@ unfolding readerRefusal firstOf bufferWrong
 returns-4 c = rw (← (c .before .before .before .before .any-big .ensures), c .before .before .before .if1 .left, ← (c .before .before .is-wrong .ensures), c .before .if2 .left, c .if3 .left)
 
 pub refusal-spec : {M : Type 1} → statement M
-refusal-spec = tie.close (tie.spec (λ c κs. search needs) returns (λ c κs. search needs) returns-2 returns-3 returns-4)
+refusal-spec = tie.close (tie.spec (λ c κs. tt) returns (λ c κs. search needs) returns-2 returns-3 returns-4)

@@ -53,7 +53,7 @@ halts-spec =
     Inv-loop
     μ-loop
     loop-holds
-    (λ c κs. search needs)
+    (λ c κs. tt)
     (λ c. search needs)
     returns
     (λ c. search needs)

@@ -34,4 +34,4 @@ returns-3 c =
     (good-read _ _ d _ e z _ k, filled-depths _ _ d _ e z _ k _ (c .before .before .before .before .if2 .left) (c .before .before .fill .ensures))
 
 pub read-trace-spec : {M : Type 1} → statement M
-read-trace-spec = tie.close (tie.spec (λ c κs. search needs) returns (λ c κs. search needs) returns-2 fill-requires (λ c. search needs) returns-3)
+read-trace-spec = tie.close (tie.spec (λ c κs. tt) returns (λ c κs. search needs) returns-2 fill-requires (λ c. search needs) returns-3)

@@ -8,4 +8,4 @@ returns : tie.Need-returns
 returns c = rw (c .in-field .ensures, c .before .family .ensures) (cells-law (c .before .before .args .self))
 
 pub cells-in-field-spec : {M : Type 1} → statement M
-cells-in-field-spec = tie.close (tie.spec (λ c κs. search needs) (λ c κs. search needs) returns)
+cells-in-field-spec = tie.close (tie.spec (λ c κs. tt) (λ c κs. search needs) returns)

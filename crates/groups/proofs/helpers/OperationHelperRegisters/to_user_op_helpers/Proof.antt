@@ -21,4 +21,4 @@ returns-2 c =
 
 pub to-user-op-helpers-spec : {M : Type 1} → statement M
 to-user-op-helpers-spec =
-    tie.close (tie.spec (λ c κs. search needs) returns (λ c κs. search needs) (λ c κs. search needs) returns-2)
+    tie.close (tie.spec (λ c κs. tt) returns (λ c κs. search needs) (λ c κs. search needs) returns-2)
