@@ -1,6 +1,7 @@
 //! The core trace of Miden VM programs from Rust: safe calls of the proved library, and its comparison with the listed Rust.
 
 pub mod calls;
+pub mod checker;
 #[cfg(all(listed, archive))]
 pub mod compare;
 #[cfg(archive)]
@@ -11,3 +12,4 @@ pub mod listed;
 pub mod listing;
 pub mod profile;
 pub mod random;
+pub mod words;
