@@ -12,4 +12,6 @@ pub mod listed;
 pub mod listing;
 pub mod profile;
 pub mod random;
+#[cfg(all(listed, archive))]
+pub mod reading;
 pub mod words;

@@ -1,0 +1,257 @@
+//! The comparison of the proved reader with the checker: traces as they were written, and with one cell changed.
+
+use std::collections::BTreeMap;
+
+use crate::checker::{Refused, check};
+use crate::compare::column;
+use crate::exports::{WIDTH, read_trace, row};
+use crate::profile::{EXAMPLE, Profile};
+use crate::random::Rng;
+
+const P: u64 = 18446744069414584321;
+const H4: usize = 18;
+const IN_SPAN: usize = 22;
+const GROUP_COUNT: usize = 23;
+
+/// How often the reader accepted, and how often it refused by which number.
+#[derive(Default)]
+pub struct Answers {
+    pub reads: u64,
+    pub accepted: u64,
+    pub refused: BTreeMap<u32, u64>,
+}
+
+impl core::fmt::Display for Answers {
+    fn fmt(&self, f: &mut core::fmt::Formatter<'_>) -> core::fmt::Result {
+        write!(f, "{} reads, {} accepted", self.reads, self.accepted)?;
+        self.refused.iter().try_for_each(|(number, times)| write!(f, ", {times} refused by {number}"))
+    }
+}
+
+impl Answers {
+    fn count(&mut self, answer: &Result<usize, Refused>) {
+        self.reads += 1;
+        match answer {
+            Ok(_) => self.accepted += 1,
+            Err((number, _)) => *self.refused.entry(*number).or_default() += 1,
+        }
+    }
+}
+
+/// What was read.
+#[derive(Default)]
+pub struct Tally {
+    /// Traces as they were written.
+    pub whole: Answers,
+    /// Traces with one cell changed.
+    pub damaged: Answers,
+    /// Traces with a row removed, doubled, exchanged or turned into another, wrong profiles and lengths.
+    pub other: Answers,
+    pub rows: u64,
+    pub views: u64,
+    pub differences: u64,
+    /// The first differences, in words.
+    pub told: Vec<String>,
+}
+
+impl Tally {
+    fn differ(&mut self, text: String) {
+        self.differences += 1;
+        if self.told.len() < 20 {
+            self.told.push(text);
+        }
+    }
+
+    /// The answer and the depth list of both. The list has some number more than it needs, and any numbers before.
+    fn read(&mut self, what: &str, profile: &Profile, cells: &[u64], depth_numbers: usize) -> (Result<usize, Refused>, Vec<u32>) {
+        let before: Vec<u32> = (0..depth_numbers as u32).map(|i| i.wrapping_mul(0x9e37_79b9) | 1 << 20).collect();
+        let (mut ours, mut depths) = (before.clone(), before.clone());
+        let answer = read_trace(*profile, cells, &mut ours).map_err(|refused| (refused.refusal.0, refused.row));
+        let wanted = check(profile, cells, &mut depths);
+        if answer != wanted {
+            self.differ(format!("{what}: the reader answers {answer:?}, the checker {wanted:?}"));
+        }
+        if ours != depths {
+            self.differ(format!("{what}: the depths are not the checker's"));
+        }
+        if answer.is_err() && ours != before {
+            self.differ(format!("{what}: a refusal changed the depths"));
+        }
+        self.rows += (cells.len() / WIDTH) as u64;
+        (answer, ours)
+    }
+
+    /// Reads a trace as it was written. Where its nesting is known it must be accepted with these depths, or, deeper than 64, be refused by
+    /// 15 at the first row that is.
+    pub fn read_back(&mut self, cells: &[u64], nesting: Option<&[u32]>) {
+        let rows = cells.len() / WIDTH;
+        let (answer, depths) = self.read("a written trace", &EXAMPLE, cells, rows + 3);
+        self.whole.count(&answer);
+        let Some(nesting) = nesting else {
+            return;
+        };
+        match nesting.iter().position(|&depth| depth > 64) {
+            Some(row) if answer != Err((15, row)) => self.differ(format!("a trace deeper than 64 at row {row}: {answer:?}")),
+            None if answer != Ok(nesting.len()) => self.differ(format!("a trace of {} program rows: {answer:?}", nesting.len())),
+            None if depths[..nesting.len()] != *nesting || depths[nesting.len()..rows].iter().any(|&d| d != 0) => {
+                self.differ("the depths are not the nesting".into())
+            }
+            _ => {}
+        }
+    }
+
+    /// The view of a row is the caller's own cells, the empty part past the end or where the length is wrong.
+    pub fn view(&mut self, cells: &[u64], number: usize) {
+        let right = number < cells.len() / WIDTH && cells.len().is_multiple_of(WIDTH);
+        let wanted = if right { &cells[number * WIDTH..][..WIDTH] } else { &cells[..0] };
+        if !core::ptr::eq(row(cells, number), wanted) {
+            self.differ(format!("row {number} of {} cells", cells.len()));
+        }
+        self.views += 1;
+    }
+
+    /// Reads a trace back, then 48 times with one cell changed and 8 times with a larger change.
+    pub fn all(&mut self, rng: &Rng, mut cells: Vec<u64>, nesting: Option<&[u32]>) {
+        self.read_back(&cells, nesting);
+        self.view(&cells, rng.below(cells.len() / WIDTH + 1));
+        self.damage(rng, &mut cells, 48);
+        self.reshape(rng, &cells, 8);
+    }
+
+    /// Reads the trace `times` times with one cell changed.
+    pub fn damage(&mut self, rng: &Rng, cells: &mut [u64], times: usize) {
+        let places = Places::new(cells);
+        for _ in 0..times {
+            let (row, cell) = places.pick(rng);
+            let at = row * WIDTH + cell;
+            let before = cells[at];
+            cells[at] = other_value(rng, cells, row, cell);
+            let what = format!("row {row}, {} {before} changed to {}", column(cell), cells[at]);
+            let (answer, _) = self.read(&what, &EXAMPLE, cells, cells.len() / WIDTH);
+            self.damaged.count(&answer);
+            cells[at] = before;
+        }
+    }
+
+    /// Reads the trace `times` times with a larger change.
+    pub fn reshape(&mut self, rng: &Rng, cells: &[u64], times: usize) {
+        for _ in 0..times {
+            let mut changed = cells.to_vec();
+            let rows = cells.len() / WIDTH;
+            let (mut profile, mut depth_numbers) = (EXAMPLE, rows + 1);
+            let what = reshaped(rng, &mut changed, &mut profile, &mut depth_numbers);
+            let (answer, _) = self.read(what, &profile, &changed, depth_numbers);
+            self.other.count(&answer);
+            self.view(&changed, rng.below(rows + 2));
+        }
+    }
+}
+
+/// Rows whose flag or count the reader asks for.
+struct Places {
+    rows: usize,
+    ends: Vec<usize>,
+    loops: Vec<usize>,
+}
+
+fn opcode(row: &[u64]) -> u8 {
+    (0..7).map(|i| (row[7 + i] as u8 & 1) << i).sum()
+}
+
+impl Places {
+    fn new(cells: &[u64]) -> Self {
+        let of = |wanted: u8| cells.chunks(WIDTH).enumerate().filter(|(_, row)| opcode(row) == wanted).map(|(i, _)| i).collect();
+        Self { rows: cells.len() / WIDTH, ends: of(EXAMPLE.end), loops: of(EXAMPLE.loop_op) }
+    }
+
+    /// A row and a cell of it: most often one that the reader looks at.
+    fn pick(&self, rng: &Rng) -> (usize, usize) {
+        let any = rng.below(self.rows);
+        match rng.below(16) {
+            0..=4 => (any, 7 + rng.below(7)),
+            5 | 6 => (any, IN_SPAN),
+            7..=9 if !self.ends.is_empty() => (rng.pick(&self.ends), H4),
+            10 | 11 if !self.loops.is_empty() => (rng.pick(&self.loops), GROUP_COUNT),
+            12 => (any, 6),
+            13 => (any, rng.pick(&[14, H4, GROUP_COUNT, 24])),
+            _ => (any, rng.below(WIDTH)),
+        }
+    }
+}
+
+/// Another value for a cell: a bit mostly turned over, else a small number, the next one up or down, the cell above or below it, a number
+/// from p on, or any cell.
+fn other_value(rng: &Rng, cells: &[u64], row: usize, cell: usize) -> u64 {
+    let before = cells[row * WIDTH + cell];
+    let beside = |other: usize| cells[other.min(cells.len() / WIDTH - 1) * WIDTH + cell];
+    loop {
+        let value = match rng.below(10) {
+            0 => 0,
+            1 => 1,
+            2 => 2,
+            3 => before.wrapping_add(1),
+            4 => before.wrapping_sub(1),
+            5 => beside(row + 1),
+            6 => beside(row.saturating_sub(1)),
+            7 => rng.pick(&[P, P - 1, P + 1, u64::MAX]),
+            8 => rng.next() % P,
+            _ => rng.cell(),
+        };
+        let is_bit = matches!(cell, 7..=13 | H4 | IN_SPAN) && before < 2;
+        let value = if is_bit && rng.one_in(2) { 1 - before } else { value };
+        if value != before {
+            return value;
+        }
+    }
+}
+
+/// One change to the rows, the profile or the lengths; what it is, in words.
+fn reshaped(rng: &Rng, cells: &mut Vec<u64>, profile: &mut Profile, depth_numbers: &mut usize) -> &'static str {
+    let rows = cells.len() / WIDTH;
+    let (a, b) = (rng.below(rows), rng.below(rows));
+    match rng.below(10) {
+        0 => {
+            cells.drain(a * WIDTH..(a + 1) * WIDTH);
+            "a row removed"
+        }
+        1 => {
+            let copy = cells[a * WIDTH..][..WIDTH].to_vec();
+            cells.splice(b * WIDTH..b * WIDTH, copy);
+            "a row put in elsewhere"
+        }
+        2 => {
+            (0..WIDTH).for_each(|i| cells.swap(a * WIDTH + i, b * WIDTH + i));
+            "two rows exchanged"
+        }
+        3..=5 => {
+            let other = rng.pick(&profile.opcodes());
+            (0..7).for_each(|i| cells[a * WIDTH + 7 + i] = u64::from(other >> i & 1));
+            cells[a * WIDTH + IN_SPAN] = u64::from(rng.one_in(8));
+            "another opcode"
+        }
+        6 => {
+            cells.truncate(a * WIDTH);
+            "the end cut off"
+        }
+        7 => {
+            let to = rng.below(cells.len());
+            cells.truncate(to);
+            "the end cut off inside a row"
+        }
+        8 => {
+            *depth_numbers = rng.below(rows + 1);
+            "fewer depth numbers"
+        }
+        _ => {
+            match rng.below(6) {
+                0 => profile.step = rng.pick(&[0, P, P - 1, u64::MAX]),
+                1 => profile.halt = rng.pick(&[32, 64, 96, 28, 127, 252]),
+                2 => profile.push = rng.below(256) as u8,
+                3 => core::mem::swap(&mut profile.join, &mut profile.split),
+                4 => core::mem::swap(&mut profile.push, &mut profile.respan),
+                _ => profile.span = rng.below(256) as u8,
+            }
+            "another profile"
+        }
+    }
+}
