@@ -43,9 +43,11 @@ impl Answers {
 pub struct Tally {
     /// Traces as they were written.
     pub whole: Answers,
-    /// Traces with one cell changed.
+    /// Accepted traces with one cell changed.
     pub damaged: Answers,
-    /// Traces with a row removed, doubled, exchanged or turned into another, wrong profiles and lengths.
+    /// Refused traces with one cell changed.
+    pub refused: Answers,
+    /// Traces with some cells changed, a row removed, put in, exchanged or turned into another, other profiles and lengths.
     pub other: Answers,
     pub rows: u64,
     pub views: u64,
@@ -82,13 +84,13 @@ impl Tally {
     }
 
     /// Reads a trace as it was written. Where its nesting is known it must be accepted with these depths, or, deeper than 64, be refused by
-    /// 15 at the first row that is.
-    pub fn read_back(&mut self, cells: &[u64], nesting: Option<&[u32]>) {
+    /// 15 at the first row that is. Answers whether it is accepted.
+    fn read_back(&mut self, cells: &[u64], nesting: Option<&[u32]>) -> bool {
         let rows = cells.len() / WIDTH;
         let (answer, depths) = self.read("a written trace", &EXAMPLE, cells, rows + 3);
         self.whole.count(&answer);
         let Some(nesting) = nesting else {
-            return;
+            return answer.is_ok();
         };
         match nesting.iter().position(|&depth| depth > 64) {
             Some(row) if answer != Err((15, row)) => self.differ(format!("a trace deeper than 64 at row {row}: {answer:?}")),
@@ -98,10 +100,11 @@ impl Tally {
             }
             _ => {}
         }
+        answer.is_ok()
     }
 
     /// The view of a row is the caller's own cells, the empty part past the end or where the length is wrong.
-    pub fn view(&mut self, cells: &[u64], number: usize) {
+    fn view(&mut self, cells: &[u64], number: usize) {
         let right = number < cells.len() / WIDTH && cells.len().is_multiple_of(WIDTH);
         let wanted = if right { &cells[number * WIDTH..][..WIDTH] } else { &cells[..0] };
         if !core::ptr::eq(row(cells, number), wanted) {
@@ -110,36 +113,35 @@ impl Tally {
         self.views += 1;
     }
 
-    /// Reads a trace back, then 48 times with one cell changed and 8 times with a larger change.
+    /// Reads a trace back, then 100 times with one cell changed (8 times where it is refused) and 16 times with a larger change.
     pub fn all(&mut self, rng: &Rng, mut cells: Vec<u64>, nesting: Option<&[u32]>) {
-        self.read_back(&cells, nesting);
+        let is_accepted = self.read_back(&cells, nesting);
         self.view(&cells, rng.below(cells.len() / WIDTH + 1));
-        self.damage(rng, &mut cells, 48);
-        self.reshape(rng, &cells, 8);
+        self.damage(rng, &mut cells, is_accepted);
+        self.reshape(rng, &cells);
     }
 
-    /// Reads the trace `times` times with one cell changed.
-    pub fn damage(&mut self, rng: &Rng, cells: &mut [u64], times: usize) {
+    fn damage(&mut self, rng: &Rng, cells: &mut [u64], is_accepted: bool) {
         let places = Places::new(cells);
-        for _ in 0..times {
+        for _ in 0..if is_accepted { 100 } else { 8 } {
             let (row, cell) = places.pick(rng);
             let at = row * WIDTH + cell;
             let before = cells[at];
             cells[at] = other_value(rng, cells, row, cell);
             let what = format!("row {row}, {} {before} changed to {}", column(cell), cells[at]);
             let (answer, _) = self.read(&what, &EXAMPLE, cells, cells.len() / WIDTH);
-            self.damaged.count(&answer);
+            if is_accepted { &mut self.damaged } else { &mut self.refused }.count(&answer);
             cells[at] = before;
         }
     }
 
-    /// Reads the trace `times` times with a larger change.
-    pub fn reshape(&mut self, rng: &Rng, cells: &[u64], times: usize) {
-        for _ in 0..times {
+    fn reshape(&mut self, rng: &Rng, cells: &[u64]) {
+        let places = Places::new(cells);
+        for _ in 0..16 {
             let mut changed = cells.to_vec();
             let rows = cells.len() / WIDTH;
             let (mut profile, mut depth_numbers) = (EXAMPLE, rows + 1);
-            let what = reshaped(rng, &mut changed, &mut profile, &mut depth_numbers);
+            let what = reshaped(rng, &places, &mut changed, &mut profile, &mut depth_numbers);
             let (answer, _) = self.read(what, &profile, &changed, depth_numbers);
             self.other.count(&answer);
             self.view(&changed, rng.below(rows + 2));
@@ -164,14 +166,22 @@ impl Places {
         Self { rows: cells.len() / WIDTH, ends: of(EXAMPLE.end), loops: of(EXAMPLE.loop_op) }
     }
 
+    /// An END and its flag, or a LOOP and its count, where there are some.
+    fn asked(&self, rng: &Rng) -> (usize, usize) {
+        match rng.below(5) {
+            0 | 1 if !self.loops.is_empty() => (rng.pick(&self.loops), GROUP_COUNT),
+            _ if !self.ends.is_empty() => (rng.pick(&self.ends), H4),
+            _ => (rng.below(self.rows), H4),
+        }
+    }
+
     /// A row and a cell of it: most often one that the reader looks at.
     fn pick(&self, rng: &Rng) -> (usize, usize) {
         let any = rng.below(self.rows);
         match rng.below(16) {
             0..=4 => (any, 7 + rng.below(7)),
             5 | 6 => (any, IN_SPAN),
-            7..=9 if !self.ends.is_empty() => (rng.pick(&self.ends), H4),
-            10 | 11 if !self.loops.is_empty() => (rng.pick(&self.loops), GROUP_COUNT),
+            7..=11 => self.asked(rng),
             12 => (any, 6),
             13 => (any, rng.pick(&[14, H4, GROUP_COUNT, 24])),
             _ => (any, rng.below(WIDTH)),
@@ -206,10 +216,9 @@ fn other_value(rng: &Rng, cells: &[u64], row: usize, cell: usize) -> u64 {
 }
 
 /// One change to the rows, the profile or the lengths; what it is, in words.
-fn reshaped(rng: &Rng, cells: &mut Vec<u64>, profile: &mut Profile, depth_numbers: &mut usize) -> &'static str {
-    let rows = cells.len() / WIDTH;
-    let (a, b) = (rng.below(rows), rng.below(rows));
-    match rng.below(10) {
+fn reshaped(rng: &Rng, places: &Places, cells: &mut Vec<u64>, profile: &mut Profile, depth_numbers: &mut usize) -> &'static str {
+    let (a, b) = (rng.below(places.rows), rng.below(places.rows));
+    match rng.below(16) {
         0 => {
             cells.drain(a * WIDTH..(a + 1) * WIDTH);
             "a row removed"
@@ -239,8 +248,15 @@ fn reshaped(rng: &Rng, cells: &mut Vec<u64>, profile: &mut Profile, depth_number
             "the end cut off inside a row"
         }
         8 => {
-            *depth_numbers = rng.below(rows + 1);
+            *depth_numbers = rng.below(places.rows + 1);
             "fewer depth numbers"
+        }
+        9..=14 => {
+            for _ in 0..2 + rng.below(4) {
+                let (row, cell) = if rng.one_in(8) { places.pick(rng) } else { places.asked(rng) };
+                cells[row * WIDTH + cell] = other_value(rng, cells, row, cell);
+            }
+            "some cells changed"
         }
         _ => {
             match rng.below(6) {

@@ -1,6 +1,6 @@
 // The calls for programs in other languages. Each passes its arguments on; its contract is that of the function it calls. A slice crosses
-// as a pointer and a length, an array behind a reference as a pointer, a struct by value. Every call takes any numbers and answers 0 or
-// document 01's number of the refusal.
+// as a pointer and a length, an array behind a reference as a pointer, a struct by value; instead of a part of a slice its place is answered.
+// Every call takes any numbers and answers 0 or document 01's number of the refusal; a refused place is empty.
 use field::felt::Felt;
 use field::inverse::inverse;
 use passes::finish::finish;
@@ -53,37 +53,6 @@ pub extern "C" fn core_inverse(x: u64) -> Inverse
         number: 0,
         value: inverse(x),
     }
-}
-
-// Where a row lies among the lent cells: its first cell and how many cells it has, both 0 on a refusal.
-#[repr(C)]
-pub struct Place {
-    pub start: usize,
-    pub cells: usize,
-}
-
-// The place of the row's part of the lent cells, since a part cannot be handed back.
-#[no_mangle]
-pub extern "C" fn core_row(cells: &[u64], number: usize) -> Place
-    ensures { λ r. ⌜ (r .start ≡ rowStart (length (now (cells .entry))) number) × (r .cells ≡ rowCells (length (now (cells .entry))) number) ⌝ }
-{
-    let part = row(cells, number);
-    if part.len() == 0 {
-        return Place { start: 0, cells: 0 };
-    }
-    Place {
-        start: number * 49,
-        cells: part.len(),
-    }
-}
-
-// Reads a trace: the answer, and, where it is accepted, one depth a row.
-#[no_mangle]
-pub extern "C" fn core_read_trace(profile: Profile, cells: &[u64], depths: &mut [u32]) -> TraceRead
-    ensures { λ r. ⌜ r ≡ traceRead (answer profile (now (cells .entry)) (length (now (depths .entry)))) ⌝ }
-    ensures { λ _. ⌜ now (depths .exit) ≡ depthsAfter (length (now (cells .entry)) / 49) (answer profile (now (cells .entry)) (length (now (depths .entry)))) (now (depths .entry)) ⌝ }
-{
-    read_trace(profile, cells, depths)
 }
 
 // Pass 1: the system and stack cells of each fragment's first row.
@@ -204,4 +173,35 @@ pub extern "C" fn core_replay(
         records,
         fragment,
     )
+}
+
+// Reads a trace: the answer, and, where it is accepted, one depth a row.
+#[no_mangle]
+pub extern "C" fn core_read_trace(profile: Profile, cells: &[u64], depths: &mut [u32]) -> TraceRead
+    ensures { λ r. ⌜ r ≡ traceRead (answer profile (now (cells .entry)) (length (now (depths .entry)))) ⌝ }
+    ensures { λ _. ⌜ now (depths .exit) ≡ depthsAfter (length (now (cells .entry)) / 49) (answer profile (now (cells .entry)) (length (now (depths .entry)))) (now (depths .entry)) ⌝ }
+{
+    read_trace(profile, cells, depths)
+}
+
+// Where a row lies among the lent cells: its first cell and how many cells it has, both 0 on a refusal.
+#[repr(C)]
+pub struct Place {
+    pub start: usize,
+    pub cells: usize,
+}
+
+// The place of the row's part of the lent cells, since a part cannot be handed back.
+#[no_mangle]
+pub extern "C" fn core_row(cells: &[u64], number: usize) -> Place
+    ensures { λ r. ⌜ (r .start ≡ rowStart (length (now (cells .entry))) number) × (r .cells ≡ rowCells (length (now (cells .entry))) number) ⌝ }
+{
+    let part = row(cells, number);
+    if part.len() == 0 {
+        return Place { start: 0, cells: 0 };
+    }
+    Place {
+        start: number * 49,
+        cells: part.len(),
+    }
 }

@@ -54,7 +54,8 @@ fn main() {
         reads.all(&reader_rng, written.cells, Some(&written.depths[..written.program_rows]));
     }
     println!("traces as written: {}", reads.whole);
-    println!("one cell changed: {}", reads.damaged);
+    println!("one cell of an accepted trace changed: {}", reads.damaged);
+    println!("one cell of a refused trace changed: {}", reads.refused);
     println!("other changes: {}", reads.other);
     println!("{} rows read, {} row views, {} differences", reads.rows, reads.views, reads.differences);
     for text in &reads.told {
