@@ -243,8 +243,7 @@ fn reshaped(rng: &Rng, places: &Places, cells: &mut Vec<u64>, profile: &mut Prof
             "the end cut off"
         }
         7 => {
-            let to = rng.below(cells.len());
-            cells.truncate(to);
+            cut_inside(rng, cells);
             "the end cut off inside a row"
         }
         8 => {
@@ -267,7 +266,18 @@ fn reshaped(rng: &Rng, places: &Places, cells: &mut Vec<u64>, profile: &mut Prof
                 4 => core::mem::swap(&mut profile.push, &mut profile.respan),
                 _ => profile.span = rng.below(256) as u8,
             }
+            if rng.one_in(3) {
+                cut_inside(rng, cells);
+            }
             "another profile"
         }
+    }
+}
+
+/// Cuts off the end, most often inside a row, and now and then makes the last cell none.
+fn cut_inside(rng: &Rng, cells: &mut Vec<u64>) {
+    cells.truncate(1 + rng.below(cells.len()));
+    if rng.one_in(4) {
+        *cells.last_mut().expect("a cell is left") = P;
     }
 }
