@@ -1,4 +1,5 @@
-//! The core trace of Miden VM programs from Rust: safe calls of the proved library, and its comparison with the listed Rust.
+//! The core trace of Miden VM programs from Rust: safe calls of the proved library, its comparison with the listed Rust, and that of its
+//! reader with a checker in plain Rust.
 
 pub mod calls;
 pub mod checker;
