@@ -43,6 +43,8 @@ impl Answers {
 pub struct Tally {
     /// Traces as they were written.
     pub whole: Answers,
+    /// Those of them whose nesting is known.
+    pub nested: u64,
     /// Accepted traces with one cell changed.
     pub damaged: Answers,
     /// Refused traces with one cell changed.
@@ -92,6 +94,7 @@ impl Tally {
         let Some(nesting) = nesting else {
             return answer.is_ok();
         };
+        self.nested += 1;
         match nesting.iter().position(|&depth| depth > 64) {
             Some(row) if answer != Err((15, row)) => self.differ(format!("a trace deeper than 64 at row {row}: {answer:?}")),
             None if answer != Ok(nesting.len()) => self.differ(format!("a trace of {} program rows: {answer:?}", nesting.len())),
@@ -258,14 +261,7 @@ fn reshaped(rng: &Rng, places: &Places, cells: &mut Vec<u64>, profile: &mut Prof
             "some cells changed"
         }
         _ => {
-            match rng.below(6) {
-                0 => profile.step = rng.pick(&[0, P, P - 1, u64::MAX]),
-                1 => profile.halt = rng.pick(&[32, 64, 96, 28, 127, 252]),
-                2 => profile.push = rng.below(256) as u8,
-                3 => core::mem::swap(&mut profile.join, &mut profile.split),
-                4 => core::mem::swap(&mut profile.push, &mut profile.respan),
-                _ => profile.span = rng.below(256) as u8,
-            }
+            other_profile(rng, profile);
             if rng.one_in(3) {
                 cut_inside(rng, cells);
             }
@@ -279,5 +275,17 @@ fn cut_inside(rng: &Rng, cells: &mut Vec<u64>) {
     cells.truncate(1 + rng.below(cells.len()));
     if rng.one_in(4) {
         *cells.last_mut().expect("a cell is left") = P;
+    }
+}
+
+/// Another profile, wrong or right.
+fn other_profile(rng: &Rng, profile: &mut Profile) {
+    match rng.below(6) {
+        0 => profile.step = rng.pick(&[0, P, P - 1, u64::MAX]),
+        1 => profile.halt = rng.pick(&[32, 64, 96, 28, 127, 252]),
+        2 => profile.push = rng.below(256) as u8,
+        3 => core::mem::swap(&mut profile.join, &mut profile.split),
+        4 => core::mem::swap(&mut profile.push, &mut profile.respan),
+        _ => profile.span = rng.below(256) as u8,
     }
 }

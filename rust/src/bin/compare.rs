@@ -53,7 +53,7 @@ fn main() {
         let written = word(&reader_rng, deep);
         reads.all(&reader_rng, written.cells, Some(&written.depths[..written.program_rows]));
     }
-    println!("traces as written: {}", reads.whole);
+    println!("traces as written: {}; of {} the nesting is known", reads.whole, reads.nested);
     println!("one cell of an accepted trace changed: {}", reads.damaged);
     println!("one cell of a refused trace changed: {}", reads.refused);
     println!("other changes: {}", reads.other);
