@@ -49,7 +49,7 @@ fn main() {
     }
     // Traces from the grammar, half of them near the deepest that is read.
     for n in 0..runs as usize / 4 {
-        let deep = if n.is_multiple_of(2) { 1 + n / 2 % 64 } else { 60 + n / 2 % 8 };
+        let deep = if n.is_multiple_of(2) { 1 + n / 2 % 64 } else { reader_rng.pick(&[63, 64, 64, 64, 65, 66]) };
         let written = word(&reader_rng, deep);
         reads.all(&reader_rng, written.cells, Some(&written.depths[..written.program_rows]));
     }
