@@ -99,8 +99,8 @@ fn first_refused(lent: &Forests, run: &Run, state: DecoderState, at: Positions, 
     (high - 1, refuses(high).expect("the whole list is refused").0)
 }
 
-/// Carries out a run on both sides, and its passes.
-pub fn compare_run(run: &Run, rng: &Rng, tally: &mut Tally) {
+/// Carries out a run on both sides, and its passes. Answers the finished trace, where there is one.
+pub fn compare_run(run: &Run, rng: &Rng, tally: &mut Tally) -> Option<Vec<u64>> {
     tally.runs += 1;
     let lent = Forests::new(&run.forests);
     let forests: Vec<_> = run.forests.iter().map(convert::forest).collect();
@@ -145,7 +145,7 @@ pub fn compare_run(run: &Run, rng: &Rng, tally: &mut Tally) {
         tally.calls += accepted as u64;
         let (Ok(answer), Some(left)) = (answer, listed.left) else {
             tally.differ("calls that were accepted are refused alone".into());
-            return;
+            return None;
         };
         let (rows, positions) = (left.rows, left.at);
         tally.same("rows of a fragment", answer.rows, rows);
@@ -170,11 +170,11 @@ pub fn compare_run(run: &Run, rng: &Rng, tally: &mut Tally) {
     }
     let rows = counts.iter().sum::<u32>() as usize;
     if rows == 0 {
-        return;
+        return None;
     }
     data.truncate(counts.len() * size * CORE_STORAGE_WIDTH);
     let made = Made { run, forests, rows, height, counts, built, stack_rows, system_rows, contexts };
-    compare_passes(made, buffer, data, tally);
+    compare_passes(made, buffer, data, tally)
 }
 
 /// What both sides made of a run's fragments.
@@ -190,7 +190,7 @@ struct Made<'a> {
     contexts: Vec<CoreTraceFragmentContext>,
 }
 
-fn compare_passes(made: Made<'_>, mut buffer: Vec<u64>, mut data: Vec<Felt>, tally: &mut Tally) {
+fn compare_passes(made: Made<'_>, mut buffer: Vec<u64>, mut data: Vec<Felt>, tally: &mut Tally) -> Option<Vec<u64>> {
     let Made { run, forests, rows, height, counts, built, stack_rows, system_rows, contexts } = made;
     let (size, top) = (run.fragment_size, run.first_stack_top);
     let replayed = buffer.clone();
@@ -213,7 +213,7 @@ fn compare_passes(made: Made<'_>, mut buffer: Vec<u64>, mut data: Vec<Felt>, tal
         if finished != replayed {
             tally.differ("a refused finisher changed the buffer".into());
         }
-        return;
+        return None;
     }
     tally.same_rows("pass 2", rows, &buffer, &data);
     // Pass 3.
@@ -238,4 +238,6 @@ fn compare_passes(made: Made<'_>, mut buffer: Vec<u64>, mut data: Vec<Felt>, tal
         tally.differ("the finisher and the five passes leave different buffers".into());
     }
     tally.finished += 1;
+    finished.truncate(height * WIDTH);
+    Some(finished)
 }

@@ -29,6 +29,22 @@ fn accepted(number: u32) -> Result<(), Refusal> {
     if number == 0 { Ok(()) } else { Err(Refusal(number)) }
 }
 
+/// A refusal of the reader and its row: for 12 and 15 the first row (or the end) that fails, for 13 the lowest row of a whole word, for 1, 2
+/// and 11 it is 0.
+#[derive(Clone, Copy, Debug, PartialEq, Eq)]
+pub struct RefusedAt {
+    pub refusal: Refusal,
+    pub row: usize,
+}
+
+impl core::fmt::Display for RefusedAt {
+    fn fmt(&self, f: &mut core::fmt::Formatter<'_>) -> core::fmt::Result {
+        write!(f, "{} at row {}", self.refusal, self.row)
+    }
+}
+
+impl core::error::Error for RefusedAt {}
+
 /// What a replayed fragment leaves: its rows, the cells built last, and the address state and queue positions for the next fragment.
 #[derive(Clone, Copy, Debug, PartialEq, Eq)]
 pub struct Replayed {
@@ -54,6 +70,19 @@ mod foreign {
     pub struct Inverse {
         pub number: u32,
         pub value: u64,
+    }
+
+    #[repr(C)]
+    pub struct TraceRead {
+        pub number: u32,
+        pub row: usize,
+        pub program_rows: usize,
+    }
+
+    #[repr(C)]
+    pub struct Place {
+        pub start: usize,
+        pub cells: usize,
     }
 
     unsafe extern "C" {
@@ -111,6 +140,8 @@ mod foreign {
             first_stack_top: *const [u64; 16],
             height: usize,
         ) -> u32;
+        pub fn core_read_trace(profile: Profile, cells: *const u64, cells_len: usize, depths: *mut u32, depths_len: usize) -> TraceRead;
+        pub fn core_row(cells: *const u64, cells_len: usize, number: usize) -> Place;
         pub fn core_inverse(x: u64) -> Inverse;
     }
 }
@@ -234,6 +265,20 @@ pub fn finish(
             height,
         )
     })
+}
+
+/// Reads a trace: answers the number of program rows, and fills the first numbers of `depths`, one a row: the depth of the row's innermost
+/// block, the root's being 1, and 0 for HALT. A refusal leaves `depths` as it is.
+pub fn read_trace(profile: Profile, cells: &[u64], depths: &mut [u32]) -> Result<usize, RefusedAt> {
+    let r = unsafe { foreign::core_read_trace(profile, cells.as_ptr(), cells.len(), depths.as_mut_ptr(), depths.len()) };
+    accepted(r.number).map_err(|refusal| RefusedAt { refusal, row: r.row })?;
+    Ok(r.program_rows)
+}
+
+/// The row's own [`WIDTH`] cells, no copy; the empty part where 11 refuses.
+pub fn row(cells: &[u64], number: usize) -> &[u64] {
+    let place = unsafe { foreign::core_row(cells.as_ptr(), cells.len(), number) };
+    &cells[place.start..place.start + place.cells]
 }
 
 /// The inverse of a cell modulo p, 0 for 0.

@@ -59,6 +59,7 @@ pub fn run(fragment_size: usize) -> Run {
         first_stack_top: [0; 16],
         fragment_size,
         fragments: calls.chunks(2 * fragment_size).map(<[Call]>::to_vec).collect(),
+        nesting: Some(vec![1, 2, 2, 2, 1, 2, 2, 2, 1]),
     }
 }
 

@@ -76,6 +76,8 @@ pub struct Run {
     pub first_stack_top: [u64; 16],
     pub fragment_size: usize,
     pub fragments: Vec<Vec<Call>>,
+    /// Of a proper run, the depth of the node that each cycle belongs to, the root's being 1.
+    pub nesting: Option<Vec<u32>>,
 }
 
 /// A storing and its cycle.
@@ -289,12 +291,24 @@ pub struct Writer<'a> {
     pub limit: usize,
     next_addr: u64,
     random_addresses: bool,
+    depth: u32,
+    nesting: Vec<u32>,
 }
 
 impl<'a> Writer<'a> {
     pub fn new(rng: &'a Rng, forests: &'a [Forest], limit: usize) -> Self {
         let random_addresses = rng.one_in(4);
-        Self { rng, forests, queues: Queues::default(), pairs: Vec::new(), limit, next_addr: 1, random_addresses }
+        Self {
+            rng,
+            forests,
+            queues: Queues::default(),
+            pairs: Vec::new(),
+            limit,
+            next_addr: 1,
+            random_addresses,
+            depth: 0,
+            nesting: Vec::new(),
+        }
     }
 
     fn address(&mut self) -> u64 {
@@ -327,6 +341,7 @@ impl<'a> Writer<'a> {
         }
         let row = self.pairs.len();
         self.pairs.push((stored, cycle(rng, forest, row)));
+        self.nesting.push(self.depth);
     }
 
     /// The run of a node under the address `a` of its parent, whose own parent has the address `above`.
@@ -339,6 +354,7 @@ impl<'a> Writer<'a> {
         };
         let b = self.address();
         let n = MastNodeId(id);
+        self.depth += 1;
         self.queues.addresses.push(b);
         self.queues.parents.push(a);
         let is_dyn = matches!(node, MastNode::Dyn | MastNode::Dyncall);
@@ -403,6 +419,7 @@ impl<'a> Writer<'a> {
         };
         self.queues.ends.extend([ended, a, above]);
         self.emit(forest, finish, Some(is_body), condition, None, None);
+        self.depth -= 1;
         Ok(())
     }
 }
@@ -467,8 +484,17 @@ fn stack_top(rng: &Rng) -> [u64; 16] {
     top
 }
 
-/// Forests, queues and pairs of a proper run of at most `limit` rows.
-fn proper_parts(rng: &Rng, limit: usize) -> (Vec<Forest>, Queues, Vec<Pair>, u64) {
+/// What a proper run is made of; `a` is the address that its root runs under.
+struct Parts {
+    forests: Vec<Forest>,
+    queues: Queues,
+    pairs: Vec<Pair>,
+    nesting: Vec<u32>,
+    a: u64,
+}
+
+/// A proper run of at most `limit` rows.
+fn proper_parts(rng: &Rng, limit: usize) -> Parts {
     loop {
         let forests: Vec<_> = (0..1 + rng.below(3))
             .map(|_| {
@@ -481,19 +507,20 @@ fn proper_parts(rng: &Rng, limit: usize) -> (Vec<Forest>, Queues, Vec<Pair>, u64
         let (a, above) = if rng.one_in(4) { (rng.cell(), rng.cell()) } else { (0, 0) };
         let mut writer = Writer::new(rng, &forests, limit);
         if writer.node(at as u32, root as u32, a, above, false, 0).is_ok() {
-            let (queues, pairs) = (writer.queues, writer.pairs);
-            return (forests, queues, pairs, a);
+            let (queues, pairs, nesting) = (writer.queues, writer.pairs, writer.nesting);
+            return Parts { forests, queues, pairs, nesting, a };
         }
     }
 }
 
 /// A proper run of at most about `limit` rows.
 pub fn proper_run(rng: &Rng, limit: usize) -> Run {
-    let (forests, queues, pairs, a) = proper_parts(rng, limit);
+    let Parts { forests, queues, pairs, nesting, a } = proper_parts(rng, limit);
     let size = fragment_size(rng, pairs.len());
     let fragments = fragments(rng, &forests, &pairs, size);
     let state = DecoderState { current_addr: a, parent_addr: rng.cell() };
-    Run { forests, queues, state, first_stack_top: stack_top(rng), fragment_size: size, fragments }
+    let first_stack_top = stack_top(rng);
+    Run { forests, queues, state, first_stack_top, fragment_size: size, fragments, nesting: Some(nesting) }
 }
 
 // CALLS THAT ARE NO PROPER RUN
@@ -655,7 +682,7 @@ fn change(rng: &Rng, forests: &mut [Forest], queues: &mut Queues, pairs: &mut Ve
 
 /// A proper run with some changes.
 pub fn changed_run(rng: &Rng, limit: usize) -> Run {
-    let (mut forests, mut queues, mut pairs, a) = proper_parts(rng, limit);
+    let Parts { mut forests, mut queues, mut pairs, a, .. } = proper_parts(rng, limit);
     for _ in 0..1 + rng.below(4) {
         change(rng, &mut forests, &mut queues, &mut pairs);
     }
@@ -676,7 +703,8 @@ pub fn changed_run(rng: &Rng, limit: usize) -> Run {
         fragments[f].extend([Call::Store(more.0), Call::Cycle(more.1)]);
     }
     let state = DecoderState { current_addr: a, parent_addr: rng.cell() };
-    Run { forests, queues, state, first_stack_top: stack_top(rng), fragment_size: size, fragments }
+    let first_stack_top = stack_top(rng);
+    Run { forests, queues, state, first_stack_top, fragment_size: size, fragments, nesting: None }
 }
 
 /// Calls of any kind in any order.
@@ -702,7 +730,8 @@ pub fn any_calls(rng: &Rng, limit: usize) -> Run {
     let size = fragment_size(rng, rows);
     let fragments = fragments(rng, &forests, &pairs, size);
     let state = DecoderState { current_addr: rng.cell(), parent_addr: rng.cell() };
-    Run { forests, queues, state, first_stack_top: stack_top(rng), fragment_size: size, fragments }
+    let first_stack_top = stack_top(rng);
+    Run { forests, queues, state, first_stack_top, fragment_size: size, fragments, nesting: None }
 }
 
 // LONG RUNS
@@ -747,5 +776,6 @@ pub fn long_run(rng: &Rng, nodes: usize, rows: usize, fragment_size: usize) -> R
         first_stack_top: stack_top(rng),
         fragment_size,
         fragments,
+        nesting: None,
     }
 }

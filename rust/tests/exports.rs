@@ -158,6 +158,84 @@ fn finisher() {
     assert_eq!(whole, before);
 }
 
+/// Reading, by small traces and by the checker.
+mod read {
+    use core_trace::checker::check;
+    use core_trace::exports::row;
+    use core_trace::random::Rng;
+    use core_trace::words::{self, word};
+
+    use super::*;
+
+    /// SPAN, an operation, END, HALT.
+    fn small() -> Vec<u64> {
+        [words::row(EXAMPLE.span, 0), words::row(5, 1), words::row(EXAMPLE.end, 0), words::row(EXAMPLE.halt, 0)].concat()
+    }
+
+    fn refused_at(profile: Profile, cells: &[u64], depths: usize, number: u32, row: usize) {
+        let mut list = vec![7; depths];
+        assert_eq!(read_trace(profile, cells, &mut list), Err(RefusedAt { refusal: Refusal(number), row }));
+        assert_eq!(list, vec![7; depths]);
+    }
+
+    #[test]
+    fn accepted() {
+        let mut depths = [7; 5];
+        assert_eq!(read_trace(EXAMPLE, &small(), &mut depths), Ok(3));
+        assert_eq!(depths, [1, 1, 1, 0, 7]);
+    }
+
+    /// Each refusal, its row, and that the depths stay.
+    #[test]
+    fn refused() {
+        let good = small();
+        refused_at(EXAMPLE, &[], 0, 12, 0);
+        refused_at(EXAMPLE, &good[..3 * WIDTH], 4, 12, 3);
+        refused_at(EXAMPLE, &good, 3, 11, 0);
+        refused_at(EXAMPLE, &good[1..], 4, 11, 0);
+        refused_at(Profile { step: 0, ..EXAMPLE }, &good[1..], 4, 2, 0);
+        let changed = |at: usize, value: u64| {
+            let mut cells = good.clone();
+            cells[at] = value;
+            cells
+        };
+        refused_at(EXAMPLE, &changed(48, P), 4, 1, 0);
+        refused_at(EXAMPLE, &changed(WIDTH + 22, 0), 4, 12, 1);
+        refused_at(EXAMPLE, &changed(2 * WIDTH + 18, 1), 4, 13, 2);
+        let deep = word(&Rng::new(3), 65);
+        let row = deep.depths.iter().position(|&depth| depth == 65).unwrap();
+        refused_at(EXAMPLE, &deep.cells, deep.depths.len(), 15, row);
+    }
+
+    /// Words of each depth, as the checker reads them.
+    #[test]
+    fn as_the_checker() {
+        let rng = Rng::new(4);
+        for deep in 1..=64 {
+            let w = word(&rng, deep);
+            let (mut ours, mut depths) = (vec![7; w.depths.len()], vec![7; w.depths.len()]);
+            assert_eq!(read_trace(EXAMPLE, &w.cells, &mut ours), Ok(w.program_rows));
+            assert_eq!(check(&EXAMPLE, &w.cells, &mut depths), Ok(w.program_rows));
+            assert_eq!(ours, w.depths);
+            assert_eq!(depths, w.depths);
+        }
+    }
+
+    /// A view is the caller's own cells, or empty.
+    #[test]
+    fn views() {
+        let cells = small();
+        for number in 0..4 {
+            assert!(core::ptr::eq(row(&cells, number), &cells[number * WIDTH..(number + 1) * WIDTH]));
+        }
+        for number in [4, 5, usize::MAX / 49, usize::MAX] {
+            assert_eq!(row(&cells, number), []);
+        }
+        assert_eq!(row(&cells[1..], 0), []);
+        assert_eq!(row(&[], 0), []);
+    }
+}
+
 /// Replay, by the listing of document 01 and by refusals of records.
 mod replayed {
     use core_trace::calls::{Positions, RECORD, records};

@@ -1,6 +1,6 @@
 // The calls for programs in other languages. Each passes its arguments on; its contract is that of the function it calls. A slice crosses
-// as a pointer and a length, an array behind a reference as a pointer, a struct by value. Every call takes any numbers and answers 0 or
-// document 01's number of the refusal.
+// as a pointer and a length, an array behind a reference as a pointer, a struct by value; instead of a part of a slice its place is answered.
+// Every call takes any numbers and answers 0 or document 01's number of the refusal; a refused place is empty.
 use field::felt::Felt;
 use field::inverse::inverse;
 use passes::finish::finish;
@@ -9,20 +9,27 @@ use passes::halt::pad_core_row_major;
 use passes::halt::push_halt_opcode_row;
 use passes::helper_column::invert_helper_column;
 use passes::multiplicity::set_loop_body_multiplicities;
+use reader::trace::TraceRead;
+use reader::trace::read_trace;
+use reader::view::row;
 use records::profile::Profile;
 use records::replay::DecoderState;
 use records::replay::Positions;
 use rows::calls::Replayed;
 use rows::calls::replay_calls;
 ghost use mathlib.Core.Path.{_≡_};
-ghost use Prim.Native.Nat.{_-_};
+ghost use Prim.Native.Nat.{_-_, _/_};
 ghost use lib.ListN.{length};
 ghost use Rattle.passes.specs.Buffers.{onRows};
 ghost use Rattle.passes.specs.Passes.{sumOf, builtOf, fixedUp, multiplied, inverted, halted, padded, refusal1, refusal2, refusal3, refusal4, refusal5, refusalAll, allPasses, unlessRefused};
 ghost use Rattle.records.specs.Forests.{forest};
 ghost use Rattle.records.specs.Addresses.{queues};
 ghost use Rattle.rows.specs.Calls.{scanned, replayed, replayedFragment};
+ghost use Rattle.readings.specs.Answers.{depthsAfter};
+ghost use Rattle.readings.specs.Parser.{answer};
+ghost use Rattle.reader.specs.Reads.{traceRead};
 ghost use Rattle.exports.specs.Inverses.{inverseNumber, inverseValue};
+ghost use Rattle.exports.specs.Places.{rowStart, rowCells};
 
 // The number (0, or 1 for a cell from p on) and the inverse, 0 on a refusal.
 #[repr(C)]
@@ -166,4 +173,35 @@ pub extern "C" fn core_replay(
         records,
         fragment,
     )
+}
+
+// Reads a trace: the answer, and, where it is accepted, one depth a row.
+#[no_mangle]
+pub extern "C" fn core_read_trace(profile: Profile, cells: &[u64], depths: &mut [u32]) -> TraceRead
+    ensures { λ r. ⌜ r ≡ traceRead (answer profile (now (cells .entry)) (length (now (depths .entry)))) ⌝ }
+    ensures { λ _. ⌜ now (depths .exit) ≡ depthsAfter (length (now (cells .entry)) / 49) (answer profile (now (cells .entry)) (length (now (depths .entry)))) (now (depths .entry)) ⌝ }
+{
+    read_trace(profile, cells, depths)
+}
+
+// Where a row lies among the lent cells: its first cell and how many cells it has, both 0 on a refusal.
+#[repr(C)]
+pub struct Place {
+    pub start: usize,
+    pub cells: usize,
+}
+
+// The place of the row's part of the lent cells, since a part cannot be handed back.
+#[no_mangle]
+pub extern "C" fn core_row(cells: &[u64], number: usize) -> Place
+    ensures { λ r. ⌜ (r .start ≡ rowStart (length (now (cells .entry))) number) × (r .cells ≡ rowCells (length (now (cells .entry))) number) ⌝ }
+{
+    let part = row(cells, number);
+    if part.len() == 0 {
+        return Place { start: 0, cells: 0 };
+    }
+    Place {
+        start: number * 49,
+        cells: part.len(),
+    }
 }

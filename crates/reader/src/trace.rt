@@ -17,6 +17,7 @@ ghost use Rattle.reader.specs.Rows.{wordIn};
 ghost use Rattle.reader.specs.Reads.{traceRead, HaltsRead, BehindRead, cellsAnswer};
 
 // What is answered of a buffer: 0, or the number and the row of its refusal; the number of program rows, 0 on a refusal.
+#[repr(C)]
 pub struct TraceRead {
     pub number: u32,
     pub row: usize,

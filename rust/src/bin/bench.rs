@@ -1,6 +1,9 @@
 //! `bench [LOG2_OF_THE_MOST_ROWS]`: replay and finish by the proved library, the same calls and passes by the listed Rust, and copying 392
 //! bytes a row. One line a forest, a number of rows and a fragment size: nanoseconds a row of this thread's processor time, the best of five,
 //! and their ratios. Both sides make their own zeroed buffer; the calls are ready, as records here and as values there.
+//!
+//! Then reading: a trace of one loop with passes of up to 12 levels, read by the proved library and by the checker, and copied into a buffer
+//! that is there. One line a number of rows, measured in the same way.
 
 #[cfg(not(all(listed, archive)))]
 fn main() {
@@ -19,6 +22,10 @@ fn main() {
             }
         }
     }
+    println!("rows read_trace checker copy read_trace/checker read_trace/copy Mrows/s");
+    for log in (10..=20).step_by(2).filter(|&log| log <= most) {
+        measure::reading(1 << log);
+    }
 }
 
 #[cfg(all(listed, archive))]
@@ -27,7 +34,8 @@ mod measure {
     use std::sync::Arc;
 
     use core_trace::calls::{DecoderState, Positions, records};
-    use core_trace::exports::{BUILT, WIDTH, finish, replay_calls};
+    use core_trace::checker::check;
+    use core_trace::exports::{BUILT, WIDTH, finish, read_trace, replay_calls};
     use core_trace::forest::{Forests, Queues};
     use core_trace::listed::convert;
     use core_trace::listed::parallel::passes;
@@ -35,6 +43,7 @@ mod measure {
     use core_trace::listed::whole::{self, Start};
     use core_trace::profile::EXAMPLE;
     use core_trace::random::{Rng, Run, long_run};
+    use core_trace::words::long_word;
 
     /// Seconds and nanoseconds, as C has them on this machine.
     #[repr(C)]
@@ -119,5 +128,24 @@ mod measure {
         }
         let [a, b, c] = best.map(|t| t / height as f64);
         println!("{nodes} {height} {fragment_size} {a:.1} {b:.1} {c:.1} {:.2} {:.2} {:.2}", a / b, a / c, 1e3 / a);
+    }
+
+    pub fn reading(rows: usize) {
+        let word = long_word(&Rng::new(7), rows);
+        let (mut ours, mut depths) = (vec![0; rows], vec![0; rows]);
+        let mut copy = word.cells.clone();
+        let mut best = [f64::MAX; 3];
+        for _ in 0..5 {
+            let (t, answer) = time(|| read_trace(EXAMPLE, black_box(&word.cells), &mut ours));
+            best[0] = best[0].min(t);
+            let (t, checked) = time(|| check(&EXAMPLE, black_box(&word.cells), &mut depths));
+            best[1] = best[1].min(t);
+            assert!(answer == Ok(word.program_rows) && checked == Ok(word.program_rows), "the two differ");
+            assert!(ours == word.depths && depths == word.depths, "the depths differ");
+            let (t, _) = time(|| black_box(&mut copy).copy_from_slice(black_box(&word.cells)));
+            best[2] = best[2].min(t);
+        }
+        let [a, b, c] = best.map(|t| t / rows as f64);
+        println!("{rows} {a:.1} {b:.1} {c:.1} {:.2} {:.2} {:.2}", a / b, a / c, 1e3 / a);
     }
 }

@@ -1,5 +1,6 @@
-//! `compare [SEED [RUNS]]`: random runs by the listed Rust and by the proved library. Writes what was compared, the differences, and how
-//! often which side refused. Exits with 1 where there is a difference.
+//! `compare [SEED [RUNS]]`: random runs by the listed Rust and by the proved library, and the finished traces read by the proved library and
+//! by the checker, as they are and changed. Writes what was compared, the differences, and how often which side refused. Exits with 1
+//! where there is a difference.
 
 #[cfg(not(all(listed, archive)))]
 fn main() {
@@ -10,6 +11,8 @@ fn main() {
 fn main() {
     use core_trace::compare::{Tally, compare_run};
     use core_trace::random::{Rng, any_calls, changed_run, proper_run};
+    use core_trace::reading;
+    use core_trace::words::word;
 
     let numbers: Vec<u64> = std::env::args().skip(1).map(|word| word.parse().expect("a number")).collect();
     let seed = numbers.first().copied().unwrap_or(1);
@@ -17,15 +20,20 @@ fn main() {
     // A panic of the listed Rust is one of its refusals; it is counted and not shown.
     std::panic::set_hook(Box::new(|_| {}));
     let rng = Rng::new(seed);
+    let reader_rng = Rng::new(!seed);
     println!("seed {seed}; {runs} runs of each kind");
     let mut bad = false;
+    let mut reads = reading::Tally::default();
     for (name, kind) in
         [("proper runs", proper_run as fn(&Rng, usize) -> _), ("changed runs", changed_run), ("calls of any kind", any_calls)]
     {
         let mut tally = Tally::default();
         for _ in 0..runs {
             let limit = rng.pick(&[20, 100, 400, 1500]);
-            compare_run(&kind(&rng, limit), &rng, &mut tally);
+            let run = kind(&rng, limit);
+            if let Some(trace) = compare_run(&run, &rng, &mut tally) {
+                reads.all(&reader_rng, trace, run.nesting.as_deref());
+            }
         }
         println!(
             "{name}: {} runs, {} of them finished, {} calls, {} rows, {} cells compared, {} differences",
@@ -39,6 +47,21 @@ fn main() {
         }
         bad |= tally.differences > 0;
     }
+    // Traces from the grammar, half of them near the deepest that is read.
+    for n in 0..runs as usize / 4 {
+        let deep = if n.is_multiple_of(2) { 1 + n / 2 % 64 } else { reader_rng.pick(&[63, 64, 64, 64, 65, 66]) };
+        let written = word(&reader_rng, deep);
+        reads.all(&reader_rng, written.cells, Some(&written.depths[..written.program_rows]));
+    }
+    println!("traces as written: {}; of {} the nesting is known", reads.whole, reads.nested);
+    println!("one cell of an accepted trace changed: {}", reads.damaged);
+    println!("one cell of a refused trace changed: {}", reads.refused);
+    println!("other changes: {}", reads.other);
+    println!("{} rows read, {} row views, {} differences", reads.rows, reads.views, reads.differences);
+    for text in &reads.told {
+        println!("  {text}");
+    }
+    bad |= reads.differences > 0;
     if bad {
         std::process::exit(1);
     }

@@ -1,0 +1,13 @@
+-- Where a row lies among the lent cells, for languages that cannot be handed a part of a slice: "the part from row × 49 to row × 49 + 49 of
+-- the lent trace slice" (document 01). "A refused row view (only 11) is the empty part": both numbers are then 0.
+use Prim.Native.Nat.{ℕ, _*_}
+use Rattle.groups.specs.Answer.{pick}
+use Rattle.reader.specs.Views.{viewRefused}
+
+-- the first cell of the part
+unfoldable pub rowStart : (cells number : ℕ) → ℕ
+rowStart cells number = pick (viewRefused cells number) 0 (number * 49)
+
+-- how many cells the part has
+unfoldable pub rowCells : (cells number : ℕ) → ℕ
+rowCells cells number = pick (viewRefused cells number) 0 49

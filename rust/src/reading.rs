@@ -1,0 +1,291 @@
+//! The comparison of the proved reader with the checker: traces as they were written, and with one cell changed.
+
+use std::collections::BTreeMap;
+
+use crate::checker::{Refused, check};
+use crate::compare::column;
+use crate::exports::{WIDTH, read_trace, row};
+use crate::profile::{EXAMPLE, Profile};
+use crate::random::Rng;
+
+const P: u64 = 18446744069414584321;
+const H4: usize = 18;
+const IN_SPAN: usize = 22;
+const GROUP_COUNT: usize = 23;
+
+/// How often the reader accepted, and how often it refused by which number.
+#[derive(Default)]
+pub struct Answers {
+    pub reads: u64,
+    pub accepted: u64,
+    pub refused: BTreeMap<u32, u64>,
+}
+
+impl core::fmt::Display for Answers {
+    fn fmt(&self, f: &mut core::fmt::Formatter<'_>) -> core::fmt::Result {
+        write!(f, "{} reads, {} accepted", self.reads, self.accepted)?;
+        self.refused.iter().try_for_each(|(number, times)| write!(f, ", {times} refused by {number}"))
+    }
+}
+
+impl Answers {
+    fn count(&mut self, answer: &Result<usize, Refused>) {
+        self.reads += 1;
+        match answer {
+            Ok(_) => self.accepted += 1,
+            Err((number, _)) => *self.refused.entry(*number).or_default() += 1,
+        }
+    }
+}
+
+/// What was read.
+#[derive(Default)]
+pub struct Tally {
+    /// Traces as they were written.
+    pub whole: Answers,
+    /// Those of them whose nesting is known.
+    pub nested: u64,
+    /// Accepted traces with one cell changed.
+    pub damaged: Answers,
+    /// Refused traces with one cell changed.
+    pub refused: Answers,
+    /// Traces with some cells changed, a row removed, put in, exchanged or turned into another, other profiles and lengths.
+    pub other: Answers,
+    pub rows: u64,
+    pub views: u64,
+    pub differences: u64,
+    /// The first differences, in words.
+    pub told: Vec<String>,
+}
+
+impl Tally {
+    fn differ(&mut self, text: String) {
+        self.differences += 1;
+        if self.told.len() < 20 {
+            self.told.push(text);
+        }
+    }
+
+    /// The answer and the depth list of both. The list has some number more than it needs, and any numbers before.
+    fn read(&mut self, what: &str, profile: &Profile, cells: &[u64], depth_numbers: usize) -> (Result<usize, Refused>, Vec<u32>) {
+        let before: Vec<u32> = (0..depth_numbers as u32).map(|i| i.wrapping_mul(0x9e37_79b9) | 1 << 20).collect();
+        let (mut ours, mut depths) = (before.clone(), before.clone());
+        let answer = read_trace(*profile, cells, &mut ours).map_err(|refused| (refused.refusal.0, refused.row));
+        let wanted = check(profile, cells, &mut depths);
+        if answer != wanted {
+            self.differ(format!("{what}: the reader answers {answer:?}, the checker {wanted:?}"));
+        }
+        if ours != depths {
+            self.differ(format!("{what}: the depths are not the checker's"));
+        }
+        if answer.is_err() && ours != before {
+            self.differ(format!("{what}: a refusal changed the depths"));
+        }
+        self.rows += (cells.len() / WIDTH) as u64;
+        (answer, ours)
+    }
+
+    /// Reads a trace as it was written. Where its nesting is known it must be accepted with these depths, or, deeper than 64, be refused by
+    /// 15 at the first row that is. Answers whether it is accepted.
+    fn read_back(&mut self, cells: &[u64], nesting: Option<&[u32]>) -> bool {
+        let rows = cells.len() / WIDTH;
+        let (answer, depths) = self.read("a written trace", &EXAMPLE, cells, rows + 3);
+        self.whole.count(&answer);
+        let Some(nesting) = nesting else {
+            return answer.is_ok();
+        };
+        self.nested += 1;
+        match nesting.iter().position(|&depth| depth > 64) {
+            Some(row) if answer != Err((15, row)) => self.differ(format!("a trace deeper than 64 at row {row}: {answer:?}")),
+            None if answer != Ok(nesting.len()) => self.differ(format!("a trace of {} program rows: {answer:?}", nesting.len())),
+            None if depths[..nesting.len()] != *nesting || depths[nesting.len()..rows].iter().any(|&d| d != 0) => {
+                self.differ("the depths are not the nesting".into())
+            }
+            _ => {}
+        }
+        answer.is_ok()
+    }
+
+    /// The view of a row is the caller's own cells, the empty part past the end or where the length is wrong.
+    fn view(&mut self, cells: &[u64], number: usize) {
+        let right = number < cells.len() / WIDTH && cells.len().is_multiple_of(WIDTH);
+        let wanted = if right { &cells[number * WIDTH..][..WIDTH] } else { &cells[..0] };
+        if !core::ptr::eq(row(cells, number), wanted) {
+            self.differ(format!("row {number} of {} cells", cells.len()));
+        }
+        self.views += 1;
+    }
+
+    /// Reads a trace back, then 100 times with one cell changed (8 times where it is refused) and 16 times with a larger change.
+    pub fn all(&mut self, rng: &Rng, mut cells: Vec<u64>, nesting: Option<&[u32]>) {
+        let is_accepted = self.read_back(&cells, nesting);
+        self.view(&cells, rng.below(cells.len() / WIDTH + 1));
+        self.damage(rng, &mut cells, is_accepted);
+        self.reshape(rng, &cells);
+    }
+
+    fn damage(&mut self, rng: &Rng, cells: &mut [u64], is_accepted: bool) {
+        let places = Places::new(cells);
+        for _ in 0..if is_accepted { 100 } else { 8 } {
+            let (row, cell) = places.pick(rng);
+            let at = row * WIDTH + cell;
+            let before = cells[at];
+            cells[at] = other_value(rng, cells, row, cell);
+            let what = format!("row {row}, {} {before} changed to {}", column(cell), cells[at]);
+            let (answer, _) = self.read(&what, &EXAMPLE, cells, cells.len() / WIDTH);
+            if is_accepted { &mut self.damaged } else { &mut self.refused }.count(&answer);
+            cells[at] = before;
+        }
+    }
+
+    fn reshape(&mut self, rng: &Rng, cells: &[u64]) {
+        let places = Places::new(cells);
+        for _ in 0..16 {
+            let mut changed = cells.to_vec();
+            let rows = cells.len() / WIDTH;
+            let (mut profile, mut depth_numbers) = (EXAMPLE, rows + 1);
+            let what = reshaped(rng, &places, &mut changed, &mut profile, &mut depth_numbers);
+            let (answer, _) = self.read(what, &profile, &changed, depth_numbers);
+            self.other.count(&answer);
+            self.view(&changed, rng.below(rows + 2));
+        }
+    }
+}
+
+/// Rows whose flag or count the reader asks for.
+struct Places {
+    rows: usize,
+    ends: Vec<usize>,
+    loops: Vec<usize>,
+}
+
+fn opcode(row: &[u64]) -> u8 {
+    (0..7).map(|i| (row[7 + i] as u8 & 1) << i).sum()
+}
+
+impl Places {
+    fn new(cells: &[u64]) -> Self {
+        let of = |wanted: u8| cells.chunks(WIDTH).enumerate().filter(|(_, row)| opcode(row) == wanted).map(|(i, _)| i).collect();
+        Self { rows: cells.len() / WIDTH, ends: of(EXAMPLE.end), loops: of(EXAMPLE.loop_op) }
+    }
+
+    /// An END and its flag, or a LOOP and its count, where there are some.
+    fn asked(&self, rng: &Rng) -> (usize, usize) {
+        match rng.below(5) {
+            0 | 1 if !self.loops.is_empty() => (rng.pick(&self.loops), GROUP_COUNT),
+            _ if !self.ends.is_empty() => (rng.pick(&self.ends), H4),
+            _ => (rng.below(self.rows), H4),
+        }
+    }
+
+    /// A row and a cell of it: most often one that the reader looks at.
+    fn pick(&self, rng: &Rng) -> (usize, usize) {
+        let any = rng.below(self.rows);
+        match rng.below(16) {
+            0..=4 => (any, 7 + rng.below(7)),
+            5 | 6 => (any, IN_SPAN),
+            7..=11 => self.asked(rng),
+            12 => (any, 6),
+            13 => (any, rng.pick(&[14, H4, GROUP_COUNT, 24])),
+            _ => (any, rng.below(WIDTH)),
+        }
+    }
+}
+
+/// Another value for a cell: a bit mostly turned over, else a small number, the next one up or down, the cell above or below it, a number
+/// from p on, or any cell.
+fn other_value(rng: &Rng, cells: &[u64], row: usize, cell: usize) -> u64 {
+    let before = cells[row * WIDTH + cell];
+    let beside = |other: usize| cells[other.min(cells.len() / WIDTH - 1) * WIDTH + cell];
+    loop {
+        let value = match rng.below(10) {
+            0 => 0,
+            1 => 1,
+            2 => 2,
+            3 => before.wrapping_add(1),
+            4 => before.wrapping_sub(1),
+            5 => beside(row + 1),
+            6 => beside(row.saturating_sub(1)),
+            7 => rng.pick(&[P, P - 1, P + 1, u64::MAX]),
+            8 => rng.next() % P,
+            _ => rng.cell(),
+        };
+        let is_bit = matches!(cell, 7..=13 | H4 | IN_SPAN) && before < 2;
+        let value = if is_bit && rng.one_in(2) { 1 - before } else { value };
+        if value != before {
+            return value;
+        }
+    }
+}
+
+/// One change to the rows, the profile or the lengths; what it is, in words.
+fn reshaped(rng: &Rng, places: &Places, cells: &mut Vec<u64>, profile: &mut Profile, depth_numbers: &mut usize) -> &'static str {
+    let (a, b) = (rng.below(places.rows), rng.below(places.rows));
+    match rng.below(16) {
+        0 => {
+            cells.drain(a * WIDTH..(a + 1) * WIDTH);
+            "a row removed"
+        }
+        1 => {
+            let copy = cells[a * WIDTH..][..WIDTH].to_vec();
+            cells.splice(b * WIDTH..b * WIDTH, copy);
+            "a row put in elsewhere"
+        }
+        2 => {
+            (0..WIDTH).for_each(|i| cells.swap(a * WIDTH + i, b * WIDTH + i));
+            "two rows exchanged"
+        }
+        3..=5 => {
+            let other = rng.pick(&profile.opcodes());
+            (0..7).for_each(|i| cells[a * WIDTH + 7 + i] = u64::from(other >> i & 1));
+            cells[a * WIDTH + IN_SPAN] = u64::from(rng.one_in(8));
+            "another opcode"
+        }
+        6 => {
+            cells.truncate(a * WIDTH);
+            "the end cut off"
+        }
+        7 => {
+            cut_inside(rng, cells);
+            "the end cut off inside a row"
+        }
+        8 => {
+            *depth_numbers = rng.below(places.rows + 1);
+            "fewer depth numbers"
+        }
+        9..=14 => {
+            for _ in 0..2 + rng.below(4) {
+                let (row, cell) = if rng.one_in(8) { places.pick(rng) } else { places.asked(rng) };
+                cells[row * WIDTH + cell] = other_value(rng, cells, row, cell);
+            }
+            "some cells changed"
+        }
+        _ => {
+            other_profile(rng, profile);
+            if rng.one_in(3) {
+                cut_inside(rng, cells);
+            }
+            "another profile"
+        }
+    }
+}
+
+/// Cuts off the end, most often inside a row, and now and then makes the last cell none.
+fn cut_inside(rng: &Rng, cells: &mut Vec<u64>) {
+    cells.truncate(1 + rng.below(cells.len()));
+    if rng.one_in(4) {
+        *cells.last_mut().expect("a cell is left") = P;
+    }
+}
+
+/// Another profile, wrong or right.
+fn other_profile(rng: &Rng, profile: &mut Profile) {
+    match rng.below(6) {
+        0 => profile.step = rng.pick(&[0, P, P - 1, u64::MAX]),
+        1 => profile.halt = rng.pick(&[32, 64, 96, 28, 127, 252]),
+        2 => profile.push = rng.below(256) as u8,
+        3 => core::mem::swap(&mut profile.join, &mut profile.split),
+        4 => core::mem::swap(&mut profile.push, &mut profile.respan),
+        _ => profile.span = rng.below(256) as u8,
+    }
+}
