@@ -19,3 +19,4 @@ pub mod InOne
 pub mod ReadRun
 pub mod ExampleEqualAddresses
 pub mod BodiesEnd
+pub mod ImproperRuns
