@@ -93,33 +93,148 @@ begins {f = f} {id = id} {a = a} {b = b} node h (Run.one {child = child} {m = m}
 begins {f = f} {id = id} {a = a} {b = b} node h (Run.loop {cycles = l} {child = x} k d) =
     (l, ap (λ kind. (f, started kind id b a) ∷ l) (ap kindOf (one-node f id (Node.Loop x) node k h)))
 
+-- so what holds of all runs that begin with it holds of all
+by-start : {p : Profile} {f : Forest} {id : ℕ} {body : Bool} {a b g : ℕ} {cycles rest : List Cycle} (C : List Cycle → Type 0) (node : Node) → Holds f id node →
+    ((l : List Cycle) → Run p f id body a b g ((f, started (kindOf node) id b a) ∷ l) rest → C ((f, started (kindOf node) id b a) ∷ l)) →
+    Run p f id body a b g cycles rest → C cycles
+by-start C node h then d = let (l, e) = begins node h d in rw e (then l (rw (← e) d))
+
+-- what is behind the StartNode
+block-start : {p : Profile} {f h : Forest} {id i : ℕ} {body : Bool} {a b g x y : ℕ} {cycles rest : List Cycle} (t : Block) → Holds f id (Node.Block t) →
+    Run p f id body a b g ((h, started Kind.span i x y) ∷ cycles) rest → InBlock p f id t 0 0 body a b g cycles rest
+block-start {f = f} {id = id} t h (Run.block {block = u} k d) =
+    let e = one-node f id (Node.Block u) (Node.Block t) k h in let same : u ≡ t = cc in rw (← same) d
+
+join-start : {p : Profile} {f h : Forest} {id i : ℕ} {body : Bool} {a b g x y : ℕ} {cycles rest : List Cycle} (m n : MastNodeId) → Holds f id (Node.Join m n) →
+    Run p f id body a b g ((h, started Kind.join i x y) ∷ cycles) rest →
+    (c : ℕ) × (d : ℕ) × (between : List Cycle) × Run p f (m .0) false b c a cycles between × Run p f (n .0) false b d a between ((f, finished Ending.FinishJoin id body b a g) ∷ rest)
+join-start {f = f} {id = id} m n h (Run.join {c = c} {d = d} {between = l} {first = m′} {second = n′} k r r′) =
+    let e = one-node f id (Node.Join m′ n′) (Node.Join m n) k h in
+    let i : m′ ≡ m = cc in let j : n′ ≡ n = cc in (c, d, l, rw (← i) r, rw (← j) r′)
+
+one-start : {p : Profile} {f h : Forest} {kind : OneChild} {id i : ℕ} {body : Bool} {a b g x y : ℕ} {cycles rest : List Cycle} → Run p f id body a b g ((h, started (Kind.one kind) i x y) ∷ cycles) rest →
+    (child : Forest) × (m : ℕ) × (c : ℕ) × Child kind f id child m × Run p child m false b c a cycles ((f, finished (endingOf kind) id body b a g) ∷ rest)
+one-start (Run.one {child = child} {m = m} {c = c} kind k d) = (child, m, c, k, d)
+
+split-child : (f : Forest) (id : ℕ) (g : Forest) (m : ℕ) (x y : MastNodeId) → Holds f id (Node.Split x y) → Child split f id g m → (g ≡ f) × ((m ≡ x .0) ⊎ (m ≡ y .0))
+unfolding Child
+split-child f id g m x y h (x′, y′, k, e, w) =
+    let z = one-node f id (Node.Split x′ y′) (Node.Split x y) k h in
+    let i : x′ ≡ x = cc in let j : y′ ≡ y = cc in (e, rw (← i, ← j) w)
+
+call-child : (f : Forest) (id : ℕ) (g : Forest) (m : ℕ) (x : MastNodeId) → Holds f id (Node.Call x) → Child call f id g m → (g ≡ f) × (m ≡ x .0)
+unfolding Child
+call-child f id g m x h (x′, k, e, w) = let z = one-node f id (Node.Call x′) (Node.Call x) k h in let i : x′ ≡ x = cc in (e, w ∙ ap (λ (y : MastNodeId). y .0) i)
+
+syscall-child : (f : Forest) (id : ℕ) (g : Forest) (m : ℕ) (x : MastNodeId) → Holds f id (Node.Syscall x) → Child syscall f id g m → (g ≡ f) × (m ≡ x .0)
+unfolding Child
+syscall-child f id g m x h (x′, k, e, w) = let z = one-node f id (Node.Syscall x′) (Node.Syscall x) k h in let i : x′ ≡ x = cc in (e, w ∙ ap (λ (y : MastNodeId). y .0) i)
+
+loop-start : {p : Profile} {f h : Forest} {id i : ℕ} {body : Bool} {a b g x y : ℕ} {cycles rest : List Cycle} (m : MastNodeId) → Holds f id (Node.Loop m) →
+    Run p f id body a b g ((h, started Kind.loop i x y) ∷ cycles) rest → RunPasses p f id (m .0) body a b g cycles rest
+loop-start {f = f} {id = id} m h (Run.loop {child = m′} k d) =
+    let e = one-node f id (Node.Loop m′) (Node.Loop m) k h in let i : m′ ≡ m = cc in rw (← i) d
+
 -- a block, from operation `op` of a batch on
 module _ (p : Profile) (f : Forest) (block : Block) (index : ℕ) (batch : Batch) (is : batchAt (f .batches) (f .groups) block index ≡ accepted batch) where
   size : (n : ℕ) → HasOperations f block index n → n ≡ batch .«num_ops»
   unfolding HasOperations
   size n (other, e, m) = let h : other ≡ batch = cc in sym m ∙ ap (λ (x : Batch). x .«num_ops») h
 
-  at-operation : {id op : ℕ} {body : Bool} {a x g : ℕ} {cycles rest : List Cycle} (opcode : ℕ) → op < batch .«num_ops» → opcodeAt (f .ops) batch op ≡ accepted opcode →
-      InBlock p f id block index op body a x g cycles rest →
-      (l : List Cycle) × (cycles ≡ (f, operated id index op opcode) ∷ l) × InBlock p f id block index (suc op) body a x g l rest
+  at-operation : {id op : ℕ} {body : Bool} {a x g : ℕ} {cycles rest tail : List Cycle} (opcode : ℕ) → op < batch .«num_ops» → opcodeAt (f .ops) batch op ≡ accepted opcode →
+      ((l : List Cycle) → InBlock p f id block index (suc op) body a x g l rest → l ≡ tail) →
+      InBlock p f id block index op body a x g cycles rest → cycles ≡ (f, operated id index op opcode) ∷ tail
   unfolding HasOpcode
-  at-operation {op = op} opcode h e (InBlock.ended has most) = let k = size op has in absurd (omega arith)
-  at-operation {id = id} {op = op} opcode h e (InBlock.operation {cycles = l} opcode′ (other, i, j) w d) =
-      let k : opcode′ ≡ opcode = cc in (l, ap (λ y. (f, operated id index op y) ∷ l) k, d)
-  at-operation {op = op} opcode h e (InBlock.respan has more d) = let k = size op has in absurd (omega arith)
+  at-operation {op = op} opcode h e then (InBlock.ended has most) = let k = size op has in absurd (omega arith)
+  at-operation {id = id} {op = op} opcode h e then (InBlock.operation {cycles = l} opcode′ (other, i, j) w d) =
+      let k : opcode′ ≡ opcode = cc in let m = then l d in cc
+  at-operation {op = op} opcode h e then (InBlock.respan has more d) = let k = size op has in absurd (omega arith)
 
-  at-respan : {id op : ℕ} {body : Bool} {a x g : ℕ} {cycles rest : List Cycle} → op ≡ batch .«num_ops» → opcodeAt (f .ops) batch op ≡ refused 6 → suc index < block .batches →
-      InBlock p f id block index op body a x g cycles rest →
-      (l : List Cycle) × (cycles ≡ (f, respanned id (suc index)) ∷ l) × InBlock p f id block (suc index) 0 body a (moved p x) g l rest
+  at-respan : {id op : ℕ} {body : Bool} {a x g : ℕ} {cycles rest tail : List Cycle} → opcodeAt (f .ops) batch op ≡ refused 6 → suc index < block .batches →
+      ((l : List Cycle) → InBlock p f id block (suc index) 0 body a (moved p x) g l rest → l ≡ tail) →
+      InBlock p f id block index op body a x g cycles rest → cycles ≡ (f, respanned id (suc index)) ∷ tail
   unfolding HasOpcode
-  at-respan h e most (InBlock.ended has last) = absurd (omega arith)
-  at-respan h e most (InBlock.operation opcode′ (other, i, j) w d) = let z : _≡_ {A = ℕ} 0 1 = cc in absurd (omega arith)
-  at-respan h e most (InBlock.respan {cycles = l} has more d) = (l, refl, d)
+  at-respan e most then (InBlock.ended has last) = absurd (omega arith)
+  at-respan e most then (InBlock.operation opcode′ (other, i, j) w d) = let z : _≡_ {A = ℕ} 0 1 = cc in absurd (omega arith)
+  at-respan {id = id} e most then (InBlock.respan {cycles = l} has more d) = ap (λ y. (f, respanned id (suc index)) ∷ y) (then l d)
 
-  at-end : {id op : ℕ} {body : Bool} {a x g : ℕ} {cycles rest : List Cycle} → op ≡ batch .«num_ops» → opcodeAt (f .ops) batch op ≡ refused 6 → suc index ≡ block .batches →
-      InBlock p f id block index op body a x g cycles rest →
-      cycles ≡ (f, finished Ending.FinishBasicBlock id body x a g) ∷ rest
+  at-end : {id op : ℕ} {body : Bool} {a x g : ℕ} {cycles rest : List Cycle} → opcodeAt (f .ops) batch op ≡ refused 6 → suc index ≡ block .batches →
+      InBlock p f id block index op body a x g cycles rest → cycles ≡ (f, finished Ending.FinishBasicBlock id body x a g) ∷ rest
   unfolding HasOpcode
-  at-end h e last (InBlock.ended has most) = refl
-  at-end h e last (InBlock.operation opcode′ (other, i, j) w d) = let z : _≡_ {A = ℕ} 0 1 = cc in absurd (omega arith)
-  at-end h e last (InBlock.respan has more d) = absurd (omega arith)
+  at-end e last (InBlock.ended has most) = refl
+  at-end e last (InBlock.operation opcode′ (other, i, j) w d) = let z : _≡_ {A = ℕ} 0 1 = cc in absurd (omega arith)
+  at-end e last (InBlock.respan has more d) = absurd (omega arith)
+
+unfoldable forest : Forest
+forest = grove (5 ∷ 6 ∷ 7 ∷ [])
+
+-- the same but for an operation that no batch has
+unfoldable other : Forest
+other = grove (5 ∷ 6 ∷ 7 ∷ 8 ∷ [])
+
+abbrev small : Block
+small = record { total = 1; «first_batch» = 0; batches = 1 }
+
+abbrev large : Block
+large = record { total = 2; «first_batch» = 0; batches = 2 }
+
+abbrev batch0 : Batch
+batch0 = record { «group_count» = 1; «num_ops» = 2; «first_op» = 0; place = 0; low = (773, 0, 0, 0); high = (0, 0, 0, 0) }
+
+abbrev batch1 : Batch
+batch1 = record { «group_count» = 1; «num_ops» = 1; «first_op» = 2; place = 1; low = (7, 0, 0, 0); high = (0, 0, 0, 0) }
+
+-- the cycles of a block of one batch, at b under a
+abbrev spanned : Forest → (id : ℕ) → (flag : Bool) → (a b g : ℕ) → List Cycle → List Cycle
+spanned f id flag a b g rest =
+    (f, started Kind.span id b a) ∷ (f, operated id 0 0 5) ∷ (f, operated id 0 1 6) ∷ (f, finished Ending.FinishBasicBlock id flag b a g) ∷ rest
+
+in-small : (p : Profile) {id : ℕ} {body : Bool} {a b g : ℕ} {cycles rest : List Cycle} → InBlock p forest id small 0 0 body a b g cycles rest →
+    cycles ≡ (forest, operated id 0 0 5) ∷ (forest, operated id 0 1 6) ∷ (forest, finished Ending.FinishBasicBlock id body b a g) ∷ rest
+unfolding grove forest batchAt isBatch opcodeAt wordAt
+in-small p =
+    at-operation p forest small 0 batch0 refl 5 (omega arith) refl (λ l.
+    at-operation p forest small 0 batch0 refl 6 (omega arith) refl (λ m.
+    at-end p forest small 0 batch0 refl refl refl))
+
+in-large : (p : Profile) {id : ℕ} {body : Bool} {a b g : ℕ} {cycles rest : List Cycle} → InBlock p forest id large 0 0 body a b g cycles rest →
+    cycles ≡
+    (forest, operated id 0 0 5) ∷ (forest, operated id 0 1 6) ∷ (forest, respanned id 1) ∷ (forest, operated id 1 0 7)
+    ∷ (forest, finished Ending.FinishBasicBlock id body (moved p b) a g) ∷ rest
+unfolding grove forest batchAt isBatch opcodeAt wordAt
+in-large p =
+    at-operation p forest large 0 batch0 refl 5 (omega arith) refl (λ l.
+    at-operation p forest large 0 batch0 refl 6 (omega arith) refl (λ m.
+    at-respan p forest large 0 batch0 refl refl (omega arith) (λ n.
+    at-operation p forest large 1 batch1 refl 7 (omega arith) refl (λ o.
+    at-end p forest large 1 batch1 refl refl refl))))
+
+-- the slots of the forest
+slots : Holds forest 0 (Node.Join (nodeId 1) (nodeId 2)) × Holds forest 1 (Node.Block small) × Holds forest 2 (Node.Block small) × Holds forest 3 (Node.Block small)
+    × Holds forest 4 (Node.Split (nodeId 1) (nodeId 2)) × Holds forest 5 (Node.Loop (nodeId 1)) × Holds forest 6 (Node.Call (nodeId 1))
+    × Holds forest 7 (Node.Syscall (nodeId 1)) × Holds forest 8 (Node.Block large)
+unfolding grove forest Holds nodeAt nodeOf isSlot wordAt
+slots = ((_, refl), (_, refl), (_, refl), (_, refl), (_, refl), (_, refl), (_, refl), (_, refl), (_, refl))
+
+small-exact : {p : Profile} {body : Bool} {a b g : ℕ} {cycles rest : List Cycle} (id : ℕ) → Holds forest id (Node.Block small) → Run p forest id body a b g cycles rest →
+    cycles ≡ spanned forest id body a b g rest
+small-exact {p} {body} {a} {b} {g} {rest = rest} id h =
+    by-start (λ y. y ≡ spanned forest id body a b g rest) (Node.Block small) h (λ l d.
+    ap (λ y. (forest, started Kind.span id b a) ∷ y) (in-small p (block-start small h d)))
+
+large-exact : {p : Profile} {body : Bool} {a b g : ℕ} {cycles rest : List Cycle} → Run p forest 8 body a b g cycles rest →
+    cycles ≡
+    (forest, started Kind.span 8 b a) ∷ (forest, operated 8 0 0 5) ∷ (forest, operated 8 0 1 6) ∷ (forest, respanned 8 1) ∷ (forest, operated 8 1 0 7)
+    ∷ (forest, finished Ending.FinishBasicBlock 8 body (moved p b) a g) ∷ rest
+large-exact {p} {body} {a} {b} {g} {rest = rest} =
+    by-start (λ y. y ≡ (forest, started Kind.span 8 b a) ∷ (forest, operated 8 0 0 5) ∷ (forest, operated 8 0 1 6) ∷ (forest, respanned 8 1) ∷ (forest, operated 8 1 0 7)
+    ∷ (forest, finished Ending.FinishBasicBlock 8 body (moved p b) a g) ∷ rest) (Node.Block large) (slots .8) (λ l d.
+    ap (λ y. (forest, started Kind.span 8 b a) ∷ y) (in-large p (block-start large (slots .8) d)))
+
+join-exact : {p : Profile} {body : Bool} {a b g : ℕ} {cycles rest : List Cycle} → Run p forest 0 body a b g cycles rest →
+    (c : ℕ) × (d : ℕ) × (cycles ≡ (forest, started Kind.join 0 b a) ∷ spanned forest 1 false b c a (spanned forest 2 false b d a ((forest, finished Ending.FinishJoin 0 body b a g) ∷ rest)))
+join-exact {p} {body} {a} {b} {g} {rest = rest} =
+    by-start (λ y. (c : ℕ) × (d : ℕ) × (y ≡ (forest, started Kind.join 0 b a) ∷ spanned forest 1 false b c a (spanned forest 2 false b d a ((forest, finished Ending.FinishJoin 0 body b a g) ∷ rest))))
+    (Node.Join (nodeId 1) (nodeId 2)) (slots .0) (λ l r.
+    let (c, d, between, r1, r2) = join-start (nodeId 1) (nodeId 2) (slots .0) r in
+    (c, d, ap (λ y. (forest, started Kind.join 0 b a) ∷ y) (small-exact 1 (slots .1) r1 ∙ ap (spanned forest 1 false b c a) (small-exact 2 (slots .2) r2))))
