@@ -238,3 +238,98 @@ join-exact {p} {body} {a} {b} {g} {rest = rest} =
     (Node.Join (nodeId 1) (nodeId 2)) (slots .0) (λ l r.
     let (c, d, between, r1, r2) = join-start (nodeId 1) (nodeId 2) (slots .0) r in
     (c, d, ap (λ y. (forest, started Kind.join 0 b a) ∷ y) (small-exact 1 (slots .1) r1 ∙ ap (spanned forest 1 false b c a) (small-exact 2 (slots .2) r2))))
+
+-- a node with one child, m of h, at c
+abbrev under : OneChild → (id : ℕ) → (h : Forest) → (m : ℕ) → (body : Bool) → (a b g c : ℕ) → List Cycle → List Cycle
+under kind id h m body a b g c rest = (forest, started (Kind.one kind) id b a) ∷ spanned h m false b c a ((forest, finished (endingOf kind) id body b a g) ∷ rest)
+
+module _ (kind : OneChild) (id : ℕ) (Own : ℕ → Type 0) (own : (h : Forest) (m : ℕ) → Child kind forest id h m → (h ≡ forest) × Own m) (holds : (m : ℕ) → Own m → Holds forest m (Node.Block small)) where
+  one-child : {p : Profile} {a b c m : ℕ} {h : Forest} {cycles rest : List Cycle} → (h ≡ forest) × Own m → Run p h m false b c a cycles rest →
+      cycles ≡ spanned forest m false b c a rest
+  one-child {p} {a} {b} {c} {m} {cycles = cycles} {rest = rest} (e, o) r =
+      let r′ : Run p forest m false b c a cycles rest = rw (← e) r in small-exact m (holds m o) r′
+
+  one-exact : {p : Profile} {body : Bool} {a b g : ℕ} {l rest : List Cycle} → Run p forest id body a b g ((forest, started (Kind.one kind) id b a) ∷ l) rest →
+      (m : ℕ) × (c : ℕ) × Own m × ((forest, started (Kind.one kind) id b a) ∷ l ≡ under kind id forest m body a b g c rest)
+  one-exact {a = a} {b = b} r =
+      let (h, m, c, k, r′) = one-start r in
+      let o = own h m k in
+      (m, c, o .1, ap (λ y. (forest, started (Kind.one kind) id b a) ∷ y) (one-child o r′))
+
+split-exact : {p : Profile} {body : Bool} {a b g : ℕ} {cycles rest : List Cycle} → Run p forest 4 body a b g cycles rest →
+    (m : ℕ) × (c : ℕ) × ((m ≡ 1) ⊎ (m ≡ 2)) × (cycles ≡ under split 4 forest m body a b g c rest)
+split-exact {body = body} {a} {b} {g} {rest = rest} =
+    by-start (λ y. (m : ℕ) × (c : ℕ) × ((m ≡ 1) ⊎ (m ≡ 2)) × (y ≡ under split 4 forest m body a b g c rest)) (Node.Split (nodeId 1) (nodeId 2)) (slots .4) (λ l.
+    one-exact split 4 (λ m. (m ≡ 1) ⊎ (m ≡ 2)) (λ h m. split-child forest 4 h m (nodeId 1) (nodeId 2) (slots .4)) small-12)
+  where
+    small-12 : (m : ℕ) → (m ≡ 1) ⊎ (m ≡ 2) → Holds forest m (Node.Block small)
+    small-12 m (inl e) = rw e (slots .1)
+    small-12 m (inr e) = rw e (slots .2)
+
+call-exact : {p : Profile} {body : Bool} {a b g : ℕ} {cycles rest : List Cycle} → Run p forest 6 body a b g cycles rest →
+    (m : ℕ) × (c : ℕ) × (m ≡ 1) × (cycles ≡ under call 6 forest m body a b g c rest)
+call-exact {body = body} {a} {b} {g} {rest = rest} =
+    by-start (λ y. (m : ℕ) × (c : ℕ) × (m ≡ 1) × (y ≡ under call 6 forest m body a b g c rest)) (Node.Call (nodeId 1)) (slots .6) (λ l.
+    one-exact call 6 (λ m. m ≡ 1) (λ h m. call-child forest 6 h m (nodeId 1) (slots .6)) (λ m e. rw e (slots .1)))
+
+syscall-exact : {p : Profile} {body : Bool} {a b g : ℕ} {cycles rest : List Cycle} → Run p forest 7 body a b g cycles rest →
+    (m : ℕ) × (c : ℕ) × (m ≡ 1) × (cycles ≡ under syscall 7 forest m body a b g c rest)
+syscall-exact {body = body} {a} {b} {g} {rest = rest} =
+    by-start (λ y. (m : ℕ) × (c : ℕ) × (m ≡ 1) × (y ≡ under syscall 7 forest m body a b g c rest)) (Node.Syscall (nodeId 1)) (slots .7) (λ l.
+    one-exact syscall 7 (λ m. m ≡ 1) (λ h m. syscall-child forest 7 h m (nodeId 1) (slots .7)) (λ m e. rw e (slots .1)))
+
+-- the passes of the loop, its body at c and at each of the others
+unfoldable passing : (body : Bool) → (a b g c : ℕ) → List ℕ → List Cycle → List Cycle
+passing body a b g c [] rest = spanned forest 1 true b c a ((forest, finished Ending.FinishLoop 5 body b a g) ∷ rest)
+passing body a b g c (d ∷ others) rest = spanned forest 1 true b c a ((forest, repeated 5) ∷ passing body a b g d others rest)
+
+passes-exact : {p : Profile} {body : Bool} {a b g : ℕ} {cycles rest : List Cycle} → RunPasses p forest 5 1 body a b g cycles rest →
+    (c : ℕ) × (others : List ℕ) × (cycles ≡ passing body a b g c others rest)
+unfolding passing
+passes-exact (RunPasses.ended {c = c} r) = (c, [], small-exact 1 (slots .1) r)
+passes-exact (RunPasses.again {a = a} {b = b} {c = c} r d) =
+    let (e, others, k) = passes-exact d in (c, e ∷ others, small-exact 1 (slots .1) r ∙ ap (λ y. spanned forest 1 true b c a ((forest, repeated 5) ∷ y)) k)
+
+loop-exact : {p : Profile} {body : Bool} {a b g : ℕ} {cycles rest : List Cycle} → Run p forest 5 body a b g cycles rest →
+    (c : ℕ) × (others : List ℕ) × (cycles ≡ (forest, started Kind.loop 5 b a) ∷ passing body a b g c others rest)
+loop-exact {body = body} {a} {b} {g} {rest = rest} =
+    by-start (λ y. (c : ℕ) × (others : List ℕ) × (y ≡ (forest, started Kind.loop 5 b a) ∷ passing body a b g c others rest)) (Node.Loop (nodeId 1)) (slots .5) (λ l r.
+    let (c, others, e) = passes-exact (loop-start (nodeId 1) (slots .5) r) in (c, others, ap (λ y. (forest, started Kind.loop 5 b a) ∷ y) e))
+
+-- and these are proper runs
+small-proper : {body : Bool} {a b g : ℕ} {rest : List Cycle} (id : ℕ) → Holds forest id (Node.Block small) → Run profile forest id body a b g (spanned forest id body a b g rest) rest
+unfolding grove forest HasOperations HasOpcode batchAt isBatch opcodeAt wordAt isOpOpcode controlOpcodes controls isOneOf
+small-proper id h = Run.block {block = small} h (InBlock.operation 5 (_, refl, refl) refl (InBlock.operation 6 (_, refl, refl) refl (InBlock.ended (_, refl, refl) refl)))
+
+large-proper : {body : Bool} {a b g : ℕ} {rest : List Cycle} → Run profile forest 8 body a b g
+    ((forest, started Kind.span 8 b a) ∷ (forest, operated 8 0 0 5) ∷ (forest, operated 8 0 1 6) ∷ (forest, respanned 8 1) ∷ (forest, operated 8 1 0 7)
+    ∷ (forest, finished Ending.FinishBasicBlock 8 body (moved profile b) a g) ∷ rest) rest
+unfolding grove forest HasOperations HasOpcode batchAt isBatch opcodeAt wordAt isOpOpcode controlOpcodes controls isOneOf
+large-proper =
+    Run.block {block = large} (slots .8) (InBlock.operation 5 (_, refl, refl) refl (InBlock.operation 6 (_, refl, refl) refl
+    (InBlock.respan {index = 0} (_, refl, refl) (omega arith) (InBlock.operation 7 (_, refl, refl) refl (InBlock.ended (_, refl, refl) refl)))))
+
+join-proper : {body : Bool} {a b g c d : ℕ} {rest : List Cycle} → Run profile forest 0 body a b g
+    ((forest, started Kind.join 0 b a) ∷ spanned forest 1 false b c a (spanned forest 2 false b d a ((forest, finished Ending.FinishJoin 0 body b a g) ∷ rest))) rest
+join-proper = Run.join {first = nodeId 1} {second = nodeId 2} (slots .0) (small-proper 1 (slots .1)) (small-proper 2 (slots .2))
+
+split-proper : {body : Bool} {a b g c m : ℕ} {rest : List Cycle} → (m ≡ 1) ⊎ (m ≡ 2) → Run profile forest 4 body a b g (under split 4 forest m body a b g c rest) rest
+unfolding Child endingOf
+split-proper (inl e) = Run.one split (nodeId 1, nodeId 2, slots .4, refl, inl e) (small-proper _ (rw e (slots .1)))
+split-proper (inr e) = Run.one split (nodeId 1, nodeId 2, slots .4, refl, inr e) (small-proper _ (rw e (slots .2)))
+
+call-proper : {body : Bool} {a b g c : ℕ} {rest : List Cycle} → Run profile forest 6 body a b g (under call 6 forest 1 body a b g c rest) rest
+unfolding Child endingOf
+call-proper = Run.one call (nodeId 1, slots .6, refl, refl) (small-proper 1 (slots .1))
+
+syscall-proper : {body : Bool} {a b g c : ℕ} {rest : List Cycle} → Run profile forest 7 body a b g (under syscall 7 forest 1 body a b g c rest) rest
+unfolding Child endingOf
+syscall-proper = Run.one syscall (nodeId 1, slots .7, refl, refl) (small-proper 1 (slots .1))
+
+passes-proper : {body : Bool} {a b g : ℕ} {rest : List Cycle} (c : ℕ) (others : List ℕ) → RunPasses profile forest 5 1 body a b g (passing body a b g c others rest) rest
+unfolding passing
+passes-proper c [] = RunPasses.ended (small-proper 1 (slots .1))
+passes-proper c (d ∷ others) = RunPasses.again (small-proper 1 (slots .1)) (passes-proper d others)
+
+loop-proper : {body : Bool} {a b g : ℕ} {rest : List Cycle} (c : ℕ) (others : List ℕ) → Run profile forest 5 body a b g ((forest, started Kind.loop 5 b a) ∷ passing body a b g c others rest) rest
+loop-proper c others = Run.loop {child = nodeId 1} (slots .5) (passes-proper c others)
