@@ -1,12 +1,12 @@
 -- What no proper run is: over one small forest the proper runs of a node are exactly some lists of cycles, and lists that miss one thing are
 -- none.
-use mathlib.Core.Path.{_≡_, refl, sym, ap, _∙_}
+use mathlib.Core.Path.{_≡_, _∙_, refl, sym, ap}
 use mathlib.Core.Bool.{Bool, true, false}
 use mathlib.Core.List.{List, [], _∷_}
 use mathlib.Core.Logic.{_⊎_, inl, inr}
-use Prim.Native.Nat.{ℕ, suc, _<_}
+use Prim.Native.Nat.{ℕ, zero, suc, _<_}
 use native.Mathlib.Omega.{arith}
-use lib.ListN.{replicate}
+use lib.ListN.{length, getD, replicate}
 use Rattle.groups.specs.Answer.{Answer, accepted, refused}
 use Rattle.groups.specs.Batches.{isBatch, batchAt}
 use Rattle.groups.specs.Words.{wordAt}
@@ -333,3 +333,48 @@ passes-proper c (d ∷ others) = RunPasses.again (small-proper 1 (slots .1)) (pa
 
 loop-proper : {body : Bool} {a b g : ℕ} {rest : List Cycle} (c : ℕ) (others : List ℕ) → Run profile forest 5 body a b g ((forest, started Kind.loop 5 b a) ∷ passing body a b g c others rest) rest
 loop-proper c others = Run.loop {child = nodeId 1} (slots .5) (passes-proper c others)
+
+-- no proper run, whatever the root, the addresses and the rest
+abbrev NoRun : Profile → List Cycle → Type 0
+NoRun p cycles = (f : Forest) (id : ℕ) (body : Bool) (a b g : ℕ) (rest : List Cycle) → Run p f id body a b g cycles rest → ⊥
+
+-- what tells cycles apart: the forest, and the numbers of what was done
+abbrev flagNumber : Bool → ℕ
+flagNumber true = 1
+flagNumber false = 0
+
+abbrev numbersOf : Did → List ℕ
+numbersOf (started kind id b a) = id ∷ b ∷ a ∷ []
+numbersOf (operated id i j opcode) = id ∷ i ∷ j ∷ opcode ∷ []
+numbersOf (respanned id i) = id ∷ i ∷ []
+numbersOf (repeated id) = id ∷ []
+numbersOf (finished ending id flag b a g) = id ∷ flagNumber flag ∷ b ∷ a ∷ g ∷ []
+numbersOf Did.nothing = []
+
+abbrev cycleAt : (n : ℕ) → List Cycle → Cycle
+cycleAt n [] = (forest, Did.nothing)
+cycleAt zero (c ∷ cycles) = c
+cycleAt (suc n) (c ∷ cycles) = cycleAt n cycles
+
+abbrev numberAt : (n i : ℕ) → List Cycle → ℕ
+numberAt n i cycles = getD (numbersOf (cycleAt n cycles .1)) i 0
+
+abbrev forestAt : (n : ℕ) → List Cycle → Forest
+forestAt n cycles = cycleAt n cycles .0
+
+-- a Join at 1, of node m of the forest h at 3 and node n at 5. The first child has the parent address x queued, and its finish cycle the third
+-- number t and the flag
+abbrev joined : (h : Forest) (m n x t : ℕ) (flag : Bool) → List Cycle
+joined h m n x t flag =
+    (forest, started Kind.join 0 1 0)
+    ∷ (h, started Kind.span m 3 x) ∷ (h, operated m 0 0 5) ∷ (h, operated m 0 1 6) ∷ (h, finished Ending.FinishBasicBlock m flag 3 1 t)
+    ∷ spanned forest n false 1 5 0 ((forest, finished Ending.FinishJoin 0 false 1 0 99) ∷ [])
+
+joined-proper : Run profile forest 0 false 0 1 99 (joined forest 1 2 1 0 false) []
+joined-proper = join-proper
+
+joined-only : {p : Profile} {f : Forest} {id : ℕ} {body : Bool} {a b g : ℕ} {rest : List Cycle} (h : Forest) (m n x t : ℕ) (flag : Bool) → Run p f id body a b g (joined h m n x t flag) rest →
+    (h ≡ forest) × (m ≡ 1) × (n ≡ 2) × (x ≡ 1) × (t ≡ 0) × (flagNumber flag ≡ 0)
+joined-only h m n x t flag r =
+    let (c, d, e) = join-exact (from-start r) in
+    (ap (forestAt 1) e, ap (numberAt 1 0) e, ap (numberAt 5 0) e, ap (numberAt 1 2) e, ap (numberAt 4 4) e, ap (numberAt 4 1) e)
