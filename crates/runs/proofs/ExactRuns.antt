@@ -200,9 +200,9 @@ joining flag a b g c d rest =
     (forest, started Kind.join 0 b a) ∷ spanned forest 1 false b c a (spanned forest 2 false b d a ((forest, finished Ending.FinishJoin 0 flag b a g) ∷ rest))
 
 -- of a node with one child, m of h, at c
-abbrev pub under : OneChild → (id : ℕ) → (h : Forest) → (m : ℕ) → (flag : Bool) → (a b g c : ℕ) → List Cycle → List Cycle
-under kind id h m flag a b g c rest =
-    (forest, started (Kind.one kind) id b a) ∷ spanned h m false b c a ((forest, finished (endingOf kind) id flag b a g) ∷ rest)
+abbrev pub under : OneChild → Ending → (id : ℕ) → (h : Forest) → (m : ℕ) → (flag : Bool) → (a b g c : ℕ) → List Cycle → List Cycle
+under kind ending id h m flag a b g c rest =
+    (forest, started (Kind.one kind) id b a) ∷ spanned h m false b c a ((forest, finished ending id flag b a g) ∷ rest)
 
 -- of the Loop behind its StartNode, its body at c and then at each of the others
 unfoldable pub passing : (flag : Bool) → (a b g c : ℕ) → List ℕ → List Cycle → List Cycle
@@ -264,16 +264,17 @@ module _ (kind : OneChild) (id : ℕ) (Own : ℕ → Type 0) (own : (h : Forest)
       let r′ : Run p forest m false b c a cycles rest = rw (← e) r in small-exact m (holds m o) r′
 
   one-exact : {p : Profile} {body : Bool} {a b g : ℕ} {l rest : List Cycle} → Run p forest id body a b g ((forest, started (Kind.one kind) id b a) ∷ l) rest →
-      (m : ℕ) × (c : ℕ) × Own m × ((forest, started (Kind.one kind) id b a) ∷ l ≡ under kind id forest m body a b g c rest)
+      (m : ℕ) × (c : ℕ) × Own m × ((forest, started (Kind.one kind) id b a) ∷ l ≡ under kind (endingOf kind) id forest m body a b g c rest)
   one-exact {a = a} {b = b} r =
       let (h, m, c, k, r′) = one-start r in
       let o = own h m k in
       (m, c, o .1, ap (λ y. (forest, started (Kind.one kind) id b a) ∷ y) (one-child o r′))
 
 pub split-exact : {p : Profile} {body : Bool} {a b g : ℕ} {cycles rest : List Cycle} → Run p forest 4 body a b g cycles rest →
-    (m : ℕ) × (c : ℕ) × ((m ≡ 1) ⊎ (m ≡ 2)) × (cycles ≡ under split 4 forest m body a b g c rest)
+    (m : ℕ) × (c : ℕ) × ((m ≡ 1) ⊎ (m ≡ 2)) × (cycles ≡ under split Ending.FinishSplit 4 forest m body a b g c rest)
+unfolding endingOf
 split-exact {body = body} {a} {b} {g} {rest = rest} =
-    by-start (λ y. (m : ℕ) × (c : ℕ) × ((m ≡ 1) ⊎ (m ≡ 2)) × (y ≡ under split 4 forest m body a b g c rest)) (Node.Split (nodeId 1) (nodeId 2)) (slots .4) (λ l.
+    by-start (λ y. (m : ℕ) × (c : ℕ) × ((m ≡ 1) ⊎ (m ≡ 2)) × (y ≡ under split Ending.FinishSplit 4 forest m body a b g c rest)) (Node.Split (nodeId 1) (nodeId 2)) (slots .4) (λ l.
     one-exact split 4 (λ m. (m ≡ 1) ⊎ (m ≡ 2)) (λ h m. split-child forest 4 h m (nodeId 1) (nodeId 2) (slots .4)) small-12)
   where
     small-12 : (m : ℕ) → (m ≡ 1) ⊎ (m ≡ 2) → Holds forest m (Node.Block small)
@@ -281,15 +282,17 @@ split-exact {body = body} {a} {b} {g} {rest = rest} =
     small-12 m (inr e) = rw e (slots .2)
 
 pub call-exact : {p : Profile} {body : Bool} {a b g : ℕ} {cycles rest : List Cycle} → Run p forest 6 body a b g cycles rest →
-    (m : ℕ) × (c : ℕ) × (m ≡ 1) × (cycles ≡ under call 6 forest m body a b g c rest)
+    (m : ℕ) × (c : ℕ) × (m ≡ 1) × (cycles ≡ under call Ending.FinishCall 6 forest m body a b g c rest)
+unfolding endingOf
 call-exact {body = body} {a} {b} {g} {rest = rest} =
-    by-start (λ y. (m : ℕ) × (c : ℕ) × (m ≡ 1) × (y ≡ under call 6 forest m body a b g c rest)) (Node.Call (nodeId 1)) (slots .6) (λ l.
+    by-start (λ y. (m : ℕ) × (c : ℕ) × (m ≡ 1) × (y ≡ under call Ending.FinishCall 6 forest m body a b g c rest)) (Node.Call (nodeId 1)) (slots .6) (λ l.
     one-exact call 6 (λ m. m ≡ 1) (λ h m. call-child forest 6 h m (nodeId 1) (slots .6)) (λ m e. rw e (slots .1)))
 
 pub syscall-exact : {p : Profile} {body : Bool} {a b g : ℕ} {cycles rest : List Cycle} → Run p forest 7 body a b g cycles rest →
-    (m : ℕ) × (c : ℕ) × (m ≡ 1) × (cycles ≡ under syscall 7 forest m body a b g c rest)
+    (m : ℕ) × (c : ℕ) × (m ≡ 1) × (cycles ≡ under syscall Ending.FinishCall 7 forest m body a b g c rest)
+unfolding endingOf
 syscall-exact {body = body} {a} {b} {g} {rest = rest} =
-    by-start (λ y. (m : ℕ) × (c : ℕ) × (m ≡ 1) × (y ≡ under syscall 7 forest m body a b g c rest)) (Node.Syscall (nodeId 1)) (slots .7) (λ l.
+    by-start (λ y. (m : ℕ) × (c : ℕ) × (m ≡ 1) × (y ≡ under syscall Ending.FinishCall 7 forest m body a b g c rest)) (Node.Syscall (nodeId 1)) (slots .7) (λ l.
     one-exact syscall 7 (λ m. m ≡ 1) (λ h m. syscall-child forest 7 h m (nodeId 1) (slots .7)) (λ m e. rw e (slots .1)))
 
 passes-exact : {p : Profile} {body : Bool} {a b g : ℕ} {cycles rest : List Cycle} → RunPasses p forest 5 1 body a b g cycles rest →
@@ -319,16 +322,16 @@ large-proper =
 pub join-proper : {body : Bool} {a b g c d : ℕ} {rest : List Cycle} → Run profile forest 0 body a b g (joining body a b g c d rest) rest
 join-proper = Run.join {first = nodeId 1} {second = nodeId 2} (slots .0) (small-proper 1 (slots .1)) (small-proper 2 (slots .2))
 
-pub split-proper : {body : Bool} {a b g c m : ℕ} {rest : List Cycle} → (m ≡ 1) ⊎ (m ≡ 2) → Run profile forest 4 body a b g (under split 4 forest m body a b g c rest) rest
+pub split-proper : {body : Bool} {a b g c m : ℕ} {rest : List Cycle} → (m ≡ 1) ⊎ (m ≡ 2) → Run profile forest 4 body a b g (under split Ending.FinishSplit 4 forest m body a b g c rest) rest
 unfolding Child endingOf
 split-proper (inl e) = Run.one split (nodeId 1, nodeId 2, slots .4, refl, inl e) (small-proper _ (rw e (slots .1)))
 split-proper (inr e) = Run.one split (nodeId 1, nodeId 2, slots .4, refl, inr e) (small-proper _ (rw e (slots .2)))
 
-pub call-proper : {body : Bool} {a b g c : ℕ} {rest : List Cycle} → Run profile forest 6 body a b g (under call 6 forest 1 body a b g c rest) rest
+pub call-proper : {body : Bool} {a b g c : ℕ} {rest : List Cycle} → Run profile forest 6 body a b g (under call Ending.FinishCall 6 forest 1 body a b g c rest) rest
 unfolding Child endingOf
 call-proper = Run.one call (nodeId 1, slots .6, refl, refl) (small-proper 1 (slots .1))
 
-pub syscall-proper : {body : Bool} {a b g c : ℕ} {rest : List Cycle} → Run profile forest 7 body a b g (under syscall 7 forest 1 body a b g c rest) rest
+pub syscall-proper : {body : Bool} {a b g c : ℕ} {rest : List Cycle} → Run profile forest 7 body a b g (under syscall Ending.FinishCall 7 forest 1 body a b g c rest) rest
 unfolding Child endingOf
 syscall-proper = Run.one syscall (nodeId 1, slots .7, refl, refl) (small-proper 1 (slots .1))
 

@@ -19,12 +19,20 @@ abbrev flagNumber : Bool → ℕ
 flagNumber true = 1
 flagNumber false = 0
 
+abbrev endingNumber : Ending → ℕ
+endingNumber Ending.FinishBasicBlock = 0
+endingNumber Ending.FinishJoin = 1
+endingNumber Ending.FinishSplit = 2
+endingNumber Ending.FinishLoop = 3
+endingNumber Ending.FinishCall = 4
+endingNumber Ending.FinishDyn = 5
+
 abbrev numbersOf : Did → List ℕ
 numbersOf (started kind id b a) = id ∷ b ∷ a ∷ []
 numbersOf (operated id i j opcode) = id ∷ i ∷ j ∷ opcode ∷ []
 numbersOf (respanned id i) = id ∷ i ∷ []
 numbersOf (repeated id) = id ∷ []
-numbersOf (finished ending id flag b a g) = id ∷ flagNumber flag ∷ b ∷ a ∷ g ∷ []
+numbersOf (finished ending id flag b a g) = id ∷ flagNumber flag ∷ b ∷ a ∷ g ∷ endingNumber ending ∷ []
 numbersOf Did.nothing = []
 
 abbrev cycleAt : (n : ℕ) → List Cycle → Cycle
@@ -48,9 +56,9 @@ joined h m n x t flag =
     ∷ (h, started Kind.span m 3 x) ∷ (h, operated m 0 0 5) ∷ (h, operated m 0 1 6) ∷ (h, finished Ending.FinishBasicBlock m flag 3 1 t)
     ∷ spanned forest n false 1 5 0 ((forest, finished Ending.FinishJoin 0 false 1 0 99) ∷ [])
 
--- a node with one child: node m of the forest h at 3
-abbrev above : OneChild → (id : ℕ) → (h : Forest) → (m : ℕ) → List Cycle
-above kind id h m = under kind id h m false 0 1 99 3 []
+-- a node with one child: node m of the forest h at 3; and its finish cycle
+abbrev above : OneChild → Ending → (id : ℕ) → (h : Forest) → (m : ℕ) → List Cycle
+above kind ending id h m = under kind ending id h m false 0 1 99 3 []
 
 -- two passes of a Loop: node m of the forest h at 3 with the flag, FinishLoop of node j with condition one, and its body at 5
 abbrev looped : (h : Forest) → (m j : ℕ) → (flag : Bool) → List Cycle
@@ -65,13 +73,13 @@ batched dids i x = (forest, started Kind.span 8 1 0) ∷ map (λ d. (forest, d))
 joined-proper : Run profile forest 0 false 0 1 99 (joined forest 1 2 1 0 false) []
 joined-proper = join-proper
 
-split-above : (Run profile forest 4 false 0 1 99 (above split 4 forest 1) []) × Run profile forest 4 false 0 1 99 (above split 4 forest 2) []
+split-above : (Run profile forest 4 false 0 1 99 (above split Ending.FinishSplit 4 forest 1) []) × Run profile forest 4 false 0 1 99 (above split Ending.FinishSplit 4 forest 2) []
 split-above = (split-proper (inl refl), split-proper (inr refl))
 
-call-above : Run profile forest 6 false 0 1 99 (above call 6 forest 1) []
+call-above : Run profile forest 6 false 0 1 99 (above call Ending.FinishCall 6 forest 1) []
 call-above = call-proper
 
-syscall-above : Run profile forest 7 false 0 1 99 (above syscall 7 forest 1) []
+syscall-above : Run profile forest 7 false 0 1 99 (above syscall Ending.FinishCall 7 forest 1) []
 syscall-above = syscall-proper
 
 looped-proper : Run profile forest 5 false 0 1 99 (looped forest 1 5 true) []
@@ -91,14 +99,14 @@ module _ (p : Profile) (f : Forest) (id : ℕ) (body : Bool) (a b g : ℕ) (rest
       let (c, d, e) = join-exact (from-start r) in
       (ap (forestAt 1) e, ap (numberAt 1 0) e, ap (numberAt 5 0) e, ap (numberAt 1 2) e, ap (numberAt 4 4) e, ap (numberAt 4 1) e)
 
-  split-only : (h : Forest) (m : ℕ) → Proper (above split 4 h m) → (h ≡ forest) × ((m ≡ 1) ⊎ (m ≡ 2))
+  split-only : (h : Forest) (m : ℕ) → Proper (above split Ending.FinishSplit 4 h m) → (h ≡ forest) × ((m ≡ 1) ⊎ (m ≡ 2))
   split-only h m r =
       let (n, c, own, e) = split-exact (from-start r) in let k : m ≡ n = ap (numberAt 1 0) e in (ap (forestAt 1) e, rw k own)
 
-  call-only : (h : Forest) (m : ℕ) → Proper (above call 6 h m) → (h ≡ forest) × (m ≡ 1)
+  call-only : (h : Forest) (m : ℕ) → Proper (above call Ending.FinishCall 6 h m) → (h ≡ forest) × (m ≡ 1)
   call-only h m r = let (n, c, own, e) = call-exact (from-start r) in (ap (forestAt 1) e, ap (numberAt 1 0) e ∙ own)
 
-  syscall-only : (h : Forest) (m : ℕ) → Proper (above syscall 7 h m) → (h ≡ forest) × (m ≡ 1)
+  syscall-only : (h : Forest) (m : ℕ) → Proper (above syscall Ending.FinishCall 7 h m) → (h ≡ forest) × (m ≡ 1)
   syscall-only h m r = let (n, c, own, e) = syscall-exact (from-start r) in (ap (forestAt 1) e, ap (numberAt 1 0) e ∙ own)
 
   looped-by : (h : Forest) (m j : ℕ) (flag : Bool) (c : ℕ) (others : List ℕ) → looped h m j flag ≡ (forest, started Kind.loop 5 1 0) ∷ passing body 0 1 g c others rest →
@@ -124,17 +132,17 @@ module _ (p : Profile) (f : Forest) (id : ℕ) (body : Bool) (a b g : ℕ) (rest
   exchanged r = let e = joined-only forest 2 1 1 0 false r .1 in omega arith
 
   -- "Split: one child", "Call: the callee", the Loop's body
-  split-not-own : Proper (above split 4 forest 3) → ⊥
+  split-not-own : Proper (above split Ending.FinishSplit 4 forest 3) → ⊥
   split-not-own r = neither (split-only forest 3 r .1)
     where
       neither : (_≡_ {A = ℕ} 3 1) ⊎ (_≡_ {A = ℕ} 3 2) → ⊥
       neither (inl e) = omega arith
       neither (inr e) = omega arith
 
-  call-not-own : Proper (above call 6 forest 3) → ⊥
+  call-not-own : Proper (above call Ending.FinishCall 6 forest 3) → ⊥
   call-not-own r = let e = call-only forest 3 r .1 in omega arith
 
-  syscall-not-own : Proper (above syscall 7 forest 3) → ⊥
+  syscall-not-own : Proper (above syscall Ending.FinishCall 7 forest 3) → ⊥
   syscall-not-own r = let e = syscall-only forest 3 r .1 in omega arith
 
   body-not-own : Proper (looped forest 3 5 true) → ⊥
@@ -148,17 +156,21 @@ module _ (p : Profile) (f : Forest) (id : ℕ) (body : Bool) (a b g : ℕ) (rest
   join-not-shared : Proper (joined other 1 2 1 0 false) → ⊥
   join-not-shared r = apart (joined-only other 1 2 1 0 false r .0)
 
-  split-not-shared : Proper (above split 4 other 1) → ⊥
+  split-not-shared : Proper (above split Ending.FinishSplit 4 other 1) → ⊥
   split-not-shared r = apart (split-only other 1 r .0)
 
-  call-not-shared : Proper (above call 6 other 1) → ⊥
+  call-not-shared : Proper (above call Ending.FinishCall 6 other 1) → ⊥
   call-not-shared r = apart (call-only other 1 r .0)
 
-  syscall-not-shared : Proper (above syscall 7 other 1) → ⊥
+  syscall-not-shared : Proper (above syscall Ending.FinishCall 7 other 1) → ⊥
   syscall-not-shared r = apart (syscall-only other 1 r .0)
 
   loop-not-shared : Proper (looped other 1 5 true) → ⊥
   loop-not-shared r = apart (looped-only other 1 5 true r .0)
+
+  -- "then the finish cycle": a Call with a Split's
+  finish-not-own : Proper (above call Ending.FinishSplit 6 forest 1) → ⊥
+  finish-not-own r = let (n, c, own, e) = call-exact (from-start r) in let k = ap (numberAt 5 5) e in omega arith
 
   -- "an operation cycle for each operation": one left out, one twice, two in the wrong order
   left-out : Proper (batched (operated 8 0 0 5 ∷ []) 1 3) → ⊥
