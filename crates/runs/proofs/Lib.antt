@@ -19,3 +19,5 @@ pub mod InOne
 pub mod ReadRun
 pub mod ExampleEqualAddresses
 pub mod BodiesEnd
+pub mod ExactRuns
+pub mod ImproperRuns
