@@ -78,4 +78,3 @@ cycleCells system stack registers t =
 -- Refusal 1 of a finish
 unfoldable pub cycleBig : SystemState → StackState → OperationHelperRegisters → CoreTraceGenerationTracer → Bool
 cycleBig system stack registers t = anyFrom P (cycleCells system stack registers t)
-

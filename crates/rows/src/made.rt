@@ -1,5 +1,17 @@
 // What a continuation makes of the forest, the queues and the tracer: a decoder row, the address state and queue positions after it,
 // and which captured values it used up; or the refusal. Nothing here reads or writes a fragment.
+use groups::batch::BatchFound;
+use groups::batch::Block;
+use groups::batch::batch_at;
+use groups::context::BasicBlockContext;
+use groups::context::BatchContextFound;
+use groups::context::OpContext;
+use groups::context::OpContextFound;
+use groups::flags::FlagsFound;
+use groups::flags::batch_flags;
+use groups::helpers::HelpersFound;
+use groups::helpers::OperationHelperRegisters;
+use groups::word::Word;
 use records::continuation::CalleeWord;
 use records::continuation::Captured;
 use records::continuation::ContextInfo;
@@ -27,18 +39,6 @@ use records::replay::Started;
 use records::replay::end_lent;
 use records::replay::respan_step;
 use records::replay::start_lent;
-use groups::batch::BatchFound;
-use groups::batch::Block;
-use groups::batch::batch_at;
-use groups::context::BasicBlockContext;
-use groups::context::BatchContextFound;
-use groups::context::OpContext;
-use groups::context::OpContextFound;
-use groups::flags::FlagsFound;
-use groups::flags::batch_flags;
-use groups::helpers::HelpersFound;
-use groups::helpers::OperationHelperRegisters;
-use groups::word::Word;
 ghost use mathlib.Core.Path.{_≡_};
 ghost use Rattle.groups.specs.Answer.{Answer, accepted};
 ghost use Rattle.records.specs.Forests.{Forest, forest};

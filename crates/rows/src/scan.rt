@@ -1,5 +1,11 @@
 // The checks of a finish that look at everything lent. Profile, forest and queues do not change between cycles, so what a scan of them
 // finds is a value of its own.
+use crate::tracer::CoreTraceGenerationTracer;
+use field::cell::any_big;
+use field::felt::Felt;
+use groups::helpers::OperationHelperRegisters;
+use groups::number::number;
+use groups::word::is_beyond;
 use records::continuation::CalleeWord;
 use records::continuation::ContextInfo;
 use records::profile::Profile;
@@ -10,12 +16,6 @@ use records::state::StackCols;
 use records::state::StackState;
 use records::state::SystemCols;
 use records::state::SystemState;
-use crate::tracer::CoreTraceGenerationTracer;
-use field::cell::any_big;
-use field::felt::Felt;
-use groups::helpers::OperationHelperRegisters;
-use groups::number::number;
-use groups::word::is_beyond;
 ghost use mathlib.Core.Path.{_≡_};
 ghost use Prim.Native.Nat.{_+_, _*_, _/_, _≤_, _<_};
 ghost use lib.ListN.{length};
