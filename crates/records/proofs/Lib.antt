@@ -1,5 +1,7 @@
 pub mod Bits
 pub mod EndQueue
+pub mod LentState
 pub mod Rooms
 pub mod Slots
+pub mod ToldSteps
 pub mod Windows

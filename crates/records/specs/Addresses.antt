@@ -69,6 +69,16 @@ abbrev pub toldEnd : EndFound → Answer NodeEndData
 toldEnd (EndFound.At entry) = accepted entry
 toldEnd EndFound.Missing = refused 22
 
+-- of a start: the positions after it
+abbrev pub toldStarted : Started → Answer Positions
+toldStarted (Started.Moved next) = accepted next
+toldStarted (Started.Refused n) = refused n
+
+-- of an END: the address that ended, and the positions after it
+abbrev pub toldEnded : Ended → Answer (ℕ × Positions)
+toldEnded (Ended.Moved addr next) = accepted (addr, next)
+toldEnded (Ended.Refused n) = refused n
+
 -- what a start answers, and the state after it: as it was on a refusal
 abbrev pub startTold : Answer DecoderState → Positions → DecoderState → StartStep
 startTold (accepted moved) at state = record { answer = Started.Moved (afterStart at); state = moved }

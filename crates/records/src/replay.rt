@@ -68,12 +68,7 @@ pub fn end_at(ends: &[u64], at: usize) -> EndFound
 }
 
 // A node starts: its address and its parent's come from their queues. 20, 21: a queue is used up.
-pub fn start_lent(
-    state: DecoderState,
-    addresses: &[u64],
-    parents: &[u64],
-    at: Positions,
-) -> StartStep
+fn start_step(state: DecoderState, addresses: &[u64], parents: &[u64], at: Positions) -> StartStep
     ensures { λ r. ⌜ r ≡ startStep (now (addresses .entry)) (now (parents .entry)) at state ⌝ }
 {
     if addresses.len() <= at.addresses {
@@ -104,7 +99,7 @@ pub fn start_lent(
 }
 
 // A node ends: the queue's entry gives its address and the state after it. 22: the queue is used up.
-pub fn end_lent(state: DecoderState, ends: &[u64], at: Positions) -> EndStep
+fn end_step(state: DecoderState, ends: &[u64], at: Positions) -> EndStep
     ensures { λ r. ⌜ r ≡ endStep (now (ends .entry)) at state ⌝ }
 {
     let EndFound::At(entry) = end_at(ends, at.ends) else {
@@ -126,6 +121,54 @@ pub fn end_lent(state: DecoderState, ends: &[u64], at: Positions) -> EndStep
         answer: Ended::Moved(entry.ended_node_addr, next),
         state: moved,
     }
+}
+
+impl DecoderState {
+    // A node starts, on a lent state: from then on it names that node and its parent. 20, 21 leave it as it was.
+    pub fn replay_node_start(
+        &mut self,
+        addresses: &[u64],
+        parents: &[u64],
+        at: Positions,
+    ) -> Started
+        ensures { λ r. ⌜ (r ≡ startStep (now (addresses .entry)) (now (parents .entry)) at (now (self .entry)) .answer)
+            × (now (self .exit) ≡ startStep (now (addresses .entry)) (now (parents .entry)) at (now (self .entry)) .state) ⌝ }
+    {
+        let step = start_step(*self, addresses, parents, at);
+        *self = step.state;
+        step.answer
+    }
+
+    // A node ends, on a lent state: from then on it names the node around it. 22 leaves it as it was.
+    pub fn replay_node_end(&mut self, ends: &[u64], at: Positions) -> Ended
+        ensures { λ r. ⌜ (r ≡ endStep (now (ends .entry)) at (now (self .entry)) .answer)
+            × (now (self .exit) ≡ endStep (now (ends .entry)) at (now (self .entry)) .state) ⌝ }
+    {
+        let step = end_step(*self, ends, at);
+        *self = step.state;
+        step.answer
+    }
+}
+
+// A start for a caller that has the state by value: it is lent, and handed back.
+pub fn start_lent(
+    mut state: DecoderState,
+    addresses: &[u64],
+    parents: &[u64],
+    at: Positions,
+) -> StartStep
+    ensures { λ r. ⌜ r ≡ startStep (now (addresses .entry)) (now (parents .entry)) at state ⌝ }
+{
+    let answer = state.replay_node_start(addresses, parents, at);
+    StartStep { answer, state }
+}
+
+// An end for a caller that has the state by value: it is lent, and handed back.
+pub fn end_lent(mut state: DecoderState, ends: &[u64], at: Positions) -> EndStep
+    ensures { λ r. ⌜ r ≡ endStep (now (ends .entry)) at state ⌝ }
+{
+    let answer = state.replay_node_end(ends, at);
+    EndStep { answer, state }
 }
 
 // A new batch: the current address grows by the step modulo p.
