@@ -37,7 +37,7 @@ const PARTS: usize = 34;
 
 // The records that begin at `at`, replayed on the fragment after what is left of the one before, with the parts of a run that begin at
 // `parts`.
-fn replay_at(
+pub fn replay_at(
     v: &[u64],
     parts: usize,
     at: usize,
@@ -80,14 +80,14 @@ fn built_right(v: &[u64], at: usize, built: [u64; 25]) -> bool {
     same(&built, &expected)
 }
 
-// Whether the 31 numbers at `at` are what the replay left.
-fn left_right(v: &[u64], at: usize, left: Replayed) -> bool
+// Whether the 31 numbers at `at` are what the replay left beside its number.
+pub fn left_right(v: &[u64], at: usize, left: Replayed) -> bool
     requires { ⌜ at ≤ 8192 ⌝ }
 {
     let built = left.built;
     let state = left.state;
     let places = left.at;
-    let rows_right = (left.number == 0) & (left.rows as u64 == item(v, at, 0));
+    let rows_right = left.rows as u64 == item(v, at, 0);
     let state_right = (state.current_addr == item(v, at, 26))
         & (state.parent_addr == item(v, at, 27));
     let starts_right = (places.addresses as u64 == item(v, at, 28))
@@ -133,7 +133,7 @@ fn run_fragments(
         let end = end_of(start, cells as u64, buffer.len());
         left = replay_at(v, parts, at, profile, left, &mut buffer[start..end]);
         let answer = place(v, at, 1);
-        right = right & left_right(v, answer, left);
+        right = right & ((left.number == 0) & left_right(v, answer, left));
         counts[k] = low32(left.rows as u64);
         let last_built = left.built;
         put_built(last_built, built, k);

@@ -1,7 +1,9 @@
-// Replays runs whose answers were made by the listed Rust, one file of data/ a list, and writes how many came out right.
+// Replays runs whose answers were made by the listed Rust, and records that are refused, one file of data/ a list, and writes how many
+// came out right.
 mod given;
 mod list;
 mod parts;
+mod refused;
 
 use lists::text;
 use lists::text::report;
@@ -10,6 +12,13 @@ fn runs(name: &[u8]) {
     let mut numbers = [0u64; 8192];
     text::load(name, &mut numbers);
     report(name, list::right(&numbers), numbers[0]);
+}
+
+fn refused_records(name: &[u8]) {
+    let mut numbers = [0u64; 8192];
+    text::load(name, &mut numbers);
+    let right = refused::right(&mut numbers);
+    report(name, right, numbers[0]);
 }
 
 fn main() {
@@ -25,4 +34,5 @@ fn main() {
     runs(b"runs_10");
     runs(b"runs_11");
     runs(b"runs_12");
+    refused_records(b"refused");
 }
