@@ -3,19 +3,13 @@ use field::cell::cell;
 use io::print_decimal;
 use io::write_all;
 use libc::STDOUT_FILENO;
+use passes::multiplicity::opcode_at;
 use reader::view::row;
 use records::profile::Profile;
 use records::profile::opcodes_of;
 
 fn wide(x: u8) -> u64 {
     x as u64
-}
-
-// The number that the bit cells of a row are, by their lowest bits.
-fn opcode_of(cells: &[u64]) -> u64 {
-    (cell(cells, 7) % 2 + 2 * (cell(cells, 8) % 2) + 4 * (cell(cells, 9) % 2))
-        + (8 * (cell(cells, 10) % 2) + 16 * (cell(cells, 11) % 2))
-        + (32 * (cell(cells, 12) % 2) + 64 * (cell(cells, 13) % 2))
 }
 
 // The opcode's place among those of the profile, or how many they are.
@@ -59,7 +53,7 @@ fn write_name(place: usize, opcode: u64) {
 
 // The line of a row.
 fn write_row(opcodes: &[u8], number: usize, cells: &[u64]) {
-    let opcode = opcode_of(cells);
+    let opcode = opcode_at(cells, 0);
     write_number(number as u64);
     write(b" ");
     write_name(place_of(opcodes, opcode), opcode);

@@ -2,10 +2,10 @@
 use mathlib.Core.Path.{_≡_, refl, sym, _∙_}
 use mathlib.Core.Bool.{false, and-true, and-false}
 use mathlib.Core.List.{List, [], _∷_}
-use Prim.Native.Nat.{ℕ, _+_, _*_, _%_, _<_}
+use Prim.Native.Nat.{ℕ, zero, suc, _+_, _*_, _/_, _%_, _<_, _≤_}
 use native.Mathlib.Omega.{arith}
 use lib.Dec.{eqb}
-use lib.ListN.{getD, set, take, drop, length-set}
+use lib.ListN.{length, getD, set, take, drop, length-set}
 use lib.Seq.{getD-take, getD-drop, getD-set-other}
 use borrow.Author.Tests.{eq-eqb, ne-eqb}
 use Rattle.records.specs.declared.profile.Profile.{Profile}
@@ -39,6 +39,17 @@ unfolding opcodeOf
 opcode-cells c i =
     seven (drop 7 (rowAt i c))
     ∙ rw (bit c i 0 (omega arith), bit c i 1 (omega arith), bit c i 2 (omega arith), bit c i 3 (omega arith), bit c i 4 (omega arith), bit c i 5 (omega arith), bit c i 6 (omega arith))
+
+drop-past : (n : ℕ) (c : List ℕ) → length c ≤ n → drop n c ≡ []
+drop-past zero [] h = refl
+drop-past zero (x ∷ c) h = absurd (omega arith)
+drop-past (suc n) [] h = refl
+drop-past (suc n) (x ∷ c) h = drop-past n c (omega arith)
+
+-- a row past the end has the opcode 0
+pub opcode-past : (c : List ℕ) (i : ℕ) → length c / 49 < i → 0 ≡ opcodeOf (rowAt i c)
+unfolding opcodeOf rowAt lowBits
+opcode-past c i h = rw (drop-past (49 * i) c (omega arith)) refl
 
 pub flagged-yes : (p : Profile) (c : List ℕ) (i : ℕ) → getD c (49 * i + 18) 0 ≡ 1 → flaggedEnd p (rowAt i c) ≡ eqb (opcodeOf (rowAt i c)) (p .end)
 unfolding flaggedEnd

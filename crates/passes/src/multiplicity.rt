@@ -23,11 +23,13 @@ struct Taken {
     next: usize,
 }
 
-// The opcode of row i, from each bit cell's lowest bit.
-fn opcode_at(buffer: &[u64], i: usize) -> u64
-    requires { ⌜ i < 16777216 ⌝ }
+// The opcode of row i, from each bit cell's lowest bit; past the end, 0.
+pub fn opcode_at(buffer: &[u64], i: usize) -> u64
     ensures { λ r. ⌜ r ≡ opcodeOf (rowAt i (now (buffer .entry))) ⌝ }
 {
+    if buffer.len() / 49 < i {
+        return 0;
+    }
     let at = 49 * i;
     cell(buffer, at + 7) % 2
         + 2 * (cell(buffer, at + 8) % 2)

@@ -13,6 +13,7 @@ use Rattle.groups.specs.Answer.{pick}
 use Rattle.records.specs.declared.profile.Profile.{Profile}
 use Rattle.records.specs.Profiles.{isOneOf}
 use Rattle.passes.specs.Passes.{opcodeOf}
+use Rattle.passes.specs.LoopCounts.{rowAt as rowIn}
 use Rattle.passes.proofs.RowCells.{row-cell, opcode-cells}
 use Rattle.readings.specs.Tokens.{Kind, Token, start, repeat, end, halt, nothing, controls, tokenBeside, controlToken, controlOpcodes, isOpOpcode, opToken, inSpanOf, opBitsOf, allBits, tokenOf}
 use Rattle.readings.specs.Readings.{rowAt, allRows}
@@ -27,9 +28,12 @@ use Rattle.reader.proofs.RowTokens.{row-of, Something, tag, among}
 pub cell-of : (cells : List ℕ) (i k : ℕ) → i < length cells / 49 → k < 49 → getD (rowAt (allRows cells) i) k 0 ≡ getD cells (49 * i + k) 0
 cell-of cells i k h l = ap (λ (row : List ℕ). getD row k 0) (row-of cells i h) ∙ row-cell cells i k l
 
-pub opcode-of : (cells : List ℕ) (i : ℕ) → i < length cells / 49
-    → opcodeOf (rowAt (allRows cells) i) ≡ getD cells (49 * i + 7) 0 % 2 + 2 * (getD cells (49 * i + 8) 0 % 2) + 4 * (getD cells (49 * i + 9) 0 % 2) + 8 * (getD cells (49 * i + 10) 0 % 2) + 16 * (getD cells (49 * i + 11) 0 % 2) + 32 * (getD cells (49 * i + 12) 0 % 2) + 64 * (getD cells (49 * i + 13) 0 % 2)
-opcode-of cells i h = ap opcodeOf (row-of cells i h) ∙ opcode-cells cells i
+-- its opcode, of 7 bits
+pub opcode-of : (cells : List ℕ) (i : ℕ) → i < length cells / 49 → opcodeOf (rowAt (allRows cells) i) ≡ opcodeOf (rowIn i cells)
+opcode-of cells i h = ap opcodeOf (row-of cells i h)
+
+pub opcode-below : (cells : List ℕ) (i : ℕ) → opcodeOf (rowIn i cells) < 128
+opcode-below cells i = omega (arith, opcode-cells cells i)
 
 abbrev bit : ℕ → Bool
 bit x = ltb x 2

@@ -1,5 +1,6 @@
 // What a row is to the grammar.
 use field::cell::cell;
+use passes::multiplicity::opcode_at;
 use records::profile::Profile;
 ghost use mathlib.Core.Path.{_≡_};
 ghost use mathlib.Core.List.{_∷_};
@@ -112,15 +113,7 @@ fn opcode(cells: &[u64], row: usize) -> u8
     requires { ⌜ row < length (now cells) / 49 ⌝ }
     ensures { λ r. ⌜ r ≡ opcodeOf (rowAt (allRows (now (cells .entry))) row) ⌝ }
 {
-    let at = 49 * row;
-    let spelt = cell(cells, at + 7) % 2
-        + 2 * (cell(cells, at + 8) % 2)
-        + 4 * (cell(cells, at + 9) % 2)
-        + 8 * (cell(cells, at + 10) % 2)
-        + 16 * (cell(cells, at + 11) % 2)
-        + 32 * (cell(cells, at + 12) % 2)
-        + 64 * (cell(cells, at + 13) % 2);
-    spelt as u8
+    opcode_at(cells, row) as u8
 }
 
 // What a row is; past the end, nothing.
