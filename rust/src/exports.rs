@@ -85,6 +85,20 @@ mod foreign {
         pub cells: usize,
     }
 
+    #[repr(C)]
+    pub struct IndexBuilt {
+        pub number: u32,
+        pub row: usize,
+        pub blocks: usize,
+    }
+
+    #[repr(C)]
+    pub struct BlockFound {
+        pub number: u32,
+        pub found: u32,
+        pub place: usize,
+    }
+
     unsafe extern "C" {
         pub fn core_replay(
             nodes: *const u32,
@@ -142,6 +156,8 @@ mod foreign {
         ) -> u32;
         pub fn core_read_trace(profile: Profile, cells: *const u64, cells_len: usize, depths: *mut u32, depths_len: usize) -> TraceRead;
         pub fn core_row(cells: *const u64, cells_len: usize, number: usize) -> Place;
+        pub fn core_build_index(profile: Profile, cells: *const u64, cells_len: usize, index: *mut u32, index_len: usize) -> IndexBuilt;
+        pub fn core_enclosing_block(index: *const u32, index_len: usize, row: usize) -> BlockFound;
         pub fn core_inverse(x: u64) -> Inverse;
     }
 }
@@ -279,6 +295,22 @@ pub fn read_trace(profile: Profile, cells: &[u64], depths: &mut [u32]) -> Result
 pub fn row(cells: &[u64], number: usize) -> &[u64] {
     let place = unsafe { foreign::core_row(cells.as_ptr(), cells.len(), number) };
     &cells[place.start..place.start + place.cells]
+}
+
+/// Builds the index of a trace: answers the number of blocks, and fills the first numbers of `index`, three a block in the order of the start
+/// rows: start row, END row, start row of the block around it (the root's own). Refused as [`read_trace`], then by 27 where `index` is too
+/// short; a refusal leaves it as it is.
+pub fn build_index(profile: Profile, cells: &[u64], index: &mut [u32]) -> Result<usize, RefusedAt> {
+    let r = unsafe { foreign::core_build_index(profile, cells.as_ptr(), cells.len(), index.as_mut_ptr(), index.len()) };
+    accepted(r.number).map_err(|refusal| RefusedAt { refusal, row: r.row })?;
+    Ok(r.blocks)
+}
+
+/// The place, from 0, of the last block of an index that encloses the row: on a built index the row's innermost block. Of a longer buffer
+/// hand over the first three numbers a block alone.
+pub fn enclosing_block(index: &[u32], row: usize) -> Result<Option<usize>, Refusal> {
+    let r = unsafe { foreign::core_enclosing_block(index.as_ptr(), index.len(), row) };
+    accepted(r.number).map(|()| (r.found == 1).then_some(r.place))
 }
 
 /// The inverse of a cell modulo p, 0 for 0.

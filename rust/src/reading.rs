@@ -4,7 +4,7 @@ use std::collections::BTreeMap;
 
 use crate::checker::{Refused, check};
 use crate::compare::column;
-use crate::exports::{WIDTH, read_trace, row};
+use crate::exports::{WIDTH, build_index, enclosing_block, read_trace, row};
 use crate::profile::{EXAMPLE, Profile};
 use crate::random::Rng;
 
@@ -53,6 +53,7 @@ pub struct Tally {
     pub other: Answers,
     pub rows: u64,
     pub views: u64,
+    pub indexes: u64,
     pub differences: u64,
     /// The first differences, in words.
     pub told: Vec<String>,
@@ -116,10 +117,37 @@ impl Tally {
         self.views += 1;
     }
 
+    /// The index of a trace, and the innermost block of each row and of one past the end. It is refused as the reader refuses with a depth
+    /// number a row; where there is one, also by 27 with a number less.
+    fn index(&mut self, profile: &Profile, cells: &[u64]) {
+        let rows = cells.len() / WIDTH;
+        let wanted = check(profile, cells, &mut vec![0; rows]);
+        let (index, blocks) = wanted.map_or((vec![], vec![]), |program| indexed(profile, cells, program));
+        let mut ours = vec![7; index.len() + 2];
+        let answer = build_index(*profile, cells, &mut ours).map_err(|refused| (refused.refusal.0, refused.row));
+        if answer != wanted.map(|_| index.len() / 3) || ours != [&index[..], &[7, 7]].concat() {
+            self.differ(format!("the index of {rows} rows: {answer:?}"));
+        }
+        for row in 0..if index.is_empty() { 0 } else { rows + 1 } {
+            if enclosing_block(&index, row).ok() != Some(blocks.get(row).copied()) {
+                self.differ(format!("the block of row {row}"));
+            }
+        }
+        if !index.is_empty() {
+            let mut short = vec![7; index.len() - 1];
+            let answer = build_index(*profile, cells, &mut short).map_err(|refused| (refused.refusal.0, refused.row));
+            if answer != Err((27, 0)) || short.iter().any(|&n| n != 7) || enclosing_block(&short, 0).map_err(|r| r.0) != Err(11) {
+                self.differ(format!("an index too short: {answer:?}"));
+            }
+        }
+        self.indexes += 1;
+    }
+
     /// Reads a trace back, then 100 times with one cell changed (8 times where it is refused) and 16 times with a larger change.
     pub fn all(&mut self, rng: &Rng, mut cells: Vec<u64>, nesting: Option<&[u32]>) {
         let is_accepted = self.read_back(&cells, nesting);
         self.view(&cells, rng.below(cells.len() / WIDTH + 1));
+        self.index(&EXAMPLE, &cells);
         self.damage(rng, &mut cells, is_accepted);
         self.reshape(rng, &cells);
     }
@@ -148,8 +176,31 @@ impl Tally {
             let (answer, _) = self.read(what, &profile, &changed, depth_numbers);
             self.other.count(&answer);
             self.view(&changed, rng.below(rows + 2));
+            self.index(&profile, &changed);
         }
     }
+}
+
+/// The index of an accepted trace of so many program rows, and the place of each program row's innermost block.
+fn indexed(profile: &Profile, cells: &[u64], program: usize) -> (Vec<u32>, Vec<usize>) {
+    let starts =
+        [profile.span, profile.join, profile.split, profile.loop_op, profile.call, profile.syscall, profile.dyn_op, profile.dyncall];
+    let (mut index, mut open, mut blocks) = (Vec::new(), Vec::<usize>::new(), Vec::new());
+    for (number, row) in cells.chunks(WIDTH).take(program).enumerate() {
+        let is_control = row[IN_SPAN] == 0;
+        if is_control && starts.contains(&opcode(row)) {
+            let around = open.last().map_or(number as u32, |&place| index[3 * place]);
+            open.push(index.len() / 3);
+            index.extend([number as u32, 0, around]);
+        }
+        let place = *open.last().unwrap();
+        blocks.push(place);
+        if is_control && opcode(row) == profile.end {
+            index[3 * place + 1] = number as u32;
+            open.pop();
+        }
+    }
+    (index, blocks)
 }
 
 /// Rows whose flag or count the reader asks for.

@@ -185,6 +185,20 @@ mod read {
         assert_eq!(depths, [1, 1, 1, 0, 7]);
     }
 
+    /// A block's three numbers, the rows of it, HALT; 27, and 11 of a look-up.
+    #[test]
+    fn indexes() {
+        let mut index = [7; 4];
+        assert_eq!(build_index(EXAMPLE, &small(), &mut index), Ok(1));
+        assert_eq!(index, [0, 2, 0, 7]);
+        assert!((0..3).all(|n| enclosing_block(&index[..3], n) == Ok(Some(0))));
+        assert_eq!(enclosing_block(&index[..3], 3), Ok(None));
+        assert_eq!(enclosing_block(&index, 0), Err(Refusal(11)));
+        assert_eq!(build_index(EXAMPLE, &small(), &mut index[..2]), Err(RefusedAt { refusal: Refusal(27), row: 0 }));
+        assert_eq!(build_index(EXAMPLE, &small()[..WIDTH], &mut index), Err(RefusedAt { refusal: Refusal(12), row: 1 }));
+        assert_eq!(index, [0, 2, 0, 7]);
+    }
+
     /// Each refusal, its row, and that the depths stay.
     #[test]
     fn refused() {

@@ -3,6 +3,10 @@
 // Every call takes any numbers and answers 0 or document 01's number of the refusal; a refused place is empty.
 use field::felt::Felt;
 use field::inverse::inverse;
+use index::build::IndexBuilt;
+use index::build::build_index;
+use index::enclosing::Enclosing;
+use index::enclosing::enclosing_block;
 use passes::finish::finish;
 use passes::fixup::fixup_stack_and_system_rows;
 use passes::halt::pad_core_row_major;
@@ -29,7 +33,10 @@ ghost use Rattle.readings.specs.Answers.{depthsAfter};
 ghost use Rattle.readings.specs.Parser.{answer};
 ghost use Rattle.reader.specs.Reads.{traceRead};
 ghost use Rattle.exports.specs.Inverses.{inverseNumber, inverseValue};
-ghost use Rattle.exports.specs.Places.{rowStart, rowCells};
+ghost use Rattle.groups.specs.Answer.{number};
+ghost use Rattle.indexes.specs.Enclosing.{enclosing};
+ghost use Rattle.index.specs.Building.{building, indexBuilt, indexAfter};
+ghost use Rattle.exports.specs.Places.{rowStart, rowCells, blockFound, blockPlace};
 
 // The number (0, or 1 for a cell from p on) and the inverse, 0 on a refusal.
 #[repr(C)]
@@ -203,5 +210,47 @@ pub extern "C" fn core_row(cells: &[u64], number: usize) -> Place
     Place {
         start: number * 49,
         cells: part.len(),
+    }
+}
+
+// Builds the index of a trace: three numbers for each block.
+#[no_mangle]
+pub extern "C" fn core_build_index(profile: Profile, cells: &[u64], index: &mut [u32]) -> IndexBuilt
+    ensures { λ r. ⌜ r ≡ indexBuilt (building profile (now (cells .entry)) (length (now (index .entry)))) ⌝ }
+    ensures { λ _. ⌜ now (index .exit) ≡ indexAfter (building profile (now (cells .entry)) (length (now (index .entry)))) (now (index .entry)) ⌝ }
+{
+    build_index(profile, cells, index)
+}
+
+// What a look-up in an index answers: 0 or 11, 1 where a block encloses the row, and its place; else 0.
+#[repr(C)]
+pub struct BlockFound {
+    pub number: u32,
+    pub found: u32,
+    pub place: usize,
+}
+
+// The last block of an index that encloses a row.
+#[no_mangle]
+pub extern "C" fn core_enclosing_block(index: &[u32], row: usize) -> BlockFound
+    ensures { λ r. ⌜ (r .number ≡ number (enclosing (now (index .entry)) row)) × (r .found ≡ blockFound (enclosing (now (index .entry)) row)) × (r .place ≡ blockPlace (enclosing (now (index .entry)) row)) ⌝ }
+{
+    let block = enclosing_block(index, row);
+    match block {
+        Enclosing::At(place) => BlockFound {
+            number: 0,
+            found: 1,
+            place,
+        },
+        Enclosing::None => BlockFound {
+            number: 0,
+            found: 0,
+            place: 0,
+        },
+        Enclosing::Refused(n) => BlockFound {
+            number: n,
+            found: 0,
+            place: 0,
+        },
     }
 }

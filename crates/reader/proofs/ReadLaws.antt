@@ -142,51 +142,59 @@ unfolding depthsAfter numberOf
 left-by rows (accepted b) depths h = absurd (h refl)
 left-by rows (refused number row) depths h = refl
 
-module _ (p : Profile) (cells depths : List ℕ) (number : ℕ) (e : number ≡ readerRefusal p cells (length depths)) where
-  bad-input : (n : ℕ) → readerRefusal p cells (length depths) ≡ n → (n ≡ 0 → ⊥) → answer p cells (length depths) ≡ refused n 0
+module _ (p : Profile) (cells : List ℕ) (depths : ℕ) where
+  bad-input : (n : ℕ) → readerRefusal p cells depths ≡ n → (n ≡ 0 → ⊥) → answer p cells depths ≡ refused n 0
   unfolding answer unlessBadInput
   bad-input zero f h = absurd (h refl)
   bad-input (suc n) f h = rw f refl
 
-  pub bad-read : (number ≡ 0 → ⊥) → reads number 0 0 ≡ traceRead (answer p cells (length depths))
-  unfolding traceRead numberOf rowOf programRowsOf
-  bad-read h = rw (bad-input number (sym e) h) refl
+  good-answer : readerRefusal p cells depths ≡ 0 → answer p cells depths ≡ cellsAnswer p cells
+  unfolding answer unlessBadInput cellsAnswer wordIn
+  good-answer f = rw f refl
 
-  pub bad-depths : (number ≡ 0 → ⊥) → depths ≡ depthsAfter (length cells / 49) (answer p cells (length depths)) depths
-  unfolding depthsAfter
-  bad-depths h = rw (bad-input number (sym e) h) refl
+  -- an answer of 0 is none of 1, 2 and 11
+  good-by : (n : ℕ) → readerRefusal p cells depths ≡ n → numberOf (answer p cells depths) ≡ 0 → readerRefusal p cells depths ≡ 0
+  unfolding numberOf
+  good-by zero f h = f
+  good-by (suc n) f h =
+      let z : suc n ≡ 0 = rw (bad-input (suc n) f (λ q. omega arith)) at h in
+      absurd (omega arith)
 
-  module _ (z : number ≡ 0) where
-    pub good-answer : answer p cells (length depths) ≡ cellsAnswer p cells
-    unfolding answer unlessBadInput cellsAnswer wordIn
-    good-answer = let f : readerRefusal p cells (length depths) ≡ 0 = sym e ∙ z in rw f refl
+  module _ (number : ℕ) (e : number ≡ readerRefusal p cells depths) where
+    pub bad-read : (number ≡ 0 → ⊥) → reads number 0 0 ≡ traceRead (answer p cells depths)
+    unfolding traceRead numberOf rowOf programRowsOf
+    bad-read h = rw (bad-input number (sym e) h) refl
+
+    pub good-read : number ≡ 0 → (read : TraceRead) → read ≡ traceRead (cellsAnswer p cells) → read ≡ traceRead (answer p cells depths)
+    good-read z read k = rw (good-answer (sym e ∙ z)) k
+
+module _ (p : Profile) (cells depths : List ℕ) (read : TraceRead) (k : read ≡ traceRead (answer p cells (length depths))) where
+  number-of : read .number ≡ numberOf (answer p cells (length depths))
+  unfolding traceRead
+  number-of = rw k refl
+
+  pub kept-depths : (read .number ≡ 0 → ⊥) → depths ≡ depthsAfter (length cells / 49) (answer p cells (length depths)) depths
+  kept-depths h = left-by (length cells / 49) (answer p cells (length depths)) depths (λ f. h (number-of ∙ f))
+
+  module _ (h : read .number ≡ 0) where
+    passed : readerRefusal p cells (length depths) ≡ 0
+    passed = good-by p cells (length depths) (readerRefusal p cells (length depths)) refl (sym number-of ∙ h)
 
     -- the rows are few enough to count, and the depths enough
     pub few-rows : length cells / 49 ≤ 16777216
     unfolding bufferRefusal firstOf bufferWrong
     few-rows =
-        let (f, g) = buffer-passes p cells (length depths) (sym e ∙ z) in
+        let (f, g) = buffer-passes p cells (length depths) passed in
         let (i, j) = none-first (anyFrom P cells) 0 ((profileWrong p, 2) ∷ (bufferWrong (length cells), 11) ∷ []) f in
         let (k, l) = none-first (profileWrong p) 1 ((bufferWrong (length cells), 11) ∷ []) j in
         let (m, n) = none-first (bufferWrong (length cells)) 10 [] l in
         ltb-false 16777216 (length cells / 49) (neither (ltb 0 (length cells % 49)) (ltb 16777216 (length cells / 49)) m .1)
 
     pub enough : length cells / 49 ≤ length depths
-    enough = buffer-passes p cells (length depths) (sym e ∙ z) .1
+    enough = buffer-passes p cells (length depths) passed .1
 
-    module _ (read : TraceRead) (k : read ≡ traceRead (cellsAnswer p cells)) where
-      pub good-read : read ≡ traceRead (answer p cells (length depths))
-      good-read = rw good-answer k
-
-      number-of : read .number ≡ numberOf (answer p cells (length depths))
-      unfolding traceRead
-      number-of = rw (good-answer, k) refl
-
-      pub kept-depths : (read .number ≡ 0 → ⊥) → depths ≡ depthsAfter (length cells / 49) (answer p cells (length depths)) depths
-      kept-depths h = left-by (length cells / 49) (answer p cells (length depths)) depths (λ f. h (number-of ∙ f))
-
-      pub filled-depths : (after : List ℕ) → read .number ≡ 0 → after ≡ levels 0 (wordIn p cells) ++ drop (length cells / 49) depths → after ≡ depthsAfter (length cells / 49) (answer p cells (length depths)) depths
-      unfolding wordIn
-      filled-depths after h f =
-          let (b, t) = accepts-exactly p cells (length depths) enough .0 (sym number-of ∙ h) in
-          rw (accepts-traces p cells (length depths) b enough .1 t) (f ∙ sym (accepted-depths p cells depths b t))
+    pub filled-depths : (after : List ℕ) → after ≡ levels 0 (wordIn p cells) ++ drop (length cells / 49) depths → after ≡ depthsAfter (length cells / 49) (answer p cells (length depths)) depths
+    unfolding wordIn
+    filled-depths after f =
+        let (b, t) = accepts-exactly p cells (length depths) enough .0 (sym number-of ∙ h) in
+        rw (accepts-traces p cells (length depths) b enough .1 t) (f ∙ sym (accepted-depths p cells depths b t))

@@ -2,6 +2,6 @@
 mod depths;
 mod grammar;
 mod scan;
-mod token;
+pub mod token;
 pub mod trace;
 pub mod view;

@@ -12,7 +12,7 @@ ghost use Rattle.readings.specs.Readings.{rowAt, allRows};
 ghost use Rattle.reader.specs.Rows.{kindOf, opKind, tokenAt};
 
 // The start of a Block (One: of a kind with one child), an op, the other control rows, or a row that fits nothing.
-pub(crate) enum RowKind {
+pub enum RowKind {
     Span,
     Join,
     One,
@@ -117,7 +117,7 @@ fn opcode(cells: &[u64], row: usize) -> u8
 }
 
 // What a row is; past the end, nothing.
-pub(crate) fn row_kind(profile: Profile, cells: &[u64], row: usize) -> RowKind
+pub fn row_kind(profile: Profile, cells: &[u64], row: usize) -> RowKind
     ensures { λ r. ⌜ r ≡ kindOf (tokenAt profile (now (cells .entry)) row) ⌝ }
 {
     if cells.len() / 49 <= row {

@@ -83,12 +83,11 @@ pub(crate) fn read_cells(profile: Profile, cells: &[u64]) -> TraceRead
     }
 }
 
-// Reads a trace: the answer, and, where it is accepted, one depth a row. A refusal changes no depth.
-pub fn read_trace(profile: Profile, cells: &[u64], depths: &mut [u32]) -> TraceRead
-    ensures { λ r. ⌜ r ≡ traceRead (answer profile (now (cells .entry)) (length (now (depths .entry)))) ⌝ }
-    ensures { λ _. ⌜ now (depths .exit) ≡ depthsAfter (length (now (cells .entry)) / 49) (answer profile (now (cells .entry)) (length (now (depths .entry)))) (now (depths .entry)) ⌝ }
+// The answer of a reader that is lent so many depth numbers, without writing them: 1, 2, 11, then 12, 15 or 13, else accepted.
+pub fn validate(profile: Profile, cells: &[u64], depths: usize) -> TraceRead
+    ensures { λ r. ⌜ r ≡ traceRead (answer profile (now (cells .entry)) depths) ⌝ }
 {
-    let number = refusal(profile, cells, depths.len());
+    let number = refusal(profile, cells, depths);
     if number != 0 {
         return TraceRead {
             number,
@@ -96,7 +95,15 @@ pub fn read_trace(profile: Profile, cells: &[u64], depths: &mut [u32]) -> TraceR
             program_rows: 0,
         };
     }
-    let read = read_cells(profile, cells);
+    read_cells(profile, cells)
+}
+
+// Reads a trace: the answer, and, where it is accepted, one depth a row. A refusal changes no depth.
+pub fn read_trace(profile: Profile, cells: &[u64], depths: &mut [u32]) -> TraceRead
+    ensures { λ r. ⌜ r ≡ traceRead (answer profile (now (cells .entry)) (length (now (depths .entry)))) ⌝ }
+    ensures { λ _. ⌜ now (depths .exit) ≡ depthsAfter (length (now (cells .entry)) / 49) (answer profile (now (cells .entry)) (length (now (depths .entry)))) (now (depths .entry)) ⌝ }
+{
+    let read = validate(profile, cells, depths.len());
     if read.number != 0 {
         return read;
     }

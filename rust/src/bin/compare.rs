@@ -57,7 +57,7 @@ fn main() {
     println!("one cell of an accepted trace changed: {}", reads.damaged);
     println!("one cell of a refused trace changed: {}", reads.refused);
     println!("other changes: {}", reads.other);
-    println!("{} rows read, {} row views, {} differences", reads.rows, reads.views, reads.differences);
+    println!("{} rows read, {} row views, {} indexes, {} differences", reads.rows, reads.views, reads.indexes, reads.differences);
     for text in &reads.told {
         println!("  {text}");
     }

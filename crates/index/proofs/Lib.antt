@@ -1,0 +1,5 @@
+pub mod ChangeLaws
+pub mod LookupLaws
+pub mod StepLaws
+pub mod BuildLaws
+pub mod IndexExact

@@ -1,0 +1,3 @@
+pub mod Building
+pub mod Lookups
+pub mod Steps

@@ -1,0 +1,54 @@
+// What a row does to the open blocks.
+use reader::token::RowKind;
+use reader::token::row_kind;
+use records::profile::Profile;
+ghost use mathlib.Core.Path.{_≡_};
+ghost use Rattle.indexes.specs.Scan.{changeOf, oneIfBegins, starts};
+ghost use Rattle.reader.specs.Rows.{tokenAt, wordIn, rowsFrom};
+ghost use Rattle.index.specs.Steps.{toldChange};
+
+// A block begins, ends, or neither.
+pub(crate) enum Change {
+    Begins,
+    Ends,
+    Stays,
+}
+
+// What a row does; past the end, nothing.
+pub(crate) fn change_at(profile: Profile, cells: &[u64], row: usize) -> Change
+    ensures { λ r. ⌜ toldChange r ≡ changeOf (tokenAt profile (now (cells .entry)) row) ⌝ }
+{
+    let kind = row_kind(profile, cells, row);
+    match kind {
+        RowKind::Span | RowKind::Join | RowKind::One | RowKind::Loop => Change::Begins,
+        RowKind::End => Change::Ends,
+        RowKind::Op | RowKind::Respan | RowKind::Repeat | RowKind::Halt | RowKind::Nothing => {
+            Change::Stays
+        }
+    }
+}
+
+// 1 where a block begins.
+fn begun(change: Change) -> usize
+    ensures { λ r. ⌜ r ≡ oneIfBegins (toldChange change) ⌝ }
+{
+    match change {
+        Change::Begins => 1,
+        Change::Ends => 0,
+        Change::Stays => 0,
+    }
+}
+
+// The number of start rows.
+pub(crate) fn count_starts(profile: Profile, cells: &[u64]) -> usize
+    ensures { λ r. ⌜ r ≡ starts (rowsFrom (wordIn profile (now (cells .entry))) 0) ⌝ }
+{
+    let mut at: usize = 0;
+    let mut count: usize = 0;
+    while at < cells.len() / 49 {
+        let change = change_at(profile, cells, at);
+        count += begun(change);
+        at += 1;
+    }
+    count
+}

@@ -1,0 +1,1 @@
+// Theory without code: the index of a reading's blocks.
