@@ -60,7 +60,7 @@ def build(rows, cells, lent, step, place, value):
     number, failed, _, _ = model.read(v[0:14], lent_cells, 10**6)
     if number:
         return [number, failed, 0]
-    tokens = [model.token(PROFILE, lent_cells[k:k + 49]) for k in range(0, cells, 49)]
+    tokens = [model.token(PROFILE, [cell % P for cell in lent_cells[k:k + 49]]) for k in range(0, cells, 49)]
     blocks = blocks_of(tokens)
     if lent < 3 * len(blocks):
         return [27, 0, 0]
@@ -128,7 +128,9 @@ def refused():
     for lent in (0, 8):
         out.append(vector("too short", LISTING, lent=lent, number=27))
     for lent in (0, 240):
-        out.append(vector("cell from p on", LISTING, lent=lent, place=490 - 1, value=P, number=1))
+        out.append(vector("cell from p on", LISTING, lent=lent, place=490 - 1, value=P, number=0 if lent else 27))
+        out.append(vector("cell from p on and a step", LISTING, lent=lent, step=0, place=490 - 1, value=P, number=2))
+        out.append(vector("bit cell from p on", LISTING, lent=lent, place=49 + 7, value=P + 2, number=12))
         out.append(vector("step", LISTING, lent=lent, step=0, number=2))
         out.append(vector("no multiple", LISTING, lent=lent, cells=489, number=11))
         out.append(vector("no rows", LISTING, lent=lent, cells=0, number=12))
@@ -141,6 +143,39 @@ def refused():
     for n in range(len(TRACE)):
         out.append(vector("a row dropped", TRACE[:n] + TRACE[n + 1:], lent=rng.choice([0, 3 * blocks - 1, 240])))
         out.append(vector("another row", TRACE[:n] + [row(rng.choice(model.OPCODES))] + TRACE[n + 1:], lent=rng.choice([0, 3 * blocks - 1, 240])))
+    return out
+
+
+def unreduced():
+    """Traces with cells from p on: the index is that of the reduced cells."""
+    rng = random.Random(2061)
+    maker = model.Maker(rng)
+    out = []
+
+    def raised(rows, one_in=1):
+        return [numbers[:1] + [cell + (0 if rng.randrange(one_in) else P) for cell in numbers[1:]] for numbers in rows]
+
+    def same(words, rows, given=None, **more):
+        given = raised(rows) if given is None else given
+        out.append(vector(words, given, **more))
+        plain = build(rows, 49 * len(rows), 240, 2, NOWHERE, 0)
+        assert out[-1][1][6 + 4 * len(rows):] == plain, words
+
+    same("the listing", LISTING)
+    same("each kind of row", TRACE)
+    same("SPAN END", [row("SPAN"), row("END")] + HALT * 3)
+    for n in range(0, len(TRACE), 2):
+        same("a row", TRACE, TRACE[:n] + raised(TRACE[n:n + 1]) + TRACE[n + 1:])
+        k = n // 2 % 7
+        same("a bit cell", TRACE, TRACE, place=49 * n + 7 + k, value=P + (TRACE[n][0] >> k & 1))
+    for k in range(9):
+        rows = maker.block(rng.randrange(3, 7)) + HALT
+        if len(rows) < 60:
+            same("random trace", rows, raised(rows, 1 + k % 3))
+    out.append(vector("count", raised([row("LOOP", count=1)] + LISTING[1:]), number=13))
+    out.append(vector("flag", raised(LISTING[:7] + [row("END")] + LISTING[8:]), number=13))
+    out.append(vector("in_span", LISTING[:2] + [[5, P + 2, 0, 0]] + LISTING[3:], number=12))
+    out.append(vector("too short", raised(LISTING), lent=8, number=27))
     return out
 
 
@@ -170,7 +205,7 @@ if __name__ == "__main__":
     os.makedirs(os.path.join(HERE, "data"), exist_ok=True)
     for name in os.listdir(os.path.join(HERE, "data")):
         os.remove(os.path.join(HERE, "data", name))
-    for name, made in (("traces", traces()), ("refused", refused()), ("lookups", lookups())):
+    for name, made in (("traces", traces()), ("cells", unreduced()), ("refused", refused()), ("lookups", lookups())):
         write(name, made)
     with open(os.path.join(HERE, "stdout"), "w") as file:
         for name, count in FILES:

@@ -48,21 +48,18 @@ class Input:
         self.sum = sum(self.counts)
 
     def cell(self, row, column):
-        return self.buffer[49 * row + column]
+        """A cell as it is read: a number from p on is that number less p."""
+        return self.buffer[49 * row + column] % P
 
     def opcode(self, row):
         """By the lowest bit of each bit cell."""
         return sum((self.cell(row, BITS + k) & 1) << k for k in range(7))
 
     def put(self, row, column, cells):
+        """What is written is reduced."""
         at = 49 * row + column
         assert at + len(cells) <= len(self.buffer)
-        self.buffer[at:at + len(cells)] = cells
-
-
-def big_cell(x, rows, *others):
-    """Refusal 1: a cell from p on in the rows that are handed, so far as the buffer has them, or in other cells that are handed."""
-    return any(c >= P for cells in (x.buffer[:49 * rows],) + others for c in cells)
+        self.buffer[at:at + len(cells)] = [c % P for c in cells]
 
 
 def wrong_profile(x):
@@ -137,14 +134,12 @@ def write_padding(x, rows, height):
 
 
 def fixup(x):
-    refuse_if(big_cell(x, x.sum, x.built, x.top), 1)
     refuse_if(wrong_fragments(x), 11)
     refuse_fragments(x)
     write_fixup(x)
 
 
 def set_multiplicities(x):
-    refuse_if(big_cell(x, x.rows), 1)
     refuse_if(wrong_profile(x), 2)
     refuse_if(wrong_buffer(x, x.rows), 11)
     refuse_if(0 in multiplicities(x, x.rows).values(), 14)
@@ -152,27 +147,23 @@ def set_multiplicities(x):
 
 
 def invert_helpers(x):
-    refuse_if(big_cell(x, x.rows), 1)
     refuse_if(wrong_buffer(x, x.rows), 11)
     write_inverses(x, x.rows)
 
 
 def push_halt(x):
-    refuse_if(big_cell(x, x.rows, x.last), 1)
     refuse_if(wrong_profile(x), 2)
     refuse_if(wrong_buffer(x, x.rows + 1), 11)
     write_halt(x, x.rows, x.last)
 
 
 def pad(x):
-    refuse_if(big_cell(x, x.rows), 1)
     refuse_if(wrong_profile(x), 2)
     refuse_if(wrong_buffer(x, x.height) or x.rows == 0 or x.height < x.rows, 11)
     write_padding(x, x.rows, x.height)
 
 
 def finish(x):
-    refuse_if(big_cell(x, x.sum, x.built, x.top), 1)
     refuse_if(wrong_profile(x), 2)
     refuse_if(wrong_fragments(x) or wrong_buffer(x, x.height) or x.height < x.sum + 1, 11)
     refuse_fragments(x)
@@ -449,38 +440,109 @@ def passes():
     return out
 
 
+def raised(*changes, parts=("top", "last", "built", "buffer")):
+    """The changes with p added to each cell of some parts of the input that stays below 2^64, the rows past the ninth left as they are."""
+    v = list(BASE)
+    for place, value in merged(*changes).items():
+        v[place] = value
+    size = dict((part, size) for part, size, _ in SIZES)
+    for part in parts:
+        for place in range(at(part), at(part) + (441 if part == "buffer" else size[part])):
+            v[place] += P if v[place] + P < 2**64 else 0
+    return dict(enumerate(v))
+
+
+def unreduced():
+    """Cells from p on: they are read modulo p, what is written is reduced, and what is not written stays."""
+    out = List("cells")
+
+    def same(words, name, *changes, **more):
+        """With cells raised by p, what is written is the same, and the rest stays as it was."""
+        v = list(BASE)
+        for place, value in merged(*changes).items():
+            v[place] = value
+        number, plain = call(name, v)
+        given = raised(*changes, **more)
+        after = out.add(words, name, given, number=number)
+        before = v[AT["buffer"]:AT["buffer"] + len(plain)]
+        for k, (was, now) in enumerate(zip(before, plain)):
+            assert after[k] == now if was != now else after[k] in (now, given[at("buffer", k)]), (words, k)
+
+    # pass 1
+    name = "fixup"
+    same("first stack top", name, split(1, 1), parts=("top",))
+    same("built cells", name, split(6, 2), parts=("built",))
+    for k in (0, 7, 15):
+        out.add("first stack top", name, split(3, 2), put("top", [BIG if k else P], k), number=0)
+    for k in (0, 1, 5, 6, 21, 22, 24):
+        out.add("built cell", name, split(3, 2), put("built", [BIG if k % 2 else P + k], k), number=0)
+    out.add("built cell of the last fragment", name, split(3, 2), put("built", [P] * 25, 25), number=0)
+    out.add("built cell past the fragments", name, split(3, 2), lent("built", 210), put("built", [P], 209), number=0)
+    out.add("cells of first rows", name, split(3, 2), cells(0, 0, [P] * 49), cells(2, 0, [P + k for k in range(49)]), number=0)
+    out.add("cells of another row", name, split(3, 2), cells(1, 0, [BIG] * 49), number=0)
+    # pass 2
+    name = "multiplicities"
+    same("rows", name, parts=("buffer",))
+    for k in (1, 4, 8):
+        out.add("address", name, row(k, addr=P + 1), number=0)
+        out.add("other address", name, row(k, addr=P + 2), number=14 if k == 1 else 0)
+    out.add("address p and zero", name, row(1, addr=P), row(4, addr=0), row(8, addr=P), number=0)
+    out.add("largest address", name, row(1, addr=2**32 - 2), row(4, addr=BIG), row(8, addr=BIG - 1), number=0)
+    out.add("address of p less one", name, row(1, addr=P), row(4, addr=P - 1), row(8, addr=P - 1), number=14)
+    for h4 in (P, P + 1, P + 2, BIG):
+        out.add("flag", name, row(3, h4=h4), number=0)
+        out.add("flags", name, row(3, h4=h4), row(7, h4=h4), number=0 if h4 == P + 1 else 14)
+    for column in range(7):
+        for opcode, at_row in (("LOOP", 0), ("END", 3)):
+            bit = NAMED[opcode] >> column & 1
+            out.add("bit cell", name, cells(at_row, BITS + column, [P + bit]), number=0)
+            out.add("bit cell above one", name, cells(at_row, BITS + column, [P + 2 + bit]), number=0)
+            out.add("bit cell of another opcode", name, cells(at_row, BITS + column, [P + 1 - bit]), number=0)
+    out.add("counts as they were", name, cells(0, COUNT, [P + 77]), cells(4, COUNT, [P + 2]), number=0)
+    out.add("LOOP in the last row", name, row(0, "SPAN"), row(8, "LOOP"), cells(8, COUNT, [P]), number=0)
+    # pass 3
+    name = "helpers"
+    special = [P, P + 1, P + 2, P + 1023, P + 1024, BIG, P + 3, BIG - 1, P - 1, 0, P + 1022, P + 2**31]
+    for count in (0, 1, 5, 12):
+        out.add("helpers", name, rows(count), *[row(k, helper=h) for k, h in enumerate(special)], number=0)
+    same("rows", name, rows(3), parts=("buffer",))
+    # pass 4
+    name = "halt"
+    same("built cells", name, parts=("last",))
+    for k in (0, 1, 5, 6, 21, 22, 24):
+        out.add("built cell", name, put("last", [P + k], k), number=0)
+        out.add("built cell, no rows", name, rows(0), put("last", [BIG], k), number=0)
+    out.add("row before", name, cells(8, 0, [P + 3 * k for k in range(49)]), number=0)
+    out.add("row before the last", name, cells(7, 0, [P] * 49), number=0)
+    # pass 5
+    name = "padding"
+    out.add("row to repeat", name, rows(9), height(10), cells(8, 0, [P + 3 * k for k in range(49)]), number=0)
+    out.add("row to repeat", name, rows(1), height(3), cells(0, 0, [BIG - k for k in range(49)]), number=0)
+    out.add("row before the last", name, rows(9), height(10), cells(7, 0, [P] * 49), number=0)
+    # all
+    same("all cells", "finish", split(9, 4), put("last", built(2)))
+    same("all cells, LOOP without body", "finish", split(9, 4), row(3, h4=0), row(7, h4=0))
+    return out
+
+
 def refusals():
     """Each refusal of each call."""
     out = List("refusals")
-    sums, fixed = ("fixup", "finish"), split(3, 2)
-    # 1
+    sums = ("fixup", "finish")
+    # cells from p on are no refusal, also where lengths are wrong
     for name in CALLS:
-        for place in (0, 6, 48, 49, 146):
-            out.add("cell", name, row_count(3), cells(0, place, [BIG if place % 2 else P]), number=1)
-        for column in range(49):
-            if column % 7 == CALLS.index(name):
-                out.add("cell of the last row", name, row_count(3), cells(2, column, [P]), number=1)
         out.add("cell past the rows", name, row_count(9), cells(9, 0, [P]), number=0)
-        out.add("cell in rows fewer than said", name, row_count(13), cells(11, 48, [P]), number=1)
-        out.add("cell in rows far fewer than said", name, row_count(2**32 - 1), cells(11, 48, [P]), number=1)
-        out.add("cell in a partial row", name, row_count(13), lent("buffer", 590), put("buffer", [P], 589), number=1)
-        out.add("cell in a partial first row", name, row_count(1), lent("buffer", 1), cells(0, 0, [P]), number=1)
+        out.add("cell in rows fewer than said", name, row_count(13), cells(11, 48, [P]), number=11)
+        out.add("cell in rows far fewer than said", name, row_count(2**32 - 1), cells(11, 48, [P]), number=11)
+        out.add("cell in a partial row", name, row_count(13), lent("buffer", 590), put("buffer", [P], 589), number=11)
+        out.add("cell in a partial first row", name, row_count(1), lent("buffer", 1), cells(0, 0, [P]), number=11)
         out.add("cell in a partial row past the rows", name, row_count(9), lent("buffer", 590), put("buffer", [P], 588), number=11)
         out.add("cell past what is lent", name, row_count(13), lent("buffer", 588), put("buffer", [P], 588), number=11)
     for name in CALLS[1:5]:
         for count in (2**63, BIG, BIG // 49 + 1, BIG // 49 + 2, 2**58):
-            out.add("cell in rows far fewer than said", name, rows(count), height(BIG), cells(11, 48, [P]), number=1)
+            out.add("cell in rows far fewer than said", name, rows(count), height(BIG), cells(11, 48, [P]), number=11)
     for name in sums:
-        for k in (0, 24, 25, 49, 50, 199):
-            out.add("built cell", name, fixed, put("built", [P], k), number=1)
-        for k in (0, 7, 15):
-            out.add("first stack top", name, fixed, put("top", [BIG if k else P], k), number=1)
-        out.add("built cell without fragments", name, fragments(1), put("built", [P]), number=1)
-        out.add("built cell past the fragments", name, fixed, lent("built", 210), put("built", [P], 209), number=1)
-    for k in (0, 1, 5, 6, 21, 22, 24):
-        out.add("built cell", "halt", put("last", [P], k), number=1)
-        out.add("built cell, no rows", "halt", rows(0), put("last", [BIG], k), number=1)
-    out.add("cell of the row to repeat", "padding", rows(9), cells(8, 0, [P]), number=1)
+        out.add("built cell without fragments", name, fragments(1), put("built", [P]), number=26)
     # 2
     for name in ("multiplicities", "halt", "padding", "finish"):
         for k in range(13):
@@ -557,22 +619,27 @@ def orders():
     out = List("orders")
     big, wrong = cells(1, 3, [P]), profile(13, 0)
     no_body = merged(row(3, h4=0), row(7, h4=0))
-    of = {"fixup": [(1, big), (1, put("top", [P])), (1, put("built", [P], 20)), (11, lent("buffer", 590)), (11, put("size", [7])), (11, lent("built", 24)),
-                    (25, fragments(9, 8, 1)), (25, fragments(9, 9, 0))],
-          "multiplicities": [(1, big), (2, wrong), (2, profile(4, 112)), (11, lent("buffer", 590)), (11, rows(13)), (14, no_body)],
-          "helpers": [(1, big), (11, lent("buffer", 590)), (11, rows(13))],
-          "halt": [(1, big), (1, put("last", [P], 24)), (2, wrong), (11, lent("buffer", 590)), (11, rows(12))],
-          "padding": [(1, big), (2, wrong), (2, profile(12, 1)), (11, lent("buffer", 590)), (11, height(8)), (11, height(13))],
-          "finish": [(1, big), (1, put("top", [P], 15)), (1, put("built", [P], 20)), (2, wrong), (2, profile(4, 112)), (11, lent("buffer", 590)), (11, put("size", [7])),
-                     (11, lent("built", 24)), (11, height(9)), (11, height(13)), (25, fragments(9, 8, 1)), (25, fragments(9, 9, 0)), (14, no_body)]}
+    of = {"fixup": [(11, lent("buffer", 590)), (11, put("size", [7])), (11, lent("built", 24)), (25, fragments(9, 8, 1)), (25, fragments(9, 9, 0))],
+          "multiplicities": [(2, wrong), (2, profile(4, 112)), (11, lent("buffer", 590)), (11, rows(13)), (14, no_body)],
+          "helpers": [(11, lent("buffer", 590)), (11, rows(13))],
+          "halt": [(2, wrong), (11, lent("buffer", 590)), (11, rows(12))],
+          "padding": [(2, wrong), (2, profile(12, 1)), (11, lent("buffer", 590)), (11, height(8)), (11, height(13))],
+          "finish": [(2, wrong), (2, profile(4, 112)), (11, lent("buffer", 590)), (11, put("size", [7])), (11, lent("built", 24)), (11, height(9)), (11, height(13)),
+                     (25, fragments(9, 8, 1)), (25, fragments(9, 9, 0)), (14, no_body)]}
+    # cells from p on, which are no refusal beside another
+    above = {"fixup": [big, put("top", [P]), put("built", [P], 20)], "halt": [big, put("last", [P], 24)],
+             "finish": [big, put("top", [P], 15), put("built", [P], 20)]}
+    for name in CALLS:
+        for (number, a), b in itertools.product(of[name], above.get(name, [big])):
+            out.add("refusal and a cell from p on", name, a, b, number=number)
     for name in CALLS:
         for (first, a), (second, b) in itertools.combinations(of[name], 2):
             if first != second:
                 out.add("two refusals", name, b, a, number=first)
     for name in ("fixup", "finish"):
         none = fragments(9)
-        out.add("no fragment and built cell", name, none, put("built", [P]), number=1)
-        out.add("no fragment and first stack top", name, none, put("top", [P]), number=1)
+        out.add("no fragment and built cell from p on", name, none, put("built", [P]), number=26)
+        out.add("no fragment and first stack top from p on", name, none, put("top", [P]), number=26)
         out.add("no fragment and length", name, none, lent("buffer", 590), number=11)
         out.add("no fragment and size", name, fragments(0), number=11)
         out.add("no fragment and LOOP without body", name, none, no_body, number=26)
@@ -584,8 +651,7 @@ def orders():
     out.add("no fragment and profile", "finish", fragments(9), wrong, number=2)
     out.add("no fragment and height", "finish", fragments(9), height(0), number=11)
     out.add("no fragment and height", "finish", fragments(9), height(1), number=26)
-    out.add("all", "finish", fragments(9), wrong, put("top", [P]), lent("buffer", 590), height(0), no_body, number=1)
-    out.add("all but the first", "finish", fragments(9), wrong, lent("buffer", 590), height(0), no_body, number=2)
+    out.add("all", "finish", fragments(9), wrong, put("top", [P]), lent("buffer", 590), height(0), no_body, number=2)
     out.add("LOOP in the last row", "finish", fragments(9, 9), row(0, "SPAN"), row(8, "LOOP"), number=0)
     out.add("opcode past the bits", "multiplicities", profile(4, 128 + 85), number=2)
     return out
@@ -655,7 +721,7 @@ def finished():
         assert [cols[0] for cols in trace] == list(range(10)) and all(cols[46] == depth for cols in trace[1:])
         assert trace[9][48] == depth - 16 and all(cols[48] * (depth - 16) % P == int(depth > 16) for cols in trace[1:9])
     rng = random.Random(2027)
-    odd = lambda bit: rng.choice([bit, bit, bit, bit + 2, bit + 2**33, P - 1 - (P - 1 + bit) % 2])
+    odd = lambda bit: rng.choice([bit, bit, bit, bit + 2, bit + 2**33, P - 1 - (P - 1 + bit) % 2, P + bit, P + 2 + bit])
     accepted = 0
     while accepted < 30:
         ops = rng.sample(range(128), 12)
@@ -668,9 +734,12 @@ def finished():
         changes = [put("profile", codes + [rng.randrange(1, P)]), split(total, size), height(rng.choice([total + 1, 12, rng.randrange(total + 1, 13)]))]
         for k in range(total):
             code = rng.choice([codes[4], codes[11], codes[11], codes[11], rng.randrange(128)])
-            changes += [cells(k, ADDR, [rng.choice([1, 2])] + [odd(code >> b & 1) for b in range(7)]), row(k, h4=rng.choice([0, 1, 1, 1, 2])),
-                        row(k, helper=rng.choice([0, 1, 2, 1023, 1024, P - 1, rng.randrange(P)]))]
-        changes += [cells(total - 1, H, [rng.randrange(P) for _ in range(4)]), put("top", [rng.randrange(P) for _ in range(2)])]
+            changes += [cells(k, ADDR, [rng.choice([1, 2, P + 1, P + 2])] + [odd(code >> b & 1) for b in range(7)]),
+                        row(k, h4=rng.choice([0, 1, 1, 1, 2, P, P + 1, P + 1])),
+                        row(k, helper=rng.choice([0, 1, 2, 1023, 1024, P - 1, P, P + 2, BIG, rng.randrange(P)]))]
+        clk = [rng.randrange(P, 2**64)]
+        changes += [cells(total - 1, H, [rng.choice([rng.randrange(P), rng.randrange(P, 2**64)]) for _ in range(4)]),
+                    put("top", [rng.randrange(P), rng.randrange(P, 2**64)]), put("built", clk, 25 * ((total - 1) // size)), put("last", clk)]
         change = merged(*changes)
         v = list(BASE)
         for place, value in change.items():
@@ -697,7 +766,7 @@ if __name__ == "__main__":
     for name in os.listdir(os.path.join(HERE, "data")):
         os.remove(os.path.join(HERE, "data", name))
     total = 0
-    for made in (passes(), refusals(), orders(), finished()):
+    for made in (passes(), unreduced(), refusals(), orders(), finished()):
         made.write()
         total += len(made.vectors)
         print(made.name, len(made.vectors), dict(sorted(made.numbers_of.items())))

@@ -69,9 +69,8 @@ def wrong_profile(profile):
 
 
 def read(profile, cells, depths):
-    """Number, row, number of program rows, and the depth of each row."""
-    if any(cell >= P for cell in cells):
-        return 1, 0, 0, []
+    """Number, row, number of program rows, and the depth of each row. Cells are read modulo p."""
+    cells = [cell % P for cell in cells]
     if wrong_profile(profile):
         return 2, 0, 0, []
     if len(cells) % 49 or len(cells) // 49 > 2**24 or depths < len(cells) // 49:
@@ -241,18 +240,15 @@ def faults():
 
 
 def lengths():
-    """Refusals 1, 2 and 11, their order, the depths that are lent, and row views."""
+    """Refusals 2 and 11, their order, the depths that are lent, and row views."""
     out = List("lengths", input_of(TRACE))
     size = len(TRACE)
     cells = 49 * size
-    # 1: every kind of cell, also in a partial last row; not past what is lent
-    for k in range(49):
-        out.add("cell from p on", input_of(TRACE, changed=[(49 * (k % size) + k, (P, BIG)[k % 2])]), number=1, at=0)
-    out.add("first cell", input_of(TRACE, changed=[(0, P)]), number=1, at=0)
-    out.add("last cell", input_of(TRACE, changed=[(cells - 1, P)]), number=1, at=0)
+    # cells from p on
+    out.add("first and last cell", input_of(TRACE, changed=[(0, P), (cells - 1, P)]), number=0)
     out.add("cells up to p", input_of(TRACE, changed=[(0, P - 1), (cells - 1, P - 1)]), number=0)
     out.add("past what is lent", input_of(TRACE, changed=[(cells, P), (cells + 48, BIG)]), number=0)
-    out.add("in a partial row", input_of(TRACE, cells=cells + 1, depths=size + 1, changed=[(cells, P)]), number=1, at=0)
+    out.add("in a partial row", input_of(TRACE, cells=cells + 1, depths=size + 1, changed=[(cells, P)]), number=11, at=0)
     # 2: the profile
     for k in range(13):
         out.add("opcode past the bits", input_of(TRACE, PROFILE[:k] + [128 + PROFILE[k]] + PROFILE[k + 1:]), number=2, at=0)
@@ -283,10 +279,10 @@ def lengths():
         out.add("the empty buffer", input_of(TRACE, cells=0, depths=lent), number=12, at=0)
     # orders
     big, wrong = [(60, P)], PROFILE[:13] + [0]
-    out.add("cell and profile", input_of(TRACE, wrong, changed=big), number=1)
-    out.add("cell and length", input_of(TRACE, cells=cells + 1, changed=big), number=1)
-    out.add("cell and depths", input_of(TRACE, depths=0, changed=big), number=1)
-    out.add("cell and no word", input_of(TRACE[1:], changed=big), number=1)
+    out.add("cell and profile", input_of(TRACE, wrong, changed=big), number=2)
+    out.add("cell and length", input_of(TRACE, cells=cells + 1, changed=big), number=11)
+    out.add("cell and depths", input_of(TRACE, depths=0, changed=big), number=11)
+    out.add("cell and no word", input_of(TRACE[1:], changed=big), number=12)
     out.add("profile and length", input_of(TRACE, wrong, cells=cells + 1), number=2)
     out.add("profile and depths", input_of(TRACE, wrong, depths=0), number=2)
     out.add("profile and no rows", input_of(TRACE, wrong, cells=0), number=2)
@@ -302,7 +298,7 @@ def lengths():
         out.add("row view", input_of(TRACE, asked=number), number=0)
     for number in (size, size + 1, 2**32, 2**63, BIG, BIG // 49, BIG // 49 + 1):
         out.add("row view past the end", input_of(TRACE, asked=number), number=0)
-    out.add("row view of no trace, cells from p on", input_of(TRACE[5:], asked=3, changed=[(3 * 49, P), (3 * 49 + 48, BIG)]), number=1)
+    out.add("row view of no trace, cells from p on", input_of(TRACE[5:], asked=3, changed=[(3 * 49, P), (3 * 49 + 48, BIG)]), number=12)
     out.add("row view of no multiple", input_of(TRACE, cells=cells + 1, asked=0), number=11)
     out.add("row view of no rows", input_of(TRACE, cells=0, asked=0), number=12)
     out.add("row view of a partial row", input_of(TRACE, cells=48, asked=0), number=11)
@@ -391,6 +387,55 @@ class Maker:
         return [row(kind)] + [r for _ in range(1 + (kind == "JOIN")) for r in self.block(left - 1)] + [row("END", int(body))]
 
 
+def unreduced():
+    """Cells from p on: the reading of a trace is that of its reduced cells, and a row view hands back the cells as they are."""
+    out = List("cells", input_of(TRACE))
+    size = len(TRACE)
+
+    def changed(number, numbers):
+        return TRACE[:number] + [numbers] + TRACE[number + 1:]
+
+    def raised(rows, which):
+        return [[numbers[0]] + [cell + P if which(cell) else cell for cell in numbers[1:]] for numbers in rows]
+
+    for k in range(49):
+        if k not in (*range(BITS, BITS + 7), H4, IN_SPAN, COUNT):
+            out.add("cell that is not read", input_of(TRACE, asked=k % size, changed=[(49 * (k % size) + k, (P, BIG)[k % 2])]), number=0)
+    out.add("all rows", input_of(raised(TRACE, lambda cell: True), asked=5), number=0)
+    out.add("all rows but their counts", input_of([numbers[:1] + [P + numbers[1], P + numbers[2], numbers[3]] for numbers in TRACE]), number=0)
+    for n, (own, numbers) in enumerate(zip(NAMES, TRACE)):
+        opcode, in_span, h4, count = numbers
+        out.add("row", input_of(changed(n, raised([numbers], lambda cell: True)[0])), number=0)
+        out.add("in_span of another row", input_of(changed(n, [opcode, P + 1 - in_span, h4, count])), number=12, at=n)
+        out.add("in_span", input_of(changed(n, [opcode, (P + 2, BIG)[n % 2], h4, count])), number=12, at=n)
+        for k in (n % 7, (n + 3) % 7):
+            bit = opcode >> k & 1
+            out.add("bit cell", input_of(TRACE, asked=n, changed=[(49 * n + BITS + k, P + bit)]), number=0)
+            out.add("bit cell that is no bit", input_of(TRACE, changed=[(49 * n + BITS + k, (P + 2, P + 3, BIG)[k % 3])]), number=12, at=n)
+            # the other bit: as the other bit below p
+            v = input_of(TRACE, changed=[(49 * n + BITS + k, 1 - bit)])
+            (number, failed, _, _), _ = answers(v)
+            out.add("bit cell of another opcode", input_of(TRACE, changed=[(49 * n + BITS + k, P + 1 - bit)]), number=number, at=failed)
+        if own == "END":
+            out.add("flag", input_of(changed(n, [opcode, in_span, P + 1 - h4, count])), number=13, at=n)
+            out.add("flag", input_of(changed(n, [opcode, in_span, P + 2, count])), number=13, at=n)
+        if own == "LOOP":
+            for wrong in (P + count + 1, P + count - 1, BIG):
+                out.add("count", input_of(changed(n, [opcode, in_span, h4, wrong])), number=13, at=n)
+    # random traces, as they are and changed: each cell raised or not
+    rng = random.Random(2060)
+    maker = Maker(rng)
+    for k in range(12):
+        rows = maker.block(rng.randrange(2, 6)) + [row("HALT")]
+        if k % 3 == 2:
+            j = rng.randrange(len(rows))
+            rows = rows[:j] + [[rng.randrange(128), rng.randrange(2), rng.randrange(2), rng.randrange(3)]] + rows[j + 1:]
+        if len(rows) < 40:
+            (number, failed, _, _), _ = answers(input_of(rows))
+            out.add("random trace", input_of(raised(rows, lambda cell: rng.randrange(2)), asked=rng.randrange(len(rows))), number=number, at=failed)
+    return out
+
+
 def randoms():
     """Random traces, and random rows changed in them."""
     rng = random.Random(2056)
@@ -452,7 +497,7 @@ if __name__ == "__main__":
     for name in os.listdir(os.path.join(HERE, "data")):
         os.remove(os.path.join(HERE, "data", name))
     total = 0
-    for made in (listing(), lengths(), faults(), deep(), randoms()):
+    for made in (listing(), lengths(), unreduced(), faults(), deep(), randoms()):
         made.write()
         total += len(made.vectors)
         print(made.name, len(made.vectors), dict(sorted(made.numbers_of.items())))

@@ -7,10 +7,14 @@ import re
 HERE = os.path.dirname(os.path.abspath(__file__))
 OVER = 2**32
 LAST = OVER - 1
+P = 2**64 - 2**32 + 1
+BIG = 2**64 - 1
 # The numbers of a record. A storing: continuation, node, batch, operation, flag, condition, presence of the word, of the info, its depth.
 KIND, NODE, BATCH, OP, FLAG, CONDITION, WORD, INFO, INFO_DEPTH = 1, 2, 3, 4, 5, 6, 7, 12, 13
 # A cycle: case of registers, forest, clk, ctx, depth.
 CASE, FOREST, CLK, CTX, DEPTH = 0, 1, 2, 3, 24
+# The first of its cells: fn_hash, stack top, overflow address, registers; of a storing the word and the info's address.
+FN_HASH, TOP, OVERFLOW, REGISTERS, WORD_CELL, INFO_ADDR = 4, 8, 25, 26, 8, 14
 # Records of the run: storings of StartNode, ResumeBasicBlock and FinishLoop; its first and its last cycle.
 START, RESUME, FINISH, CYCLE, END = 0, 4, 8, 1, 17
 # Numbers of the run, and the place of their count.
@@ -55,6 +59,27 @@ CASES = [
     ("EnterForest and a node", at(START, KIND=10, NODE=OVER), 4),
     ("forest that is not there", at(CYCLE, FOREST=OVER), 3),
     ("no records", lent(0), 0),
+    # cells from p on
+    ("cells of a cycle", at(CYCLE, FN_HASH=P, TOP=BIG, OVERFLOW=P + 1, REGISTERS=BIG), 0),
+    ("helper value", at(RESUME + 1, CASE=8, REGISTERS=P + 5), 0),
+    ("helper value of full width", at(RESUME + 1, CASE=8, REGISTERS=OVER), 9),
+    ("word and address that are stored", at(START, WORD=1, WORD_CELL=P, INFO=1, INFO_ADDR=BIG), 0),
+    # other numbers from p on stand for themselves
+    ("continuation of p more", at(START, KIND=P + 1), 23),
+    ("node of p", at(START, NODE=P), 3),
+    ("batch of p", at(RESUME, BATCH=P), 5),
+    ("operation of p", at(RESUME, OP=P), 6),
+    ("flag of p", at(START, FLAG=P), 23),
+    ("condition of p more", at(FINISH, CONDITION=P + 2), 23),
+    ("presence of the word, p more", at(START, WORD=P + 1), 23),
+    ("presence of the info, p", at(START, INFO=P), 23),
+    ("depth of the info, p more", at(START, INFO=1, INFO_DEPTH=P + 20), 1),
+    ("case of registers, p more", at(CYCLE, CASE=P + 18), 23),
+    ("storing of p", at(START, CASE=P), 23),
+    ("clk of p", at(CYCLE, CLK=P), 1),
+    ("ctx of p", at(CYCLE, CTX=P), 1),
+    ("depth of p more", at(CYCLE, DEPTH=P + 16), 1),
+    ("forest of p", at(CYCLE, FOREST=P), 3),
     # two in one record: the lowest
     ("depth of the info and node", at(START, INFO=1, INFO_DEPTH=OVER, NODE=OVER), 1),
     ("depth of the info and batch", at(RESUME, INFO=1, INFO_DEPTH=OVER, BATCH=OVER), 1),

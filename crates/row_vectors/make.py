@@ -32,6 +32,11 @@ HELD = [2, 2, 1, 1, 6, 2, 2, 1, 2, 2, 3, 2, 1, 1, 6, 4, 5, 0]
 U32 = {"U32Split": 2, "U32Add": 2, "U32Add3": 2, "U32Sub": 1, "U32Mul": 2, "U32Madd": 2, "U32Div": 3, "U32Assert2": 2}
 
 
+def read(cells):
+    """Cells as they come in: a number from p on is read as that number less p."""
+    return [c % P for c in cells]
+
+
 class Refused(Exception):
     """A refusal by its number."""
 
@@ -88,7 +93,7 @@ class Input:
         """The six numbers and the digest of a slot, None where they do not lie whole in the slices."""
         if 6 * node + 6 > len(self.nodes) or 4 * node + 4 > len(self.digests):
             return None
-        return self.nodes[6 * node:6 * node + 6], self.digests[4 * node:4 * node + 4]
+        return self.nodes[6 * node:6 * node + 6], read(self.digests[4 * node:4 * node + 4])
 
     def node(self, node):
         found = self.slot(node)
@@ -106,15 +111,12 @@ class Input:
         total, first, count = block
         record = first + index
         refuse_if(index >= count or 12 * record + 12 > len(self.batches) or 8 * record + 8 > len(self.groups), 5)
-        return self.batches[12 * record:12 * record + 12], self.groups[8 * record:8 * record + 8]
+        return self.batches[12 * record:12 * record + 12], read(self.groups[8 * record:8 * record + 8])
 
 
-def big_cell(x):
-    """Refusal 1: an input cell from p on, used or not, or an operation opcode from 128 on."""
-    t = x.tracer
-    cells = (x.system[2:6] + x.stack[0:16] + x.stack[17:18] + x.held + (t.word or []) + (t.info or [0, 0])[1:] + [t.current, t.parent]
-             + t.built + x.addresses + x.parents + x.ends + x.digests + x.groups)
-    return any(c >= P for c in cells) or any(op >= 128 for op in x.ops)
+def big_opcode(x):
+    """Refusal 1: an operation opcode from 128 on, used or not."""
+    return any(op >= 128 for op in x.ops)
 
 
 def wrong_profile(x):
@@ -141,6 +143,7 @@ def halves(*values):
 
 
 def helpers(name, a):
+    a = read(a)
     refuse_if(any(v >= 2**32 for v in a[:U32.get(name, 0)]), 9)
     if name == "Eq":
         made = [inverse(a[1] - a[0])]
@@ -185,7 +188,7 @@ def start_node(x, t, node):
     op = x.opcodes
     refuse_if(t.at[0] >= len(x.addresses), 20)
     refuse_if(t.at[1] >= len(x.parents), 21)
-    t.current, t.parent = x.addresses[t.at[0]], x.parents[t.at[1]]
+    t.current, t.parent = read([x.addresses[t.at[0]], x.parents[t.at[1]]])
     t.at = [t.at[0] + 1, t.at[1] + 1, t.at[2]]
     kind, first, second, block, _ = x.node(node)
     refuse_if(kind == "External", 4)
@@ -206,7 +209,7 @@ def start_node(x, t, node):
 
 def end_row(x, t, digest, is_loop, restores_caller):
     refuse_if(t.at[2] >= len(x.ends) // 3, 22)
-    ended, t.current, t.parent = x.ends[3 * t.at[2]:3 * t.at[2] + 3]
+    ended, t.current, t.parent = read(x.ends[3 * t.at[2]:3 * t.at[2] + 3])
     t.at = [t.at[0], t.at[1], t.at[2] + 1]
     return decoder_row(x.opcodes["END"], ended, digest + [t.body, is_loop, restores_caller, 0])
 
@@ -274,7 +277,7 @@ def finish(v):
     try:
         refuse_if(t.refusal != 0, t.refusal)
         refuse_if(t.stored[0] == 0, 23)
-        refuse_if(big_cell(x), 1)
+        refuse_if(big_opcode(x), 1)
         refuse_if(wrong_profile(x), 2)
         refuse_if(wrong_lengths(x), 11)
         refuse_if(x.stack[16] < 16, 10)
@@ -283,7 +286,8 @@ def finish(v):
         refuse_if(t.rows == len(x.fragment) // 49, 24)
     except Refused as refusal:
         return refusal.args[0], None, None
-    row = last[0:6] + decoder + last[6:25]
+    # what is written is reduced; the tracer keeps captured values, addresses and built cells as they were given
+    row = read(last[0:6] + decoder + last[6:25])
     clk, ctx, *fn_hash = x.system
     depth, overflow = x.stack[16:18]
     t.built = [clk + 1, ctx] + fn_hash + x.stack[15::-1] + [depth, overflow, depth - 16]
@@ -300,7 +304,7 @@ def call(name, v):
         v[tracer] = [0] * 16 + v[tracer][16:21] + [0] * 25
         return 0, v[tracer], v
     if name == "final":
-        return (t.refusal, [], v) if t.refusal else (0, (t.built if t.rows else [0] * 25) + [t.rows], v)
+        return (t.refusal, [], v) if t.refusal else (0, (read(t.built) if t.rows else [0] * 25) + [t.rows], v)
     if name == "store":
         if t.refusal:
             return t.refusal, [], v
@@ -412,6 +416,18 @@ def registers(name, *values):
     return {at("registers", i): value for i, value in enumerate(given + [0] * (7 - len(given)))}
 
 
+# C10: a loop of two passes of a block of one group with the operation 5.
+LOOP_RUN = {at("ops", 28): 5, at("groups", 16): 5, at("ops", 39): 5, at("system"): 0, **tracer(16, 0, 0, 0, 0, 0), **batch_at(2, 10, 1)}
+for part, values in (("addresses", [1, 3, 5]), ("parents", [0, 1, 1]), ("ends", [3, 1, 0, 5, 1, 0, 1, 0, 0])):
+    LOOP_RUN.update({at(part, k): value for k, value in enumerate(values)})
+for k in range(2, 10):
+    LOOP_RUN.update(batch_at(2, k, 1))
+# Words, continuation, node, loop-body flag, condition.
+LOOP_CYCLES = [("LOOP", "StartNode", LOOP, 0, 0), ("SPAN", "StartNode", ONE_GROUP, 0, 0), ("operation", "ResumeBasicBlock", ONE_GROUP, 0, 0),
+               ("END", "FinishBasicBlock", ONE_GROUP, 1, 0), ("REPEAT", "FinishLoop", LOOP, 0, 2), ("SPAN", "StartNode", ONE_GROUP, 0, 0),
+               ("operation", "ResumeBasicBlock", ONE_GROUP, 0, 0), ("END", "FinishBasicBlock", ONE_GROUP, 1, 0), ("END", "FinishLoop", LOOP, 0, 1)]
+
+
 # ---- Lists ----------------------------------------------------------------------------------------------------------------------
 
 class List:
@@ -444,14 +460,15 @@ class List:
     def write(self):
         """Files of at most 7,500 numbers and 65,535 bytes. Vectors that go on from each other stay together."""
         head = "base %s\n" % " ".join(map(str, BASE))
-        files, text, numbers = [], [], 1 + INPUT
+        files, text, numbers, size = [], [], 1 + INPUT, len(head)
         for chain in self.chains:
-            size = sum(n for _, n in chain)
-            if numbers + size > 7500:
+            count, length = sum(n for _, n in chain), sum(len(line) for line, _ in chain)
+            if numbers + count > 7500 or size + length > 65000:
                 files.append(text)
-                text, numbers = [], 1 + INPUT
+                text, numbers, size = [], 1 + INPUT, len(head)
             text += [line for line, _ in chain]
-            numbers += size
+            numbers += count
+            size += length
         files.append(text)
         for k, text in enumerate(files):
             name = self.name if len(files) == 1 else "%s_%s" % (self.name, "abcdefgh"[k])
@@ -541,34 +558,141 @@ def operations():
     return ops
 
 
-def first_refusals():
-    """1 from every kind of cell, 2 and 11 in each of their cases, and what is no such case."""
-    out = List("inputs")
-    places = [("digest", "digests", range(64)), ("group", "groups", range(32)), ("address queue", "addresses", range(4)),
-              ("parent queue", "parents", range(4)), ("end queue", "ends", range(12)), ("address", "tracer", (16, 17)),
-              ("built cell", "tracer", range(21, 46)), ("fn hash", "system", range(2, 6)), ("stack top", "stack", range(16)),
-              ("overflow address", "stack", (17,))]
-    for words, part, cells in places:
-        for k in cells:
-            out.add(words, store("FinishJoin", JOIN), {at(part, k): BIG if k % 4 == 3 else P}, number=1)
-    for k in range(4):
-        out.add("unused callee word", WORD, tracer(9 + k, P), number=1)
-    out.add("unused info", INFO, tracer(15, P), number=1)
-    out.add("used callee word", store("StartNode", DYN), WORD, tracer(12, P), number=1)
-    out.add("used info", store("StartNode", DYNCALL), WORD, INFO, tracer(15, P), number=1)
-    for k in range(0, 40, 3):
-        out.add("opcode", {at("ops", k): 255 if k % 2 else 128}, number=1)
+def raised(v):
+    """The input with p added to each cell that stays below 2^64; the fragment is left."""
+    cells = [(part, k) for part in ("digests", "groups", "addresses", "parents", "ends") for k in range(ROOM[part])]
+    cells += [("tracer", k) for k in (9, 10, 11, 12, 15, 16, 17, *range(21, 46))]
+    cells += [("system", k) for k in range(2, 6)] + [("stack", k) for k in (*range(16), 17)] + [("registers", k) for k in range(1, 7)]
+    out = list(v)
+    for part, k in cells:
+        if out[at(part, k)] + P < 2**64:
+            out[at(part, k)] += P
+    return out
+
+
+def unreduced():
+    """Cells from p on, in each place where a cell comes in: they are read modulo p, and what is written is reduced."""
+    out = List("cells")
+    rng = random.Random(64)
+    tracer_cells = [k for k in (9, 10, 11, 12, 15, 16, 17, *range(21, 46))]
+    fragment = range(AT["fragment"] - 1, AT["fragment"] + ROOM["fragment"])
+    chained = [False]
+
+    def both(words, *changes):
+        """All cells that can be are raised by p: the row is that of the plain input, and so is the tracer but for what it keeps as given."""
+        plain = list(BASE)
+        for change in changes:
+            for place, value in change.items():
+                plain[place] = value
+        number, wanted, _ = call("finish", plain)
+        above = raised(plain)
+        answer, made = out.add(words, {place: above[place] for place in range(INPUT) if place not in fragment}, goes_on=chained[0], number=number)
+        assert made[0:49] == wanted[0:49] and len(made) == len(wanted), words
+        assert all((a % P if k in tracer_cells else a) == b for k, (a, b) in enumerate(zip(made[49:], wanted[49:]))), words
+        chained[0] = True
+
+    both("start, Block", store("StartNode", BLOCK))
+    for node in (ONE_GROUP, TWO_GROUPS, TWO_BATCHES, JOIN, SPLIT, LOOP, CALL, SYSCALL):
+        both("start, " + KINDS[NODES[node][0]], store("StartNode", node))
+    both("DYN", store("StartNode", DYN), WORD)
+    both("DYNCALL", store("StartNode", DYNCALL), WORD, INFO)
+    both("first row", store("StartNode", JOIN), FIRST)
+    chained[0] = False
+    for name, node in (("FinishJoin", JOIN), ("FinishSplit", SPLIT), ("FinishLoop", LOOP), ("FinishCall", CALL), ("FinishCall", SYSCALL), ("FinishDyn", DYN),
+                       ("FinishDyn", DYNCALL), ("FinishBasicBlock", BLOCK)):
+        both("END, " + name, store(name, node), ZERO, WORD, INFO, BODY)
+    both("REPEAT", store("FinishLoop", LOOP), ONE)
+    for index, step in ((0, 2), (0, P - 1), (2, 2)):
+        both("RESPAN", store("Respan", BLOCK, index), {at("profile", 13): step})
+    chained[0] = False
     for name, size in zip(CASES, HELD):
-        for k in range(size):
-            out.add("unused helper cell", registers(name, *[P if i == k else 7 for i in range(size)]), number=1)
-    out.add("built cells without rows", FIRST, tracer(45, P), number=1)
+        top = 2**32 - 1
+        both("operation, helpers " + name.translate({ord(c): None for c in "0123456789"}), store("ResumeBasicBlock", BLOCK, 0, 5),
+             registers(name, *[rng.randrange(top) if k % 2 else 5 + k for k in range(size)]))
+    chained[0] = False
+    both("depth", {at("stack", 16): 15})
+    both("no end", store("FinishJoin", JOIN), lent("ends", 3))
+    both("consumed above the total", store("ResumeBasicBlock", BLOCK, 2, 1), node_at(BLOCK, 3, 17), WORD, INFO)
+    both("helper value", store("ResumeBasicBlock", BLOCK, 0, 0), registers("U32Sub", 2**32))
+    both("full", FULL)
+
+    # one cell, in each place that a row shows
+    values = itertools.cycle([P, BIG, P + 1, P + 5])
+    shown = [("digest of a child", [store("StartNode", JOIN)], [("digests", k) for k in range(8)]),
+             ("digest of the node", [store("FinishJoin", JOIN)], [("digests", 4 * JOIN + k) for k in range(4)]),
+             ("digest of the body", [store("FinishLoop", LOOP), ONE], [("digests", 4 * ONE_GROUP + 2)]),
+             ("group at SPAN", [store("StartNode", ONE_GROUP)], [("groups", 16 + k) for k in range(8)]),
+             ("group at RESPAN", [store("Respan", BLOCK, 2)], [("groups", 16), ("groups", 23)]),
+             ("address queue", [store("StartNode", LOOP)], [("addresses", 1)]),
+             ("parent queue", [store("StartNode", LOOP)], [("parents", 2)]),
+             ("end queue", [store("FinishJoin", JOIN)], [("ends", 3), ("ends", 4), ("ends", 5)]),
+             ("current address", [store("FinishLoop", LOOP), ONE], [("tracer", 16)]),
+             ("current address", [store("ResumeBasicBlock", BLOCK, 0, 0)], [("tracer", 16)]),
+             ("current address", [store("Respan", BLOCK, 0)], [("tracer", 16)] * 4),
+             ("parent address", [store("ResumeBasicBlock", BLOCK, 0, 0)], [("tracer", 17)]),
+             ("parent address", [store("Respan", BLOCK, 0)], [("tracer", 17)]),
+             ("callee word", [store("StartNode", DYN), WORD], [("tracer", 9 + k) for k in range(4)]),
+             ("callee word that stays", [store("FinishJoin", JOIN), WORD], [("tracer", 10)]),
+             ("next overflow address", [store("StartNode", DYNCALL), WORD, INFO], [("tracer", 15)]),
+             ("next overflow address that stays", [store("StartNode", DYN), WORD, INFO], [("tracer", 15)])]
+    for words, changes, places in shown:
+        for part, k in places:
+            out.add(words, *changes, {at(part, k): next(values)}, number=0)
+    for change in ([P] * 25, [BIG - k for k in range(25)], [(P - 1, P, P + k, k)[k % 4] for k in range(25)]):
+        out.add("built cells", store("FinishJoin", JOIN), tracer(21, *change), number=0)
+        out.add("built cells without rows", store("FinishJoin", JOIN), FIRST, tracer(21, *change), number=0)
+    for name, size in U32.items():
+        out.add("helper value from p on", store("ResumeBasicBlock", BLOCK, 0, 0), registers(name, *[P + 5] + [BIG] * (size - 1)), number=0)
+    out.add("equal elements", store("ResumeBasicBlock", BLOCK, 0, 0), registers("Eq", P + 5, 5), number=0)
+    # LOOP starts that are given 5 and p + 5 get the same address
+    starts = [out.add("LOOP start", store("StartNode", LOOP), {at("addresses", 1): address}, number=0)[1] for address in (5, P + 5)]
+    assert starts[0] == starts[1] and starts[0][49 + 16] == 5
+    # the digits of a group of p + g are those of g
+    group = digits(PUSH, 5, PUSH, 6)
+    for op, total in ((0, 3), (1, 3), (2, 3), (3, 3), (8, 3), (3, 2)):
+        out.add("operation in a group from p on", store("ResumeBasicBlock", ONE_GROUP, 0, op), node_at(ONE_GROUP, 3, total), {at("groups", 16): P + group},
+                number=8 if total == 2 else 0)
+    out.add("PUSH in the digits of p and g together", store("ResumeBasicBlock", ONE_GROUP, 0, 1), {at("groups", 16): P + PUSH - 1}, number=0)
+    out.add("PUSH of a digit of p", store("ResumeBasicBlock", ONE_GROUP, 0, 8), {at("groups", 16): P + 3, at("profile", 10): 127}, number=0)
     # no cells, or none that are lent
     out.add("fragment cells", {at("fragment", 49): P, at("fragment", 100): BIG, at("fragment", 3): P}, number=0)
+    out.add("helper number that the case has not", registers("Eqz", 3, P, P), number=0)
+    out.add("absent word and info", tracer(8, 0, P, P, P, P, 0, 0, P), number=0)
+
+    # C10's run in fragments of four rows, each cell raised: the same rows and final states
+    def run_of(out, above):
+        v = list(BASE)
+        for place, value in LOOP_RUN.items():
+            v[place] = value
+        given = raised(v) if above else v
+        made = []
+        out.add("fresh tracer", dict(enumerate(given)), call_name="new", number=0)
+        for k, (words, name, node, body, condition) in enumerate(LOOP_CYCLES):
+            if k and k % 4 == 0:
+                made.append(out.add("final state", call_name="final", goes_on=True, number=0)[1])
+                out.add("next fragment", call_name="new", goes_on=True, number=0)
+            stored = [STORED.index(name), node, 0, 0, body, condition]
+            out.add("store, " + words, {at("values", i): value for i, value in enumerate(stored)}, call_name="store", goes_on=True, number=0)
+            cell = 600 + k + (P if above else 0)
+            changes = {at("system"): k, at("stack", k): cell, at("system", 2 + k % 4): cell, at("stack", 17): cell, at("stack", 16): 16 + k % 5}
+            made.append(out.add(words, changes, goes_on=True, number=0)[1][0:49])
+        return made + [out.add("final state", call_name="final", goes_on=True, number=0)[1]]
+
+    assert run_of(List("plain"), False) == run_of(out, True)
+    return out
+
+
+def first_refusals():
+    """1 for opcodes, 2 and 11 in each of their cases, and what is no such case."""
+    out = List("inputs")
+    for k in range(40):
+        out.add("opcode", {at("ops", k): 255 if k % 2 else 128}, number=1)
+        out.add("opcode, unused", store("FinishJoin", JOIN), {at("ops", k): 255 - k if k % 2 else 128 + k}, number=1)
+    out.add("largest opcode", store("ResumeBasicBlock", ONE_GROUP, 0, 0), {at("ops", 28): 127}, number=0)
+    # none that are lent
     out.add("past the ends of the slices", store("FinishJoin", JOIN), lent("digests", 16), lent("groups", 8), lent("addresses", 0), lent("parents", 1),
             lent("ends", 6), lent("ops", 1), {at("digests", 16): P, at("groups", 8): P, at("addresses", 0): P, at("parents", 1): P, at("ends", 6): P,
                                               at("ops", 1): 128}, number=0)
-    out.add("helper number that the case has not", registers("Eqz", 3, P, P), number=0)
-    out.add("absent word and info", tracer(8, 0, P, P, P, P, 0, 0, P), number=0)
     out.add("starts, totals and depths", store("StartNode", JOIN), INFO, tracer(14, 2**32 - 1), batch_at(0, 9, 2**32 - 1),
             node_at(BLOCK, 3, 2**32 - 1), number=0)
     for k in range(13):
@@ -697,7 +821,7 @@ def own_refusals():
     # a refusal leaves flag, captured values and positions
     for number, change in ((20, lent("addresses", 1)), (21, lent("parents", 2)), (3, store("StartNode", ABSENT)), (4, store("EnterForest")),
                            (22, {**store("FinishLoop", LOOP), **lent("ends", 3)}), (24, store("StartNode", DYNCALL)), (24, store("StartNode", DYN)),
-                           (24, store("FinishLoop", LOOP)), (1, {at("stack"): P}), (2, {at("profile"): 128}),
+                           (24, store("FinishLoop", LOOP)), (1, {at("ops"): 128}), (2, {at("profile"): 128}),
                            (11, lent("fragment", 1)), (10, {at("stack", 16): 0})):
         for condition in (ZERO, ONE) if number == 24 else (ZERO,):
             out.add("refused with all captured", BODY, condition, WORD, INFO, change, FULL if number == 24 else LAST, number=number)
@@ -715,7 +839,7 @@ def own_refusals():
 def orders():
     """Two refusals of which the first in order is answered."""
     out = List("orders")
-    big, profile, lengths, depth = {at("groups", 31): P}, {at("profile", 13): 0}, lent("fragment", 195), {at("stack", 16): 15}
+    big, profile, lengths, depth = {at("ops", 39): 128}, {at("profile", 13): 0}, lent("fragment", 195), {at("stack", 16): 15}
     stages = [(31, tracer(0, 31)), (23, store("nothing")), (1, big), (2, profile), (11, lengths), (10, depth)]
     own = [(20, tracer(18, 4)), (21, tracer(19, 4)), (3, store("StartNode", ABSENT)), (4, store("StartNode", EXTERNAL)), (5, store("StartNode", NO_BATCH)),
            (7, node_at(BLOCK, 3, 3)), (23, store("StartNode", DYN)), (22, {**store("FinishJoin", JOIN), **lent("ends", 2)}),
@@ -826,16 +950,10 @@ def runs():
     stored_cycle("DYNCALL without info", "StartNode", DYNCALL, word=word, number=23)
     fresh("parent missing", False, tracer(18, 0, 4, 0))
     stored_cycle("parent missing", "StartNode", JOIN, number=21)
-    # C10: a loop of two passes of a block of one group with the operation 5, in fragments of four rows
+    # C10 in fragments of four rows
     rows = []
-    opcode = {at("ops", 28): 5, at("groups", 16): 5, at("ops", 39): 5}
-    fresh("loop of two passes", False, opcode, {at("addresses", k): v for k, v in enumerate([1, 3, 5])}, {at("parents", k): v for k, v in enumerate([0, 1, 1])},
-          {at("ends", k): v for k, v in enumerate([3, 1, 0, 5, 1, 0, 1, 0, 0])}, tracer(16, 0, 0, 0, 0, 0), {at("system"): 0}, batch_at(2, 10, 1),
-          *[batch_at(2, k, 1) for k in range(2, 10)])
-    cycles = [("LOOP", "StartNode", LOOP, 0, 0), ("SPAN", "StartNode", ONE_GROUP, 0, 0), ("operation", "ResumeBasicBlock", ONE_GROUP, 0, 0),
-              ("END", "FinishBasicBlock", ONE_GROUP, 1, 0), ("REPEAT", "FinishLoop", LOOP, 0, 2), ("SPAN", "StartNode", ONE_GROUP, 0, 0),
-              ("operation", "ResumeBasicBlock", ONE_GROUP, 0, 0), ("END", "FinishBasicBlock", ONE_GROUP, 1, 0), ("END", "FinishLoop", LOOP, 0, 1)]
-    for k, (words, name, node, body, condition) in enumerate(cycles):
+    fresh("loop of two passes", False, LOOP_RUN)
+    for k, (words, name, node, body, condition) in enumerate(LOOP_CYCLES):
         if k and k % 4 == 0:
             final()
             fresh("next fragment", True)
@@ -902,7 +1020,7 @@ def mixed():
         if kind == 16:
             return {at("profile", rng.randrange(13)): rng.choice(PROFILE[:13] + [1, 2, 3, 127, 128, 96, 97])}
         if kind == 17:
-            return {at(*rng.choice([("digests", 9), ("groups", 30), ("stack", 3), ("system", 5), ("tracer", 30), ("ends", 4)])): P - rng.randrange(2)}
+            return {at(*rng.choice([("digests", 9), ("groups", 30), ("stack", 3), ("system", 5), ("tracer", 30), ("ends", 4)])): rng.choice([P - 1, P, P + 7, BIG])}
         if kind == 18:
             return BODY
         if kind == 19:
@@ -930,7 +1048,7 @@ def mixed():
 
 if __name__ == "__main__":
     os.makedirs(os.path.join(HERE, "data"), exist_ok=True)
-    for made in (accepted_rows(), operations(), first_refusals(), own_refusals(), orders(), runs(), mixed()):
+    for made in (accepted_rows(), operations(), unreduced(), first_refusals(), own_refusals(), orders(), runs(), mixed()):
         made.write()
         print(made.name, sum(map(len, made.chains)), dict(sorted(made.numbers_of.items())))
     with open(os.path.join(HERE, "stdout"), "w") as file:

@@ -1,5 +1,5 @@
 #!/usr/bin/env python3
-"""Writes the lists of data/ beside this file. The expected numbers come from Python's integers, apart from the Rattle code;
+"""Writes the lists of data/ and the file stdout beside this file. The expected numbers come from Python's integers, apart from the Rattle code;
 the random numbers from a fixed seed, so that the lists come out the same each time."""
 import os
 import random
@@ -49,9 +49,8 @@ def halves(*values):
 
 
 def helpers_of(name, a):
-    """The number and the six helpers, by document 01 and the listed Rust."""
-    if any(x >= P for x in a):
-        return 1, []
+    """The number and the six helpers, by document 01 and the listed Rust. Each cell is read modulo p, before the values are held to 2^32."""
+    a = [x % P for x in a]
     if any(x >= 2**32 for x in a[:U32.get(name, 0)]):
         return 9, []
     if name == "Eq":
@@ -81,8 +80,9 @@ def helpers():
         sets += [[rng.randrange(top) for _ in range(size)] for _ in range(4)]
         for k in range(size):
             big = list(range(1, size + 1))
-            big[k] = P
-            sets.append(list(big))
+            for above in (P, P + 5, 2**64 - 1):
+                big[k] = above
+                sets.append(list(big))
             big[k] = 2**32
             sets.append(list(big))
             if u32:
@@ -91,10 +91,12 @@ def helpers():
                 big[k] = 2**32
                 big[(k + 1) % size] = 2**64 - 1
                 sets.append(list(big))
+        # all cells from p on; 2^64 - 1 is the largest of them, 2^32 - 2 modulo p
+        sets += [[P + x for x in range(1, size + 1)], [2**64 - 1 - x for x in range(size)]]
         if name == "U32Split":
-            sets += [[65538, 4294967295], [65538, 4294967294]]
+            sets += [[65538, 4294967295], [65538, 4294967294], [P + 65538, 4294967295], [P + 65538, P + 4294967294], [65538, P]]
         if name == "Eq":
-            sets += [[5, 5], [P - 1, 0], [0, P - 1]]
+            sets += [[5, 5], [P - 1, 0], [0, P - 1], [P + 5, 5], [5, P + 5], [P, P - 1], [P + 7, P + 9], [0, P]]
         for a in sets:
             out.append(line(name + " case", [n] + a + [0] * (6 - size), helpers_of(name, a)))
     # the name of a case may hold digits, which would be numbers: only the case's number stands in the list
@@ -107,7 +109,8 @@ def flags_of(count):
 
 
 def flags():
-    counts = list(range(12)) + [16, 4095, 4096, 2**32 - 1, 2**32, P - 1, 2**64 - 1]
+    # a count is no cell: from p on it stands for itself
+    counts = list(range(12)) + [16, 4095, 4096, 2**32 - 1, 2**32, P - 1, P, P + 3, 2**64 - 1]
     return "".join(line("count", [c], flags_of(c)) for c in counts)
 
 
@@ -171,9 +174,9 @@ def context_at_op(push, block, index, op, batches, groups):
     if not batch_there(block, batches, index):
         return 5, []
     r = first + index
-    record, cells = batches[12 * r:12 * r + 12], groups[8 * r:8 * r + 8]
+    record, cells = batches[12 * r:12 * r + 12], [c % P for c in groups[8 * r:8 * r + 8]]
     number, place = place_of(record[1:10], record[10], op)
-    refusals = [(1, any(c >= P for c in cells)), (6, number == 6),
+    refusals = [(6, number == 6),
                 (11, count > 4096 or any(batches[12 * (first + b)] > 8 for b in range(index + 1)))]
     if number:
         return lowest(refusals, [])
@@ -190,10 +193,10 @@ def context_at_batch_start(block, index, batches, groups):
     if not batch_there(block, batches, index):
         return 5, []
     r = first + index
-    cells = groups[8 * r:8 * r + 8]
+    cells = [c % P for c in groups[8 * r:8 * r + 8]]
     counts = [batches[12 * b] for b in range(r, min(first + count, 3))]
     number, flags = flags_of(sum(counts))
-    refusals = [(1, any(c >= P for c in cells)), (7, number == 7), (11, count > 4096 or any(c > 8 for c in counts))]
+    refusals = [(7, number == 7), (11, count > 4096 or any(c > 8 for c in counts))]
     return lowest(refusals, [cells[0], sum(counts)] + flags)
 
 
@@ -243,6 +246,17 @@ def contexts():
         for index in (0, 1, 2):
             add(0, push, (30, 0, 3), index, 1, usual + five + one, big)
             add(1, push, (30, 0, 3), index, 1, five + one + one, big)
+    # a group of p + g is g: its PUSH digits are those of g, and so is what is left of it. p's own digits are 1, 0, 0, 0, 112, 127, ..
+    above = [P + digits(push, 5, push, 6), P + digits(push - 1, 5, 6), P + digits(push, push, push, 3), P + digits(0, 0, 0, push - 1),
+             P + 2**32 - 2, P, P + 1, P + push]
+    for op in (0, 1, 2, 3, 4, 5, 8, 9, 10, 28, 29, 46, 56, 65):
+        add(0, push, (12, 0, 1), 0, op, usual + none + none, above + [0] * 16)
+    for code in (1, 0, 112, 127):
+        add(0, code, (12, 0, 1), 0, 8, usual + none + none, [P + digits(3, 4, 5, 6)] + above[1:] + [0] * 16)
+    for index in (0, 1, 2):
+        add(1, push, (40, 0, 3), index, 0, usual + five + one, above + above[1:] + above[:1] + above[2:] + above[:2])
+    for total in (2, 3, 4):
+        add(0, push, (total, 0, 1), 0, 3, usual + none + none, above + [0] * 16)
     for _ in range(12):
         b = sum((batch(rng.randrange(9), sorted(rng.randrange(30) for _ in range(9)), rng.randrange(31), 0) for _ in range(3)), [])
         g = [rng.randrange(P) for _ in range(24)]
@@ -252,8 +266,13 @@ def contexts():
 
 lists = {"field": field(), "helpers": helpers(), "flags": flags(), "places": places()}
 for k, name in enumerate("abcd"):
-    # the program has room for 8,192 numbers a list
-    lists["contexts_" + name] = "".join(contexts()[100 * k:100 * k + 100])
+    # the program has room for 8,192 numbers a list, of which a context takes 74
+    lists["contexts_" + name] = "".join(contexts()[110 * k:110 * k + 110])
+assert len(contexts()) <= 440
 for name, text in lists.items():
     with open(os.path.join(HERE, name), "w") as file:
         file.write(text)
+with open(os.path.join(HERE, "..", "stdout"), "w") as file:
+    for name, text in lists.items():
+        count = text.count("\n")
+        file.write("%s: %d of %d right\n" % (name, count, count))

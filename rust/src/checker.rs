@@ -1,5 +1,5 @@
 //! Document 01's "Reading a trace" once more, in plain Rust, to compare the proved reader with: one sweep over the rows with a list of the
-//! open blocks. It calls nothing of the library.
+//! open blocks. A cell from p on is read as that number less p. It calls nothing of the library.
 
 use crate::profile::Profile;
 
@@ -12,7 +12,7 @@ const GROUP_COUNT: usize = 23;
 const MOST_ROWS: usize = 1 << 24;
 const DEEPEST: usize = 64;
 
-/// A refusal's number and row; the row is 0 for 1, 2 and 11.
+/// A refusal's number and row; the row is 0 for 2 and 11.
 pub type Refused = (u32, usize);
 
 /// What a block is to the grammar: SPAN with its operations, LOOP with its passes, or a start row with a number of blocks in it.
@@ -44,7 +44,13 @@ struct Open {
     inside: u64,
 }
 
+/// A cell as it is read.
+fn reduced(cell: u64) -> u64 {
+    cell.checked_sub(P).unwrap_or(cell)
+}
+
 fn bit(cell: u64) -> Option<u8> {
+    let cell = reduced(cell);
     (cell < 2).then_some(cell as u8)
 }
 
@@ -110,7 +116,7 @@ struct Sweep {
 
 impl Sweep {
     fn ask(&mut self, row: usize, cell: u64, wanted: u64) {
-        if cell != wanted {
+        if reduced(cell) != wanted {
             self.wrong = Some(self.wrong.map_or(row, |lowest| lowest.min(row)));
         }
     }
@@ -156,9 +162,6 @@ impl Sweep {
 /// Reads a trace: the number of program rows, and in `depths` the depth of each row's innermost block (0 for HALT), or a refusal that
 /// leaves `depths` as it is.
 pub fn check(profile: &Profile, cells: &[u64], depths: &mut [u32]) -> Result<usize, Refused> {
-    if cells.iter().any(|&cell| cell >= P) {
-        return Err((1, 0));
-    }
     if wrong_profile(profile) {
         return Err((2, 0));
     }

@@ -1,11 +1,12 @@
-//! The comparison: the same calls and passes by the listed Rust and by the proved library, field by field.
+//! The comparison: the same calls and passes by the listed Rust and by the proved library, field by field. The listed Rust is given reduced
+//! cells; the library is given the same or, in half of the runs, numbers from p on for some of them.
 
 use std::collections::BTreeMap;
 use std::panic::{AssertUnwindSafe, catch_unwind};
 use std::sync::Arc;
 
 use crate::calls::{Call, DecoderState, Positions, records};
-use crate::exports::{self, BUILT, WIDTH, replay_calls};
+use crate::exports::{self, BUILT, Refusal, WIDTH, replay_calls};
 use crate::forest::Forests;
 use crate::listed::convert;
 use crate::listed::parallel::{CORE_STORAGE_WIDTH, passes};
@@ -15,7 +16,12 @@ use crate::listed::stand_ins::core_crate::mast::SparseMastForest;
 use crate::listed::stand_ins::field::Felt;
 use crate::listed::whole::{self, Start, refusal};
 use crate::profile::EXAMPLE;
-use crate::random::{Rng, Run};
+use crate::random::{Rng, Run, raised, raised_run, raised_state};
+
+const P: u64 = 18446744069414584321;
+const GROUP_COUNT: usize = 23;
+const STACK: usize = 30;
+const HELPER: usize = 48;
 
 /// The names of the 49 columns.
 pub fn column(i: usize) -> String {
@@ -42,6 +48,9 @@ pub fn column(i: usize) -> String {
 #[derive(Default)]
 pub struct Tally {
     pub runs: u64,
+    /// Runs in which the library was given some cells from p on, and how many of them its passes were given.
+    pub raised: u64,
+    pub raised_cells: u64,
     /// Runs that went through to the padding.
     pub finished: u64,
     pub calls: u64,
@@ -66,14 +75,28 @@ impl Tally {
             self.differ(format!("{what}: {ours:?}, the listed Rust {listed:?}"));
         }
     }
-    /// The first `rows` rows of both, field by field.
-    fn same_rows(&mut self, stage: &str, rows: usize, ours: &[u64], listed: &[Felt]) {
+    /// The first `rows` rows of both, field by field. A cell that the stage writes must be the listed Rust's; the others must be as they were
+    /// before, and the listed Rust's modulo p.
+    fn same_rows(
+        &mut self,
+        stage: &str,
+        rows: usize,
+        before: &[u64],
+        ours: &[u64],
+        listed: &[Felt],
+        writes: impl Fn(usize, usize) -> bool,
+    ) {
         for row in 0..rows {
             let a = &ours[row * WIDTH..][..WIDTH];
             let b = &listed[row * CORE_STORAGE_WIDTH..][..CORE_STORAGE_WIDTH];
             for i in 0..WIDTH {
-                if a[i] != b[i].as_canonical_u64() {
+                let is_written = writes(row, i);
+                let cell = if is_written { a[i] } else { a[i] % P };
+                if cell != b[i].as_canonical_u64() {
                     self.differ(format!("{stage}, row {row}, {}: {}, the listed Rust {}", column(i), a[i], b[i]));
+                }
+                if !is_written && a[i] != before[row * WIDTH + i] {
+                    self.differ(format!("{stage}, row {row}, {}: {} was {}", column(i), a[i], before[row * WIDTH + i]));
                 }
             }
             self.same("the two cells behind a row", &[0, 0][..], &b[WIDTH..].iter().map(Felt::as_canonical_u64).collect::<Vec<_>>());
@@ -89,20 +112,26 @@ impl Tally {
 const ACCEPTS: &str = "accepts";
 
 /// The first call that the library refuses, by halving: where a list is refused, so is each longer one.
-fn first_refused(lent: &Forests, run: &Run, state: DecoderState, at: Positions, calls: &[Call], fragment: &[u64]) -> (usize, u32) {
-    let refuses = |n: usize| replay_calls(lent, &run.queues, EXAMPLE, state, at, &records(&calls[..n]), &mut fragment.to_vec()).err();
+fn first_refused(calls: &[Call], refused: impl Fn(&[Call]) -> Option<Refusal>) -> (usize, u32) {
     let (mut low, mut high) = (0, calls.len());
     while high - low > 1 {
         let middle = (low + high) / 2;
-        if refuses(middle).is_some() { high = middle } else { low = middle }
+        if refused(&calls[..middle]).is_some() { high = middle } else { low = middle }
     }
-    (high - 1, refuses(high).expect("the whole list is refused").0)
+    (high - 1, refused(&calls[..high]).expect("the whole list is refused").0)
 }
 
-/// Carries out a run on both sides, and its passes. Answers the finished trace, where there is one.
+fn reduced(state: DecoderState) -> DecoderState {
+    DecoderState { current_addr: state.current_addr % P, parent_addr: state.parent_addr % P }
+}
+
+/// Carries out a run on both sides, and its passes. Answers the finished trace, where there is one; some of its cells may be from p on.
 pub fn compare_run(run: &Run, rng: &Rng, tally: &mut Tally) -> Option<Vec<u64>> {
     tally.runs += 1;
-    let lent = Forests::new(&run.forests);
+    let is_raised = rng.one_in(2);
+    tally.raised += u64::from(is_raised);
+    let given = if is_raised { raised_run(rng, run) } else { run.clone() };
+    let lent = Forests::new(&given.forests);
     let forests: Vec<_> = run.forests.iter().map(convert::forest).collect();
     let size = run.fragment_size;
     let cycles: usize = run.fragments.iter().flatten().filter(|call| matches!(call, Call::Cycle(_))).count();
@@ -112,16 +141,19 @@ pub fn compare_run(run: &Run, rng: &Rng, tally: &mut Tally) -> Option<Vec<u64>> 
     let mut buffer: Vec<u64> = (0..buffer_rows * WIDTH).map(|_| rng.next()).collect();
     let mut data = Felt::zero_vec(run.fragments.len() * size * CORE_STORAGE_WIDTH);
 
-    let (mut state, mut at) = (run.state, Positions::default());
+    // The address state of the listed Rust and the library's.
+    let (mut state, mut ours_state, mut at) = (run.state, given.state, Positions::default());
     let (mut counts, mut built) = (Vec::new(), Vec::new());
     let (mut stack_rows, mut system_rows, mut contexts) = (Vec::new(), Vec::new(), Vec::new());
-    for (k, calls) in run.fragments.iter().enumerate() {
+    for (k, (calls, given_calls)) in run.fragments.iter().zip(&given.fragments).enumerate() {
         let place = k * size * CORE_STORAGE_WIDTH..(k + 1) * size * CORE_STORAGE_WIDTH;
         let end = ((k + 1) * size).min(buffer_rows);
         let ours = k * size * WIDTH..end * WIDTH;
         let listed_calls = convert::calls(calls, &run.forests);
         let before = buffer[ours.clone()].to_vec();
-        let mut answer = replay_calls(&lent, &run.queues, EXAMPLE, state, at, &records(calls), &mut buffer[ours.clone()]);
+        let replay =
+            |calls: &[Call], fragment: &mut [u64]| replay_calls(&lent, &given.queues, EXAMPLE, ours_state, at, &records(calls), fragment);
+        let mut answer = replay(given_calls, &mut buffer[ours.clone()]);
         let mut listed = whole::fragment(run, &forests, &listed_calls, state, at, &mut data[place.clone()]);
         let mut accepted = calls.len();
         let is_refused = answer.is_err() || listed.refused.is_some();
@@ -131,7 +163,7 @@ pub fn compare_run(run: &Run, rng: &Rng, tally: &mut Tally) -> Option<Vec<u64>> 
                 if buffer[ours.clone()] != before {
                     tally.differ("a refused replay changed the fragment".into());
                 }
-                first_refused(&lent, run, state, at, calls, &before)
+                first_refused(given_calls, |calls| replay(calls, &mut before.clone()).err())
             });
             accepted = first.map_or(usize::MAX, |(at, _)| at).min(listed.refused.as_ref().map_or(usize::MAX, |(at, _)| *at));
             let number = first.filter(|(at, _)| *at == accepted).map_or(0, |(_, number)| number);
@@ -139,7 +171,7 @@ pub fn compare_run(run: &Run, rng: &Rng, tally: &mut Tally) -> Option<Vec<u64>> 
             tally.refused(number, &text);
             buffer[ours.clone()].copy_from_slice(&before);
             data[place.clone()].fill(convert::felt(0));
-            answer = replay_calls(&lent, &run.queues, EXAMPLE, state, at, &records(&calls[..accepted]), &mut buffer[ours.clone()]);
+            answer = replay(&given_calls[..accepted], &mut buffer[ours.clone()]);
             listed = whole::fragment(run, &forests, &listed_calls[..accepted], state, at, &mut data[place.clone()]);
         }
         tally.calls += accepted as u64;
@@ -150,9 +182,10 @@ pub fn compare_run(run: &Run, rng: &Rng, tally: &mut Tally) -> Option<Vec<u64>> 
         let (rows, positions) = (left.rows, left.at);
         tally.same("rows of a fragment", answer.rows, rows);
         tally.same("built cells", answer.built, left.built);
-        tally.same("address state", answer.state, left.state);
+        // The library hands a cell of the address state on as it was given where no row moved it.
+        tally.same("address state", reduced(answer.state), left.state);
         tally.same("queue positions", answer.at, positions);
-        tally.same_rows("replay", rows, &buffer[ours.start..], &data[place]);
+        tally.same_rows("replay", rows, &before, &buffer[ours.start..], &data[place], |_, _| true);
         if buffer[ours.start + rows * WIDTH..ours.end] != before[rows * WIDTH..] {
             tally.differ("replay changed a row behind its last".into());
         }
@@ -163,7 +196,8 @@ pub fn compare_run(run: &Run, rng: &Rng, tally: &mut Tally) -> Option<Vec<u64>> 
             stack_rows.push(left.stack);
             system_rows.push(left.system);
         }
-        (state, at) = (answer.state, answer.at);
+        (state, at) = (left.state, answer.at);
+        ours_state = if is_raised { raised_state(rng, answer.state) } else { answer.state };
         if is_refused || rows < size {
             break;
         }
@@ -173,13 +207,23 @@ pub fn compare_run(run: &Run, rng: &Rng, tally: &mut Tally) -> Option<Vec<u64>> 
         return None;
     }
     data.truncate(counts.len() * size * CORE_STORAGE_WIDTH);
-    let made = Made { run, forests, rows, height, counts, built, stack_rows, system_rows, contexts };
+    if is_raised {
+        // The passes are handed rows and built cells of anybody.
+        for cell in buffer[..rows * WIDTH].iter_mut().chain(&mut built) {
+            *cell = raised(rng, *cell);
+            tally.raised_cells += u64::from(*cell >= P);
+        }
+    }
+    let top = given.first_stack_top;
+    let made = Made { run, top, forests, rows, height, counts, built, stack_rows, system_rows, contexts };
     compare_passes(made, buffer, data, tally)
 }
 
 /// What both sides made of a run's fragments.
 struct Made<'a> {
     run: &'a Run,
+    /// The first stack top as the library is given it.
+    top: [u64; 16],
     forests: Vec<Arc<SparseMastForest>>,
     rows: usize,
     height: usize,
@@ -191,9 +235,15 @@ struct Made<'a> {
 }
 
 fn compare_passes(made: Made<'_>, mut buffer: Vec<u64>, mut data: Vec<Felt>, tally: &mut Tally) -> Option<Vec<u64>> {
-    let Made { run, forests, rows, height, counts, built, stack_rows, system_rows, contexts } = made;
-    let (size, top) = (run.fragment_size, run.first_stack_top);
+    let Made { run, top, forests, rows, height, counts, built, stack_rows, system_rows, contexts } = made;
+    let size = run.fragment_size;
     let replayed = buffer.clone();
+    // What each pass writes.
+    let is_loop = |row: usize| (0..7).all(|bit| replayed[row * WIDTH + 7 + bit] % P == u64::from(EXAMPLE.loop_op >> bit & 1));
+    let fixes = |row: usize, i: usize| row.is_multiple_of(size) && (i >= STACK || row > 0 && i < 6);
+    let counts_at = |row: usize, i: usize| i == GROUP_COUNT && row + 1 < rows && is_loop(row);
+    let inverts = |_: usize, i: usize| i == HELPER;
+    let any = |row: usize, i: usize| row >= rows || fixes(row, i) || counts_at(row, i) || inverts(row, i);
     let mut finished = buffer.clone();
     let all = exports::finish(EXAMPLE, &mut finished, size, &counts, &built, &top, height);
     let generated = refusal(catch_unwind(AssertUnwindSafe(|| passes::generate(contexts, size, &forests))));
@@ -201,9 +251,10 @@ fn compare_passes(made: Made<'_>, mut buffer: Vec<u64>, mut data: Vec<Felt>, tal
     // Pass 1.
     let first = exports::fixup_stack_and_system_rows(&mut buffer, size, &counts, &built, &top);
     tally.same("pass 1", first, Ok(()));
-    passes::fixup(&mut data, size, &stack_rows, &system_rows, &top.map(convert::felt));
-    tally.same_rows("pass 1", rows, &buffer, &data);
+    passes::fixup(&mut data, size, &stack_rows, &system_rows, &run.first_stack_top.map(convert::felt));
+    tally.same_rows("pass 1", rows, &replayed, &buffer, &data, fixes);
     // Pass 2.
+    let mut before = buffer.clone();
     let second = exports::set_loop_body_multiplicities(EXAMPLE, &mut buffer, rows);
     let listed = refusal(Ok(passes::multiplicities(&mut data, rows)));
     tally.same("the finisher and pass 2", all, second);
@@ -215,25 +266,28 @@ fn compare_passes(made: Made<'_>, mut buffer: Vec<u64>, mut data: Vec<Felt>, tal
         }
         return None;
     }
-    tally.same_rows("pass 2", rows, &buffer, &data);
+    tally.same_rows("pass 2", rows, &before, &buffer, &data, counts_at);
     // Pass 3.
+    before.clone_from(&buffer);
     tally.same("pass 3", exports::invert_helper_column(&mut buffer, rows), Ok(()));
     passes::invert(&mut data, size, rows);
-    tally.same_rows("pass 3", rows, &buffer, &data);
+    tally.same_rows("pass 3", rows, &before, &buffer, &data, inverts);
     // Pass 4.
+    before.clone_from(&buffer);
     let last: [u64; BUILT] = built[built.len() - BUILT..].try_into().unwrap();
     tally.same("pass 4", exports::push_halt_opcode_row(EXAMPLE, &mut buffer, rows, &last), Ok(()));
     data.truncate(rows * CORE_STORAGE_WIDTH);
     passes::push_halt(&mut data, rows, system_rows.last().unwrap(), stack_rows.last().unwrap());
-    tally.same_rows("pass 4", rows + 1, &buffer, &data);
+    tally.same_rows("pass 4", rows + 1, &before, &buffer, &data, |row, _| row == rows);
     // Pass 5.
+    before.clone_from(&buffer);
     tally.same("pass 5", exports::pad_core_row_major(EXAMPLE, &mut buffer, rows + 1, height), Ok(()));
     passes::pad(&mut data, height);
-    tally.same_rows("pass 5", height, &buffer, &data);
+    tally.same_rows("pass 5", height, &before, &buffer, &data, |row, _| row > rows);
     // All at once.
     let mut generated = generated.expect("no pass was refused");
     passes::pad(&mut generated, height);
-    tally.same_rows("finish", height, &finished, &generated);
+    tally.same_rows("finish", height, &replayed, &finished, &generated, any);
     if finished != buffer || finished[height * WIDTH..] != replayed[height * WIDTH..] {
         tally.differ("the finisher and the five passes leave different buffers".into());
     }

@@ -1,7 +1,8 @@
 //! The calls of the proved library, each as a safe function with the original's name where there is one.
 //!
 //! Every call takes any numbers. It answers what it made or the number of a [`Refusal`], and a refused call has changed nothing that it was
-//! lent. A cell is a number below p = 18446744069414584321, a row is [`WIDTH`] cells.
+//! lent. A row is [`WIDTH`] cells. A cell is a number below p = 18446744069414584321; where one comes in, a number from p on is read as that
+//! number less p. What a call writes is below p, what it does not write stays as it is.
 
 use crate::calls::{DecoderState, Positions};
 use crate::forest::{Forests, Queues};
@@ -29,8 +30,8 @@ fn accepted(number: u32) -> Result<(), Refusal> {
     if number == 0 { Ok(()) } else { Err(Refusal(number)) }
 }
 
-/// A refusal of the reader and its row: for 12 and 15 the first row (or the end) that fails, for 13 the lowest row of a whole word, for 1, 2
-/// and 11 it is 0.
+/// A refusal of the reader and its row: for 12 and 15 the first row (or the end) that fails, for 13 the lowest row of a whole word, for 2 and
+/// 11 it is 0.
 #[derive(Clone, Copy, Debug, PartialEq, Eq)]
 pub struct RefusedAt {
     pub refusal: Refusal,
@@ -169,7 +170,8 @@ mod foreign {
 /// `start_clock_cycle` and `finalize_clock_cycle` once a record, and `into_final_state` behind the last.
 ///
 /// `state` and `at` are the address state and queue positions that the fragment before left. Where a record is refused, its number is
-/// answered and no row is written.
+/// answered and no row is written. Cells of the forests, the queues and the records may be any numbers; 1 refuses an opcode of 128 or more
+/// among the forests' operations, and a record whose clk, ctx or depth is over 32 bits.
 pub fn replay_calls(
     forests: &Forests,
     queues: &Queues,
@@ -313,7 +315,7 @@ pub fn enclosing_block(index: &[u32], row: usize) -> Result<Option<usize>, Refus
     accepted(r.number).map(|()| (r.found == 1).then_some(r.place))
 }
 
-/// The inverse of a cell modulo p, 0 for 0.
+/// The inverse of a cell modulo p, 0 for 0 and for p. No number is refused.
 pub fn inverse(cell: u64) -> Result<u64, Refusal> {
     let r = unsafe { foreign::core_inverse(cell) };
     accepted(r.number).map(|()| r.value)

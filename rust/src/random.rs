@@ -734,6 +734,60 @@ pub fn any_calls(rng: &Rng, limit: usize) -> Run {
     Run { forests, queues, state, first_stack_top, fragment_size: size, fragments, nesting: None }
 }
 
+// CELLS FROM P ON
+// ------------------------------------------------------------------------------------------------
+
+/// A number that is read as the cell: the cell itself or, half of the times that it fits 64 bits, p more.
+pub fn raised(rng: &Rng, cell: u64) -> u64 {
+    match cell.checked_add(P) {
+        Some(above) if rng.one_in(2) => above,
+        _ => cell,
+    }
+}
+
+/// The address state with p added to some of its cells.
+pub fn raised_state(rng: &Rng, state: DecoderState) -> DecoderState {
+    DecoderState { current_addr: raised(rng, state.current_addr), parent_addr: raised(rng, state.parent_addr) }
+}
+
+/// The run with p added to some of its cells, in each place where a cell comes in.
+pub fn raised_run(rng: &Rng, run: &Run) -> Run {
+    let mut run = run.clone();
+    let raise = |cells: &mut [u64]| cells.iter_mut().for_each(|cell| *cell = raised(rng, *cell));
+    for slot in run.forests.iter_mut().flatten() {
+        match slot {
+            Slot::Absent => {}
+            Slot::Digest(digest) => raise(digest),
+            Slot::Node(node, digest) => {
+                raise(digest);
+                if let MastNode::Block(_, batches) = node {
+                    batches.iter_mut().for_each(|batch| raise(&mut batch.groups));
+                }
+            }
+        }
+    }
+    raise(&mut run.queues.addresses);
+    raise(&mut run.queues.parents);
+    raise(&mut run.queues.ends);
+    run.state = raised_state(rng, run.state);
+    raise(&mut run.first_stack_top);
+    for call in run.fragments.iter_mut().flatten() {
+        match call {
+            Call::Store(stored) => {
+                stored.callee.iter_mut().for_each(|word| raise(word));
+                stored.info.iter_mut().for_each(|info| info.next_overflow_addr = raised(rng, info.next_overflow_addr));
+            }
+            Call::Cycle(cycle) => {
+                raise(&mut cycle.system.fn_hash);
+                raise(&mut cycle.stack.stack_top);
+                cycle.stack.overflow_addr = raised(rng, cycle.stack.overflow_addr);
+                raise(&mut cycle.registers.cells);
+            }
+        }
+    }
+    run
+}
+
 // LONG RUNS
 // ------------------------------------------------------------------------------------------------
 

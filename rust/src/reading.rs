@@ -1,4 +1,5 @@
-//! The comparison of the proved reader with the checker: traces as they were written, and with one cell changed.
+//! The comparison of the proved reader with the checker: traces as they were written, with cells from p on for the same ones, and with one
+//! cell changed.
 
 use std::collections::BTreeMap;
 
@@ -6,7 +7,7 @@ use crate::checker::{Refused, check};
 use crate::compare::column;
 use crate::exports::{WIDTH, build_index, enclosing_block, read_trace, row};
 use crate::profile::{EXAMPLE, Profile};
-use crate::random::Rng;
+use crate::random::{Rng, raised};
 
 const P: u64 = 18446744069414584321;
 const H4: usize = 18;
@@ -45,6 +46,8 @@ pub struct Tally {
     pub whole: Answers,
     /// Those of them whose nesting is known.
     pub nested: u64,
+    /// Traces with p added to cells, or taken from them.
+    pub raised: Answers,
     /// Accepted traces with one cell changed.
     pub damaged: Answers,
     /// Refused traces with one cell changed.
@@ -143,13 +146,41 @@ impl Tally {
         self.indexes += 1;
     }
 
-    /// Reads a trace back, then 100 times with one cell changed (8 times where it is refused) and 16 times with a larger change.
+    /// Reads a trace back, then 12 times with other numbers for the same cells, 100 times with one cell changed (8 times where it is refused)
+    /// and 16 times with a larger change.
     pub fn all(&mut self, rng: &Rng, mut cells: Vec<u64>, nesting: Option<&[u32]>) {
         let is_accepted = self.read_back(&cells, nesting);
         self.view(&cells, rng.below(cells.len() / WIDTH + 1));
         self.index(&EXAMPLE, &cells);
+        self.raise(rng, &cells);
         self.damage(rng, &mut cells, is_accepted);
         self.reshape(rng, &cells);
+    }
+
+    /// Adds p to a cell or takes it from one, and then from some: what is read stays the same.
+    fn raise(&mut self, rng: &Rng, cells: &[u64]) {
+        let rows = cells.len() / WIDTH;
+        let plain = self.read("a trace, its cells as they are", &EXAMPLE, cells, rows);
+        let places = Places::new(cells);
+        for n in 0..12 {
+            let mut other = cells.to_vec();
+            if n < 8 {
+                let (row, cell) = places.pick(rng);
+                other[row * WIDTH + cell] = other_number(cells[row * WIDTH + cell]);
+            } else {
+                let one_in = 1 + rng.below(4);
+                other.iter_mut().filter(|_| rng.one_in(one_in)).for_each(|cell| *cell = other_number(*cell));
+            }
+            let got = self.read("a trace, p added to cells", &EXAMPLE, &other, rows);
+            self.raised.count(&got.0);
+            if got != plain {
+                self.differ(format!("a trace reads otherwise with p added to cells: {:?} and {:?}", got.0, plain.0));
+            }
+            if n > 9 {
+                self.index(&EXAMPLE, &other);
+                self.view(&other, rng.below(rows + 1));
+            }
+        }
     }
 
     fn damage(&mut self, rng: &Rng, cells: &mut [u64], is_accepted: bool) {
@@ -187,7 +218,7 @@ fn indexed(profile: &Profile, cells: &[u64], program: usize) -> (Vec<u32>, Vec<u
         [profile.span, profile.join, profile.split, profile.loop_op, profile.call, profile.syscall, profile.dyn_op, profile.dyncall];
     let (mut index, mut open, mut blocks) = (Vec::new(), Vec::<usize>::new(), Vec::new());
     for (number, row) in cells.chunks(WIDTH).take(program).enumerate() {
-        let is_control = row[IN_SPAN] == 0;
+        let is_control = row[IN_SPAN] % P == 0;
         if is_control && starts.contains(&opcode(row)) {
             let around = open.last().map_or(number as u32, |&place| index[3 * place]);
             open.push(index.len() / 3);
@@ -211,7 +242,12 @@ struct Places {
 }
 
 fn opcode(row: &[u64]) -> u8 {
-    (0..7).map(|i| (row[7 + i] as u8 & 1) << i).sum()
+    (0..7).map(|i| ((row[7 + i] % P) as u8 & 1) << i).sum()
+}
+
+/// The other number that is read as the same cell, where there is one.
+fn other_number(cell: u64) -> u64 {
+    cell.checked_sub(P).or(cell.checked_add(P)).unwrap_or(cell)
 }
 
 impl Places {
@@ -261,8 +297,8 @@ fn other_value(rng: &Rng, cells: &[u64], row: usize, cell: usize) -> u64 {
             8 => rng.next() % P,
             _ => rng.cell(),
         };
-        let is_bit = matches!(cell, 7..=13 | H4 | IN_SPAN) && before < 2;
-        let value = if is_bit && rng.one_in(2) { 1 - before } else { value };
+        let is_bit = matches!(cell, 7..=13 | H4 | IN_SPAN) && before % P < 2;
+        let value = if is_bit && rng.one_in(2) { raised(rng, 1 - before % P) } else { value };
         if value != before {
             return value;
         }
@@ -321,7 +357,7 @@ fn reshaped(rng: &Rng, places: &Places, cells: &mut Vec<u64>, profile: &mut Prof
     }
 }
 
-/// Cuts off the end, most often inside a row, and now and then makes the last cell none.
+/// Cuts off the end, most often inside a row, and now and then makes the last cell p.
 fn cut_inside(rng: &Rng, cells: &mut Vec<u64>) {
     cells.truncate(1 + rng.below(cells.len()));
     if rng.one_in(4) {

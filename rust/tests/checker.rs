@@ -124,6 +124,32 @@ fn cells_that_fit_nothing() {
     assert_eq!(read(&cells), Err((12, 1)));
 }
 
+/// A cell from p on is read as that number less p.
+#[test]
+fn cells_from_p_on() {
+    for text in ["soeh", "l2s1oERs1oEeh", "jsecseeeh", "l2seeh", "l1sEEh", "sehs"] {
+        let plain = trace(text);
+        let wanted = read(&plain);
+        assert_eq!(read(&plain.iter().map(|cell| cell + P).collect::<Vec<_>>()), wanted, "{text}");
+        for place in 0..plain.len() {
+            let mut cells = plain.clone();
+            cells[place] += P;
+            assert_eq!(read(&cells), wanted, "{text}, cell {place}");
+        }
+    }
+    let good = trace("soeh");
+    for (place, number, refusal) in
+        [(7, P + 2, 12), (7, u64::MAX, 12), (22, P + 2, 12), (22, P, 12), (18 + WIDTH, P + 1, 13), (18 + WIDTH, P + 2, 13)]
+    {
+        let mut cells = good.clone();
+        cells[WIDTH + place] = number;
+        assert_eq!(read(&cells), Err((refusal, 1 + place / WIDTH)), "{place}, {number}");
+    }
+    let mut cells = trace("l1sEeh");
+    cells[23] = P + 2;
+    assert_eq!(read(&cells), Err((13, 0)));
+}
+
 #[test]
 fn deep() {
     let nested = |n: usize, inner: &str| format!("{}{inner}{}h", "i".repeat(n), "e".repeat(n));
@@ -137,7 +163,7 @@ fn deep() {
 }
 
 #[test]
-fn lengths_cells_and_profiles() {
+fn lengths_and_profiles() {
     let good = trace("seh");
     let mut depths = vec![9; 4];
     assert_eq!(check(&EXAMPLE, &good, &mut depths), Ok(2));
@@ -146,9 +172,6 @@ fn lengths_cells_and_profiles() {
     assert_eq!(check(&EXAMPLE, &good[1..], &mut depths), Err((11, 0)));
     let wrong = Profile { step: P, ..EXAMPLE };
     assert_eq!(check(&wrong, &good[1..], &mut depths), Err((2, 0)));
-    let mut big = good[1..].to_vec();
-    *big.last_mut().unwrap() = P;
-    assert_eq!(check(&wrong, &big, &mut depths), Err((1, 0)));
     for wrong in [
         Profile { span: 128, ..EXAMPLE },
         Profile { join: EXAMPLE.end, ..EXAMPLE },

@@ -19,7 +19,7 @@ fn refused<T: core::fmt::Debug + PartialEq>(answer: Result<T, Refusal>, number: 
     assert_eq!(answer, Err(Refusal(number)));
 }
 
-/// C1, and refusal 1.
+/// C1, and the inverse of numbers from p on.
 #[test]
 fn inverses() {
     assert_eq!(inverse(2), Ok(9223372034707292161));
@@ -28,8 +28,10 @@ fn inverses() {
     for x in [3, 1023, 1024, P - 1, 1 << 40] {
         assert_eq!(u128::from(x) * u128::from(inverse(x).unwrap()) % u128::from(P), 1);
     }
-    refused(inverse(P), 1);
-    refused(inverse(u64::MAX), 1);
+    assert_eq!(inverse(P), Ok(0));
+    for x in [1, 2, 3, 1023, 1024, 0xffff_fffe] {
+        assert_eq!(inverse(P + x), inverse(x));
+    }
 }
 
 /// Two fragments of two rows and one: the first stack top reversed, then the cells of the fragment before.
@@ -47,6 +49,22 @@ fn first_rows() {
     assert!(buffer[128..147].iter().copied().eq(106..125));
 }
 
+/// Cells from p on: what is written is reduced, what is not stays.
+#[test]
+fn first_rows_from_p_on() {
+    let mut buffer = vec![P + 7; 3 * WIDTH];
+    let built: Vec<u64> = (100..150).map(|cell| P + cell).collect();
+    let top = core::array::from_fn(|i| P + i as u64);
+    assert_eq!(fixup_stack_and_system_rows(&mut buffer, 2, &[2, 1], &built, &top), Ok(()));
+    assert_eq!(buffer[..30], [P + 7; 30]);
+    assert!(buffer[30..46].iter().copied().eq((0..16).rev()));
+    assert_eq!(buffer[46..49], [16, 0, 0]);
+    assert_eq!(buffer[49..98], [P + 7; 49]);
+    assert!(buffer[98..104].iter().copied().eq(100..106));
+    assert_eq!(buffer[104..128], [P + 7; 24]);
+    assert!(buffer[128..147].iter().copied().eq(106..125));
+}
+
 #[test]
 fn first_rows_refused() {
     let before = vec![7; 3 * WIDTH];
@@ -56,8 +74,6 @@ fn first_rows_refused() {
         refused(fixup_stack_and_system_rows(&mut copy, size, counts, built, top), number);
         assert_eq!(copy, buffer);
     };
-    check(&vec![P; 3 * WIDTH], 2, &[2, 1], &built, &NONE, 1);
-    check(&before, 2, &[2, 1], &built, &[P; 16], 1);
     check(&before[1..], 2, &[1], &built, &NONE, 11);
     check(&before, 0, &[2, 1], &built, &NONE, 11);
     check(&before, 2, &[3], &built, &NONE, 11);
@@ -85,6 +101,14 @@ fn multiplicities() {
     let mut one = row(EXAMPLE.loop_op, 0);
     assert_eq!(set_loop_body_multiplicities(EXAMPLE, &mut one, 1), Ok(()));
     assert_eq!(one, row(EXAMPLE.loop_op, 0));
+    // Flag, address and bits from p on.
+    let plain = looped();
+    let mut above: Vec<u64> = plain.iter().map(|cell| cell + P).collect();
+    let before = above.clone();
+    assert_eq!(set_loop_body_multiplicities(EXAMPLE, &mut above, 6), Ok(()));
+    assert_eq!(above[23], 2);
+    above[23] = before[23];
+    assert_eq!(above, before);
     let mut without = [row(EXAMPLE.loop_op, 0), row(EXAMPLE.span, 1)].concat();
     let before = without.clone();
     refused(set_loop_body_multiplicities(EXAMPLE, &mut without, 2), 14);
@@ -108,7 +132,12 @@ fn helper_column() {
     assert_eq!(buffer[48], 9223372034707292161);
     assert_eq!(buffer[97], 2);
     refused(invert_helper_column(&mut buffer, 3), 11);
-    refused(invert_helper_column(&mut [P; WIDTH], 1), 1);
+    let mut above = [P + 2; WIDTH];
+    assert_eq!(invert_helper_column(&mut above, 1), Ok(()));
+    assert_eq!((above[47], above[48]), (P + 2, 9223372034707292161));
+    let mut zero = [P; WIDTH];
+    assert_eq!(invert_helper_column(&mut zero, 1), Ok(()));
+    assert_eq!(zero[48], 0);
 }
 
 /// The HALT row has the cells built last, its helper as it is, and padding repeats it.
@@ -128,10 +157,27 @@ fn halts() {
     assert_eq!(padding[6..], halt[6..]);
     assert_eq!(buffer[147..], [9; 49]);
     refused(push_halt_opcode_row(EXAMPLE, &mut buffer, 4, &built), 11);
-    refused(push_halt_opcode_row(EXAMPLE, &mut buffer, 1, &[P; BUILT]), 1);
     refused(pad_core_row_major(EXAMPLE, &mut buffer, 0, 3), 11);
     refused(pad_core_row_major(EXAMPLE, &mut buffer, 3, 2), 11);
     refused(pad_core_row_major(EXAMPLE, &mut buffer, 3, 5), 11);
+}
+
+/// HALT and padding copy reduced cells of rows that are not.
+#[test]
+fn halts_from_p_on() {
+    let mut buffer = vec![P + 9; 4 * WIDTH];
+    let built: [u64; BUILT] = core::array::from_fn(|i| P + 50 + i as u64);
+    assert_eq!(push_halt_opcode_row(EXAMPLE, &mut buffer, 1, &built), Ok(()));
+    assert_eq!(buffer[..49], [P + 9; 49]);
+    assert!(buffer[49..55].iter().copied().eq(50..56));
+    assert!(buffer[79..98].iter().copied().eq(56..75));
+    assert_eq!(buffer[63..71], [9, 9, 9, 9, 0, 0, 0, 0]);
+    buffer[49..98].iter_mut().for_each(|cell| *cell += P);
+    let halt = buffer[49..98].to_vec();
+    assert_eq!(pad_core_row_major(EXAMPLE, &mut buffer, 2, 3), Ok(()));
+    assert_eq!(buffer[49..98], halt);
+    assert!(buffer[98 + 6..147].iter().copied().eq(halt[6..].iter().map(|cell| cell - P)));
+    assert_eq!(buffer[98..104], [2, 0, 0, 0, 0, 0]);
 }
 
 /// The finisher is the five passes; each of its refusals leaves the buffer.
@@ -199,6 +245,18 @@ mod read {
         assert_eq!(index, [0, 2, 0, 7]);
     }
 
+    /// A trace with p added to its cells reads as the trace, and its rows are handed back as they are.
+    #[test]
+    fn cells_from_p_on() {
+        let above: Vec<u64> = small().iter().map(|cell| cell + P).collect();
+        let (mut depths, mut index) = ([7; 5], [7; 4]);
+        assert_eq!(read_trace(EXAMPLE, &above, &mut depths), Ok(3));
+        assert_eq!(depths, [1, 1, 1, 0, 7]);
+        assert_eq!(build_index(EXAMPLE, &above, &mut index), Ok(1));
+        assert_eq!(index, [0, 2, 0, 7]);
+        assert!(core::ptr::eq(row(&above, 1), &above[WIDTH..2 * WIDTH]));
+    }
+
     /// Each refusal, its row, and that the depths stay.
     #[test]
     fn refused() {
@@ -213,7 +271,9 @@ mod read {
             cells[at] = value;
             cells
         };
-        refused_at(EXAMPLE, &changed(48, P), 4, 1, 0);
+        refused_at(EXAMPLE, &changed(22, P + 1), 4, 12, 0);
+        refused_at(EXAMPLE, &changed(7, P + 2), 4, 12, 0);
+        refused_at(EXAMPLE, &changed(2 * WIDTH + 18, P + 1), 4, 13, 2);
         refused_at(EXAMPLE, &changed(WIDTH + 22, 0), 4, 12, 1);
         refused_at(EXAMPLE, &changed(2 * WIDTH + 18, 1), 4, 13, 2);
         let deep = word(&Rng::new(3), 65);
@@ -255,6 +315,7 @@ mod replayed {
     use core_trace::calls::{Positions, RECORD, records};
     use core_trace::forest::Forests;
     use core_trace::listing;
+    use core_trace::random::{Rng, Run, raised, raised_run};
 
     use super::*;
 
@@ -280,6 +341,29 @@ mod replayed {
         }
     }
 
+    /// C10 with p added to cells, in each place where a cell comes in: the same rows. An opcode of 128 is refused by 1.
+    #[test]
+    fn listing_from_p_on() {
+        let rng = Rng::new(12);
+        let plain = listing::run(9);
+        let trace = |run: &Run, lent: &Forests| {
+            let mut buffer = vec![P; listing::HEIGHT * WIDTH];
+            let calls = records(&run.fragments[0]);
+            let left = replay_calls(lent, &run.queues, EXAMPLE, run.state, Positions::default(), &calls, &mut buffer[..9 * WIDTH])?;
+            let built: Vec<u64> = left.built.iter().map(|&cell| raised(&rng, cell)).collect();
+            finish(EXAMPLE, &mut buffer, 9, &[9], &built, &run.first_stack_top, listing::HEIGHT).unwrap();
+            Ok(buffer)
+        };
+        let wanted = trace(&plain, &Forests::new(&plain.forests));
+        for _ in 0..20 {
+            let run = raised_run(&rng, &plain);
+            assert_eq!(trace(&run, &Forests::new(&run.forests)), wanted);
+        }
+        let mut lent = Forests::new(&plain.forests);
+        lent.ops[0] = 128;
+        refused(trace(&plain, &lent), 1);
+    }
+
     /// A changed number of a record, and what it is refused by; no row is written.
     #[test]
     fn records_refused() {
@@ -303,7 +387,8 @@ mod replayed {
         check(1, 0, 19, 23);
         check(1, 1, 1, 3);
         check(1, 2, 1 << 32, 1);
-        check(1, 4, P, 1);
+        check(1, 2, P, 1);
+        check(1, 0, P + 18, 23);
         check(1, 24, 15, 10);
         check(1, 24, 1 << 32, 1);
         check(4, 3, 1, 5);

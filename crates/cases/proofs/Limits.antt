@@ -1,16 +1,14 @@
 -- "over 2^24 rows": each length that is refused with 11, at 2^24 rows and at one more.
 use mathlib.Core.Path.{_≡_, refl}
-use mathlib.Core.Bool.{true, false, _||_}
+use mathlib.Core.Bool.{true, false}
 use mathlib.Core.List.{List}
 use Prim.Native.Nat.{ℕ, suc, _*_, _^_, _≤_, _<_}
 use borrow.Author.Tests.{le-ltb, lt-leb}
 use lib.ListN.{length}
-use Rattle.field.specs.Bounds.{anyFrom}
-use Rattle.field.specs.Modulus.{P}
 use Rattle.records.specs.declared.profile.Profile.{Profile}
 use Rattle.records.specs.Cells.{fragmentWrong}
 use Rattle.records.specs.Profiles.{profileWrong}
-use Rattle.passes.specs.Passes.{rowsBig, bufferWrong, firstOf, sumOf, fragmentsWrong, refusal1, refusal2, refusal3, refusal4, refusal5, refusalAll}
+use Rattle.passes.specs.Passes.{bufferWrong, firstOf, fragmentsWrong, refusal1, refusal2, refusal3, refusal4, refusal5, refusalAll}
 use Rattle.readings.specs.Answers.{readerRefusal}
 use Rattle.reader.specs.Views.{viewRefused}
 
@@ -47,41 +45,37 @@ view-over : (number : ℕ) → viewRefused over number ≡ true
 unfolding viewRefused bufferWrong
 view-over number = refl
 
--- the reader, of every buffer of cells below p, with a profile that 2 does not refuse
-reader-most : (p : Profile) (cells : List ℕ) (depths : ℕ) → anyFrom P cells ≡ false → profileWrong p ≡ false → length cells ≡ most → 2 ^ 24 ≤ depths →
-    readerRefusal p cells depths ≡ 0
+-- the reader, of every buffer, with a profile that 2 does not refuse
+reader-most : (p : Profile) (cells : List ℕ) (depths : ℕ) → profileWrong p ≡ false → length cells ≡ most → 2 ^ 24 ≤ depths → readerRefusal p cells depths ≡ 0
 unfolding readerRefusal firstOf bufferWrong
-reader-most p cells depths small right e h = rw (small, right, e, le-ltb depths (2 ^ 24) h) refl
+reader-most p cells depths right e h = rw (right, e, le-ltb depths (2 ^ 24) h) refl
 
-reader-over : (p : Profile) (cells : List ℕ) (depths : ℕ) → anyFrom P cells ≡ false → profileWrong p ≡ false → length cells ≡ over →
-    readerRefusal p cells depths ≡ 11
+reader-over : (p : Profile) (cells : List ℕ) (depths : ℕ) → profileWrong p ≡ false → length cells ≡ over → readerRefusal p cells depths ≡ 11
 unfolding readerRefusal firstOf bufferWrong
-reader-over p cells depths small right e = rw (small, right, e) refl
+reader-over p cells depths right e = rw (right, e) refl
 
--- each pass and the finisher, of every buffer of one row more that 1 and 2 do not refuse
+-- each pass and the finisher, of every buffer of one row more, with a profile that 2 does not refuse
 module _ (p : Profile) (buffer : List ℕ) (right : profileWrong p ≡ false) (e : length buffer ≡ over) where
-  pass1-over : (size : ℕ) (counts built top : List ℕ) → (rowsBig (sumOf counts) buffer || (anyFrom P built || anyFrom P top)) ≡ false →
-      refusal1 buffer size counts built top ≡ 11
+  pass1-over : (size : ℕ) (counts built : List ℕ) → refusal1 buffer size counts built ≡ 11
   unfolding refusal1 firstOf fragmentsWrong bufferWrong
-  pass1-over size counts built top small = rw (small, e) refl
+  pass1-over size counts built = rw e refl
 
-  pass2-over : (rows : ℕ) → rowsBig rows buffer ≡ false → refusal2 p buffer rows ≡ 11
+  pass2-over : (rows : ℕ) → refusal2 p buffer rows ≡ 11
   unfolding refusal2 firstOf bufferWrong
-  pass2-over rows small = rw (small, right, e) refl
+  pass2-over rows = rw (right, e) refl
 
-  pass3-over : (rows : ℕ) → rowsBig rows buffer ≡ false → refusal3 buffer rows ≡ 11
+  pass3-over : (rows : ℕ) → refusal3 buffer rows ≡ 11
   unfolding refusal3 firstOf bufferWrong
-  pass3-over rows small = rw (small, e) refl
+  pass3-over rows = rw e refl
 
-  pass4-over : (rows : ℕ) (built : List ℕ) → (rowsBig rows buffer || anyFrom P built) ≡ false → refusal4 p buffer rows built ≡ 11
+  pass4-over : (rows : ℕ) → refusal4 p buffer rows ≡ 11
   unfolding refusal4 firstOf bufferWrong
-  pass4-over rows built small = rw (small, right, e) refl
+  pass4-over rows = rw (right, e) refl
 
-  pass5-over : (rows height : ℕ) → rowsBig rows buffer ≡ false → refusal5 p buffer rows height ≡ 11
+  pass5-over : (rows height : ℕ) → refusal5 p buffer rows height ≡ 11
   unfolding refusal5 firstOf bufferWrong
-  pass5-over rows height small = rw (small, right, e) refl
+  pass5-over rows height = rw (right, e) refl
 
-  finisher-over : (size : ℕ) (counts built top : List ℕ) (height : ℕ) → (rowsBig (sumOf counts) buffer || (anyFrom P built || anyFrom P top)) ≡ false →
-      refusalAll p buffer size counts built top height ≡ 11
+  finisher-over : (size : ℕ) (counts built : List ℕ) (height : ℕ) → refusalAll p buffer size counts built height ≡ 11
   unfolding refusalAll firstOf fragmentsWrong bufferWrong
-  finisher-over size counts built top height small = rw (small, right, e) refl
+  finisher-over size counts built height = rw (right, e) refl

@@ -8,29 +8,31 @@ use mathlib.Core.Bool.{false}
 use lib.ListN.{replicate}
 use Rattle.field.specs.Inverse.{euclid, inverseOf}
 use Rattle.field.specs.Bounds.{anyFrom}
-use Rattle.groups.specs.Words.{wordAt, beyond}
-use Rattle.groups.specs.Batches.{isBatch, batchAt, bigGroup, startsAt}
+use Rattle.field.specs.Cells.{cellAt, reduced}
+use Rattle.groups.specs.Words.{wordAt}
+use Rattle.groups.specs.Batches.{isBatch, batchAt, startsAt}
 use Rattle.groups.specs.Flags.{flagsUpTo8, batchFlags}
 use Rattle.groups.specs.GroupOfOperation.{falling, placeIn, groupFrom, groupOf}
 use Rattle.groups.specs.GroupsLeft.{counts, doubled, roundUp, groupsOf, sumGroups, anyAbove8, groupSum, pushes}
 use Rattle.groups.specs.Contexts.{tooLarge, consumed, opContext, contextInGroup, contextAtOp}
-use Rattle.groups.specs.Helpers.{allBelow, registerCells, u32Values, helpersOf, helpersAnswer}
+use Rattle.groups.specs.Helpers.{allBelow, readRegisters, u32Values, helpersOf, helpersOfCells, helpersAnswer}
 use Rattle.records.specs.Profiles.{opcodes, isOneOf, twoEqual, lacksBits, profileWrong}
 use Rattle.records.specs.Forests.{Forest, isSlot, nodeOf, nodeAt, digestAt, opcodeAt, blockOf}
-use Rattle.records.specs.Addresses.{Queues, entryAt, startedAt, endAt}
+use Rattle.records.specs.Addresses.{Queues, entryAt, startedAt, endAt, readState}
+use Rattle.records.specs.Captured.{readCaptured}
 use Rattle.records.specs.DecoderRows.{controlFlow, basicBlockBatch, operation, decoderCells}
-use Rattle.records.specs.Built.{builtSystem, builtStack, noSystem, noStack, systemCells, stackCells}
+use Rattle.records.specs.Built.{builtSystem, builtStack, noSystem, noStack, systemCells, stackCells, readSystem, readStack}
 use Rattle.rows.specs.Made.{Place, startBlock, startOne, startKind, startNode, blockKind, entryKind, finished, bodyOf, repeated, finishLoop, operationMade, resumed, made}
 use Rattle.records.specs.Cells.{rowCells, putRow}
-use Rattle.rows.specs.Scans.{lentBig, anyLongBlock, anyLargeBatch, forestTooLarge, scanOf, stateCells, tracerCells, fixedCells, cycleCells, cycleBig}
+use Rattle.rows.specs.Scans.{anyBigOpcode, anyLongBlock, anyLargeBatch, forestTooLarge, scanOf}
 use Rattle.records.specs.Cells.{fragmentWrong}
 use Rattle.rows.specs.Cycles.{fresh, storedIn, cycleWith, leftAfter, tracerAfter, lastSystem, lastStack, fragmentAfter, finalState}
 use Rattle.rows.specs.Calls.{partsAt, window, forestIn, forestOf, callDone, callWritten, through, written, ending, nextState, nextPositions, told, scanned, replayed, replayedFragment}
-use Rattle.records.specs.CallRecords.{of32, conditionIn, calleeIn, infoIn, resumeIn, continuationOn, continuationIn, namesNothing, storedInRecord, systemIn, stackIn, fewCells, manyCells, registersIn, finishIn, callIn, recordAt}
+use Rattle.records.specs.CallRecords.{namesNoKind, of32, conditionIn, calleeIn, infoIn, resumeIn, continuationOn, continuationIn, namesNothing, storedInRecord, systemIn, stackIn, fewCells, manyCells, registersIn, finishIn, callIn, recordAt}
 use Rattle.rows.specs.Calls as replays
 use Rattle.records.specs.CallRecords as records
 use Rattle.passes.specs.Buffers.{rowsOf, flat, onRows, lastRow, addrOf}
-use Rattle.passes.specs.Passes.{withSides, firstRow, laterRows, fixedUp, builtOf, lowBits, opcodeOf, flaggedEnd, bodyEnds, withCounts, anyWithoutBody, multiplied, loopWithoutBody, inverted, haltDecoder, haltStack, haltRow, halted, paddingRow, paddingRows, padded, rowsBig, bufferWrong, fewerRows, sumOf, anyAbove, notFull, firstOf, fragmentsWrong, heightWrong, refusalAll, lastBuilt, allPasses}
+use Rattle.passes.specs.Passes.{withSides, firstRow, laterRows, fixedUp, builtOf, lowBits, opcodeOf, flaggedEnd, bodyEnds, withCounts, anyWithoutBody, multiplied, loopWithoutBody, inverted, haltDecoder, haltStack, haltRow, halted, paddingRow, paddingRows, padded, bufferWrong, fewerRows, sumOf, anyAbove, notFull, firstOf, fragmentsWrong, heightWrong, refusalAll, lastBuilt, allPasses}
 use Rattle.readings.specs.Tokens.{controls, controlOpcodes, isOpOpcode, countOf}
 use Rattle.readings.specs.Readings.{Ops, Block, Passes, depthOf, allRows}
 use Rattle.readings.proofs.Examples.{profile}
@@ -86,18 +88,18 @@ lents =
     ∷ record { numbers = storeOf 4 0 0 1 ++ cycleOf 8; cells = replicate 196 9 } ∷ []
 
 free : AllReplayed profile forests directory queued lents begin
-unfolding forests directory queued begin storeOf cycleOf lents of32 conditionIn calleeIn infoIn resumeIn continuationOn continuationIn namesNothing storedInRecord systemIn stackIn fewCells manyCells registersIn finishIn callIn recordAt partsAt window forestIn forestOf callDone callWritten through written ending nextState nextPositions told scanned replayed replayedFragment replays.builtCells AllReplayed fresh storedIn cycleWith leftAfter tracerAfter lastSystem lastStack fragmentAfter finalState scanOf lentBig forestTooLarge anyLongBlock anyLargeBatch cycleBig cycleCells stateCells tracerCells fixedCells registerCells systemCells stackCells anyFrom profileWrong opcodes twoEqual isOneOf lacksBits fragmentWrong made startNode startKind startBlock startOne finished repeated finishLoop bodyOf blockKind entryKind operationMade resumed nodeAt nodeOf isSlot digestAt opcodeAt blockOf startedAt entryAt endAt batchAt isBatch bigGroup beyond startsAt batchFlags flagsUpTo8 contextAtOp groupOf falling groupFrom placeIn contextInGroup consumed counts doubled roundUp groupsOf sumGroups anyAbove8 groupSum pushes opContext tooLarge helpersAnswer allBelow u32Values helpersOf putRow rowCells decoderCells builtSystem builtStack noSystem noStack controlFlow basicBlockBatch operation wordAt
+unfolding forests directory queued begin storeOf cycleOf lents of32 conditionIn calleeIn infoIn resumeIn continuationOn namesNoKind continuationIn namesNothing storedInRecord systemIn stackIn fewCells manyCells registersIn finishIn callIn recordAt partsAt window forestIn forestOf callDone callWritten through written ending nextState nextPositions told scanned replayed replayedFragment replays.builtCells AllReplayed fresh storedIn cycleWith leftAfter tracerAfter lastSystem lastStack fragmentAfter finalState scanOf anyBigOpcode forestTooLarge anyLongBlock anyLargeBatch readRegisters helpersOfCells systemCells stackCells anyFrom profileWrong opcodes twoEqual isOneOf lacksBits fragmentWrong made startNode startKind startBlock startOne finished repeated finishLoop bodyOf blockKind entryKind operationMade resumed nodeAt nodeOf isSlot digestAt opcodeAt blockOf startedAt entryAt endAt batchAt isBatch startsAt batchFlags flagsUpTo8 contextAtOp groupOf falling groupFrom placeIn contextInGroup consumed counts doubled roundUp groupsOf sumGroups anyAbove8 groupSum pushes opContext tooLarge helpersAnswer allBelow u32Values helpersOf putRow rowCells decoderCells builtSystem builtStack noSystem noStack controlFlow basicBlockBatch operation wordAt cellAt reduced readSystem readStack readState readCaptured
 free = (refl, (refl, (refl, tt)))
 
 run : Run profile (forestIn forests (partsAt directory 1)) 0 false 0 1 77 (cyclesOf queued (fragmentsOf forests directory lents) (begin .at)) []
-unfolding forests directory queued begin storeOf cycleOf lents of32 conditionIn calleeIn infoIn resumeIn continuationOn continuationIn namesNothing storedInRecord systemIn stackIn fewCells manyCells registersIn finishIn callIn recordAt partsAt window forestIn forestOf callDone callWritten through written ending nextState nextPositions told scanned replayed replayedFragment replays.builtCells callOf callsOf fragmentsOf cyclesOf cyclesIn didStored didBy startOf operationAt finishOf nothingStored stored leftBy usedBy positionsAfter inForceAfterAll inForceAfter leftAfter nodeAt nodeOf isSlot opcodeAt blockOf startedAt entryAt endAt batchAt isBatch wordAt Holds HasOperations HasOpcode isOpOpcode controlOpcodes controls isOneOf
+unfolding forests directory queued begin storeOf cycleOf lents of32 conditionIn calleeIn infoIn resumeIn continuationOn namesNoKind continuationIn namesNothing storedInRecord systemIn stackIn fewCells manyCells registersIn finishIn callIn recordAt partsAt window forestIn forestOf callDone callWritten through written ending nextState nextPositions told scanned replayed replayedFragment replays.builtCells callOf callsOf fragmentsOf cyclesOf cyclesIn didStored didBy startOf operationAt finishOf nothingStored stored leftBy usedBy positionsAfter inForceAfterAll inForceAfter leftAfter nodeAt nodeOf isSlot opcodeAt blockOf startedAt entryAt endAt batchAt isBatch wordAt Holds HasOperations HasOpcode isOpOpcode controlOpcodes controls isOneOf cellAt reduced readSystem readStack readState readCaptured
 run =
     Run.loop (_, refl)
     (RunPasses.again (Run.block (_, refl) (InBlock.operation 5 (_, refl, refl) refl (InBlock.ended (_, refl, refl) refl)))
     (RunPasses.ended (Run.block (_, refl) (InBlock.operation 5 (_, refl, refl) refl (InBlock.ended (_, refl, refl) refl)))))
 
 runs : ReplayedRuns profile forests directory queued 4 lents begin
-unfolding forests directory queued begin storeOf cycleOf lents of32 conditionIn calleeIn infoIn resumeIn continuationOn continuationIn namesNothing storedInRecord systemIn stackIn fewCells manyCells registersIn finishIn callIn recordAt partsAt window forestIn forestOf callDone callWritten through written ending nextState nextPositions told scanned replayed replayedFragment replays.builtCells countsReplayed callOf callsOf fragmentsOf cyclesOf cyclesIn didStored didBy startOf operationAt finishOf nothingStored stored leftBy usedBy positionsAfter inForceAfterAll inForceAfter fresh storedIn cycleWith leftAfter tracerAfter lastSystem lastStack fragmentAfter finalState scanOf lentBig forestTooLarge anyLongBlock anyLargeBatch cycleBig cycleCells stateCells tracerCells fixedCells registerCells systemCells stackCells anyFrom profileWrong opcodes twoEqual isOneOf lacksBits fragmentWrong made startNode startKind startBlock startOne finished repeated finishLoop bodyOf blockKind entryKind operationMade resumed nodeAt nodeOf isSlot digestAt opcodeAt blockOf startedAt entryAt endAt batchAt isBatch bigGroup beyond startsAt batchFlags flagsUpTo8 contextAtOp groupOf falling groupFrom placeIn contextInGroup consumed counts doubled roundUp groupsOf sumGroups anyAbove8 groupSum pushes opContext tooLarge helpersAnswer allBelow u32Values helpersOf putRow rowCells decoderCells builtSystem builtStack noSystem noStack controlFlow basicBlockBatch operation wordAt OneSize withLoop loopStarts run treeFrom depthOf
+unfolding forests directory queued begin storeOf cycleOf lents of32 conditionIn calleeIn infoIn resumeIn continuationOn namesNoKind continuationIn namesNothing storedInRecord systemIn stackIn fewCells manyCells registersIn finishIn callIn recordAt partsAt window forestIn forestOf callDone callWritten through written ending nextState nextPositions told scanned replayed replayedFragment replays.builtCells countsReplayed callOf callsOf fragmentsOf cyclesOf cyclesIn didStored didBy startOf operationAt finishOf nothingStored stored leftBy usedBy positionsAfter inForceAfterAll inForceAfter fresh storedIn cycleWith leftAfter tracerAfter lastSystem lastStack fragmentAfter finalState scanOf anyBigOpcode forestTooLarge anyLongBlock anyLargeBatch readRegisters helpersOfCells systemCells stackCells anyFrom profileWrong opcodes twoEqual isOneOf lacksBits fragmentWrong made startNode startKind startBlock startOne finished repeated finishLoop bodyOf blockKind entryKind operationMade resumed nodeAt nodeOf isSlot digestAt opcodeAt blockOf startedAt entryAt endAt batchAt isBatch startsAt batchFlags flagsUpTo8 contextAtOp groupOf falling groupFrom placeIn contextInGroup consumed counts doubled roundUp groupsOf sumGroups anyAbove8 groupSum pushes opContext tooLarge helpersAnswer allBelow u32Values helpersOf putRow rowCells decoderCells builtSystem builtStack noSystem noStack controlFlow basicBlockBatch operation wordAt OneSize withLoop loopStarts run treeFrom depthOf cellAt reduced readSystem readStack readState readCaptured
 runs = record {
   forest = forestIn forests (partsAt directory 1);
   root = 0;
@@ -118,7 +120,7 @@ tree = refl
 
 -- the finisher, with height 10, does not refuse
 passes : ReplayFinishes profile forests directory queued 4 lents begin [] (replicate 16 0) 10
-unfolding forests directory queued begin storeOf cycleOf lents of32 conditionIn calleeIn infoIn resumeIn continuationOn continuationIn namesNothing storedInRecord systemIn stackIn fewCells manyCells registersIn finishIn callIn recordAt partsAt window forestIn forestOf callDone callWritten through written ending nextState nextPositions told scanned replayed replayedFragment replays.builtCells countsReplayed builtReplayed cellsReplayed fresh storedIn cycleWith leftAfter tracerAfter lastSystem lastStack fragmentAfter finalState scanOf lentBig forestTooLarge anyLongBlock anyLargeBatch cycleBig cycleCells stateCells tracerCells fixedCells registerCells systemCells stackCells anyFrom profileWrong opcodes twoEqual isOneOf lacksBits fragmentWrong made startNode startKind startBlock startOne finished repeated finishLoop bodyOf blockKind entryKind operationMade resumed nodeAt nodeOf isSlot digestAt opcodeAt blockOf startedAt entryAt endAt batchAt isBatch bigGroup beyond startsAt batchFlags flagsUpTo8 contextAtOp groupOf falling groupFrom placeIn contextInGroup consumed counts doubled roundUp groupsOf sumGroups anyAbove8 groupSum pushes opContext tooLarge helpersAnswer allBelow u32Values helpersOf putRow rowCells decoderCells builtSystem builtStack noSystem noStack controlFlow basicBlockBatch operation wordAt refusalAll firstOf rowsBig sumOf fragmentsWrong bufferWrong fewerRows anyAbove heightWrong notFull loopWithoutBody anyWithoutBody bodyEnds rowsOf opcodeOf lowBits flaggedEnd
+unfolding forests directory queued begin storeOf cycleOf lents of32 conditionIn calleeIn infoIn resumeIn continuationOn namesNoKind continuationIn namesNothing storedInRecord systemIn stackIn fewCells manyCells registersIn finishIn callIn recordAt partsAt window forestIn forestOf callDone callWritten through written ending nextState nextPositions told scanned replayed replayedFragment replays.builtCells countsReplayed builtReplayed cellsReplayed fresh storedIn cycleWith leftAfter tracerAfter lastSystem lastStack fragmentAfter finalState scanOf anyBigOpcode forestTooLarge anyLongBlock anyLargeBatch readRegisters helpersOfCells systemCells stackCells anyFrom profileWrong opcodes twoEqual isOneOf lacksBits fragmentWrong made startNode startKind startBlock startOne finished repeated finishLoop bodyOf blockKind entryKind operationMade resumed nodeAt nodeOf isSlot digestAt opcodeAt blockOf startedAt entryAt endAt batchAt isBatch startsAt batchFlags flagsUpTo8 contextAtOp groupOf falling groupFrom placeIn contextInGroup consumed counts doubled roundUp groupsOf sumGroups anyAbove8 groupSum pushes opContext tooLarge helpersAnswer allBelow u32Values helpersOf putRow rowCells decoderCells builtSystem builtStack noSystem noStack controlFlow basicBlockBatch operation wordAt refusalAll firstOf sumOf fragmentsWrong bufferWrong fewerRows anyAbove heightWrong notFull loopWithoutBody anyWithoutBody bodyEnds rowsOf opcodeOf lowBits flaggedEnd cellAt reduced readSystem readStack readState readCaptured
 passes = refl
 
 -- so what it leaves is read back
@@ -132,5 +134,5 @@ fields (row ∷ rows) = (opcodeOf row, addrOf row, countOf row) ∷ fields rows
 
 listing : fields (allRows (finishedReplay profile forests directory queued 4 lents begin [] (replicate 16 0) 10)) ≡
     (85, 0, 2) ∷ (86, 1, 1) ∷ (5, 3, 0) ∷ (112, 3, 0) ∷ (116, 1, 0) ∷ (86, 1, 1) ∷ (5, 5, 0) ∷ (112, 5, 0) ∷ (112, 1, 0) ∷ (124, 0, 0) ∷ []
-unfolding forests directory queued begin storeOf cycleOf lents of32 conditionIn calleeIn infoIn resumeIn continuationOn continuationIn namesNothing storedInRecord systemIn stackIn fewCells manyCells registersIn finishIn callIn recordAt partsAt window forestIn forestOf callDone callWritten through written ending nextState nextPositions told scanned replayed replayedFragment replays.builtCells countsReplayed builtReplayed cellsReplayed fresh storedIn cycleWith leftAfter tracerAfter lastSystem lastStack fragmentAfter finalState scanOf lentBig forestTooLarge anyLongBlock anyLargeBatch cycleBig cycleCells stateCells tracerCells fixedCells registerCells systemCells stackCells anyFrom profileWrong opcodes twoEqual isOneOf lacksBits fragmentWrong made startNode startKind startBlock startOne finished repeated finishLoop bodyOf blockKind entryKind operationMade resumed nodeAt nodeOf isSlot digestAt opcodeAt blockOf startedAt entryAt endAt batchAt isBatch bigGroup beyond startsAt batchFlags flagsUpTo8 contextAtOp groupOf falling groupFrom placeIn contextInGroup consumed counts doubled roundUp groupsOf sumGroups anyAbove8 groupSum pushes opContext tooLarge helpersAnswer allBelow u32Values helpersOf putRow rowCells decoderCells builtSystem builtStack noSystem noStack controlFlow basicBlockBatch operation wordAt refusalAll firstOf rowsBig sumOf fragmentsWrong bufferWrong fewerRows anyAbove heightWrong notFull loopWithoutBody anyWithoutBody bodyEnds rowsOf opcodeOf lowBits flaggedEnd finisherBuffer allPasses onRows flat fixedUp firstRow withSides laterRows builtOf multiplied withCounts inverted inverseOf euclid lastBuilt halted lastRow haltRow haltDecoder haltStack padded paddingRows paddingRow allRows fields
+unfolding forests directory queued begin storeOf cycleOf lents of32 conditionIn calleeIn infoIn resumeIn continuationOn namesNoKind continuationIn namesNothing storedInRecord systemIn stackIn fewCells manyCells registersIn finishIn callIn recordAt partsAt window forestIn forestOf callDone callWritten through written ending nextState nextPositions told scanned replayed replayedFragment replays.builtCells countsReplayed builtReplayed cellsReplayed fresh storedIn cycleWith leftAfter tracerAfter lastSystem lastStack fragmentAfter finalState scanOf anyBigOpcode forestTooLarge anyLongBlock anyLargeBatch readRegisters helpersOfCells systemCells stackCells anyFrom profileWrong opcodes twoEqual isOneOf lacksBits fragmentWrong made startNode startKind startBlock startOne finished repeated finishLoop bodyOf blockKind entryKind operationMade resumed nodeAt nodeOf isSlot digestAt opcodeAt blockOf startedAt entryAt endAt batchAt isBatch startsAt batchFlags flagsUpTo8 contextAtOp groupOf falling groupFrom placeIn contextInGroup consumed counts doubled roundUp groupsOf sumGroups anyAbove8 groupSum pushes opContext tooLarge helpersAnswer allBelow u32Values helpersOf putRow rowCells decoderCells builtSystem builtStack noSystem noStack controlFlow basicBlockBatch operation wordAt refusalAll firstOf sumOf fragmentsWrong bufferWrong fewerRows anyAbove heightWrong notFull loopWithoutBody anyWithoutBody bodyEnds rowsOf opcodeOf lowBits flaggedEnd finisherBuffer allPasses onRows flat fixedUp firstRow withSides laterRows builtOf multiplied withCounts inverted inverseOf euclid lastBuilt halted lastRow haltRow haltDecoder haltStack padded paddingRows paddingRow allRows fields cellAt reduced readSystem readStack readState readCaptured
 listing = refl

@@ -4,8 +4,9 @@ use mathlib.Core.List.{List, [], _∷_, List·Memᴰ, List·Memᴰ·cases-cons, 
 use mathlib.Core.Logic.{_⊎_, inl, inr, ⊎-elim}
 use Prim.Native.Nat.{ℕ, zero, suc, _+_, _*_, _/_, _<_}
 use native.Mathlib.Omega.{arith}
-use lib.ListN.{length, take, drop, getD}
-use lib.Seq.{getD-take, getD-drop}
+use lib.ListN.{length, take, drop}
+use Rattle.field.specs.Cells.{cellAt}
+use Rattle.field.proofs.CellLaws.{cell-take, cell-drop}
 use Rattle.records.specs.declared.profile.Profile.{Profile}
 use Rattle.passes.specs.Buffers.{rowsOf}
 use Rattle.passes.proofs.RowLists.{length-rows, wide-rows, row-at, as-rows}
@@ -183,21 +184,21 @@ module _ (p : Profile) where
       (List·Memᴰ·cases-cons h)
 
 -- the count of a row in the buffer
-count-cell : (cells : List ℕ) (n : ℕ) → n < length cells / 49 → countOf (rowAt (allRows cells) n) ≡ getD cells (49 * n + 23) 0
+count-cell : (cells : List ℕ) (n : ℕ) → n < length cells / 49 → countOf (rowAt (allRows cells) n) ≡ cellAt cells (49 * n + 23)
 unfolding allRows
 count-cell cells n h =
     let rows = length cells / 49 in
     let whole : take 49 (drop (49 * n) cells) ≡ rowAt (rowsOf rows cells) n =
     ap (λ (c : List ℕ). take 49 (drop (49 * n) c)) (as-rows rows cells)
     ∙ row-at (rowsOf rows cells) (drop (49 * rows) cells) n (wide-rows rows cells (omega arith)) (omega (arith, length-rows rows cells)) in
-    ap countOf (sym whole) ∙ getD-take 49 (drop (49 * n) cells) 23 0 (omega arith) ∙ getD-drop (49 * n) cells 23 0
+    ap countOf (sym whole) ∙ cell-take 49 (drop (49 * n) cells) 23 (omega arith) ∙ cell-drop (49 * n) cells 23
 
 rows-many : (cells : List ℕ) → length (allRows cells) ≡ length cells / 49
 unfolding allRows
 rows-many cells = length-rows (length cells / 49) cells
 
 module _ (p : Profile) (cells : List ℕ) (b : Block) (t : Trace p cells b) where
-  counted : (n : ℕ) (own : Passes) → n < length cells / 49 → LoopIn b n own → getD cells (49 * n + 23) 0 ≡ passesIn own
+  counted : (n : ℕ) (own : Passes) → n < length cells / 49 → LoopIn b n own → cellAt cells (49 * n + 23) ≡ passesIn own
   unfolding Trace Reading asks AllMet Meets
   counted n own low h = sym (count-cell cells n low) ∙ t .1 .2 (counting n own) (loop-asked b 0 [] n own h)
 

@@ -65,7 +65,7 @@ module _ (p : Profile) (q : Queues) where
   kept-before : (z : Held) (c : Call) → numberOf p q z c ≡ 0 → z .tracer .refusal ≡ 0
   unfolding numberOf
   kept-before z (store values) e = e
-  kept-before z (finish i) e = came p (i .forest) q (i .system) (i .stack) (i .registers) (length (z .cells)) (z .tracer) e .1 .kept
+  kept-before z (finish i) e = came p (i .forest) q (i .stack) (i .registers) (length (z .cells)) (z .tracer) e .1 .kept
 
   kept-first : (calls : List Call) (z : Held) → afterAll p q calls z .tracer .refusal ≡ 0 → z .tracer .refusal ≡ 0
   unfolding afterAll
@@ -101,7 +101,7 @@ module _ (p : Profile) (f : Forest) (directory : List ℕ) (q : Queues) (size : 
   single-before t (refused n) e = rw (none-kept n t e) at e
   single-before t (accepted (stores values)) e = stored-kept t values e
   single-before t (accepted (finishes k system stack registers)) e =
-      came p (forestIn f (partsAt directory k)) q system stack registers size t (sym (kept-number system stack t _) ∙ e) .1 .kept
+      came p (forestIn f (partsAt directory k)) q stack registers size t (sym (kept-number system stack t _) ∙ e) .1 .kept
 
   -- the cells of a fragment stay as many
   single-length : (t : CoreTraceGenerationTracer) (a : Answer records.Call) (cells : List ℕ) → length cells ≡ size → singleDone s t a .refusal ≡ 0 → length (singleWritten s t a cells) ≡ size
@@ -109,7 +109,7 @@ module _ (p : Profile) (f : Forest) (directory : List ℕ) (q : Queues) (size : 
   single-length t (refused n) cells long e = long
   single-length t (accepted (stores values)) cells long e = long
   single-length t (accepted (finishes k system stack registers)) cells long e =
-      let (m, c) = came p (forestIn f (partsAt directory k)) q system stack registers size t (sym (kept-number system stack t _) ∙ e) in
+      let (m, c) = came p (forestIn f (partsAt directory k)) q stack registers size t (sym (kept-number system stack t _) ∙ e) in
       rw (c .answer) (length-put cells (t .rows) _ (row-wide t m) (omega (arith, leb-false (size / 49) (t .rows) (c .room))) ∙ long)
 
   -- tracer and fragment after the call of a record

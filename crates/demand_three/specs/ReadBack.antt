@@ -2,7 +2,8 @@
 use mathlib.Core.Path.{_≡_}
 use mathlib.Core.List.{List, _++_}
 use Prim.Native.Nat.{ℕ, _+_, _*_, _/_, _≤_, _<_}
-use lib.ListN.{length, drop, getD}
+use lib.ListN.{length, drop}
+use Rattle.field.specs.Cells.{cellAt}
 use Rattle.records.specs.declared.profile.Profile.{Profile}
 use Rattle.readings.specs.Tokens.{Kind, start, tokenOf}
 use Rattle.readings.specs.Readings.{Block, Passes, programRows, depthList, passesIn, rowAt, allRows, Trace}
@@ -23,10 +24,10 @@ pub record ReadAs (p : Profile) (cells depths : List ℕ) (b : Block) : Type 0 w
 pub record CountsPasses (p : Profile) (cells : List ℕ) (b : Block) : Type 0 where
   -- each LOOP row of the buffer is a loop of the tree
   pub of-rows : (n : ℕ) → n < length cells / 49 → tokenOf p (rowAt (allRows cells) n) ≡ start Kind.loop →
-      (passes : Passes) × LoopIn b n passes × (getD cells (49 * n + 23) 0 ≡ passesIn passes)
+      (passes : Passes) × LoopIn b n passes × (cellAt cells (49 * n + 23) ≡ passesIn passes)
   -- and each loop of the tree is a LOOP row
   pub of-loops : (n : ℕ) (passes : Passes) → LoopIn b n passes →
-      (n < length cells / 49) × (tokenOf p (rowAt (allRows cells) n) ≡ start Kind.loop) × (getD cells (49 * n + 23) 0 ≡ passesIn passes)
+      (n < length cells / 49) × (tokenOf p (rowAt (allRows cells) n) ≡ start Kind.loop) × (cellAt cells (49 * n + 23) ≡ passesIn passes)
 
 -- the buffer is a trace, the tree is its one reading, the reader answers it given a depth number for each row, and the counts are the passes
 pub record ReadBack (p : Profile) (cells : List ℕ) (b : Block) : Type 0 where

@@ -116,7 +116,7 @@ module _ (p : Profile) (f : Forest) (directory : List ℕ) (q : Queues) where
         take (49 * height) (finisherBuffer p size (countsReplayed lents here) (builtReplayed lents here) top height replayedBuffer)
 
     abbrev pub ReplayFinishes : Type 0
-    ReplayFinishes = refusalAll p replayedBuffer size (countsReplayed lents here) (builtReplayed lents here) top height ≡ 0
+    ReplayFinishes = refusalAll p replayedBuffer size (countsReplayed lents here) (builtReplayed lents here) height ≡ 0
 
     abbrev pub fivePassedReplay : List ℕ
     fivePassedReplay = take (49 * height) (buffer5 p size (countsReplayed lents here) (builtReplayed lents here) top height replayedBuffer)

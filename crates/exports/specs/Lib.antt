@@ -1,2 +1,1 @@
-pub mod Inverses
 pub mod Places

@@ -1,7 +1,6 @@
 // The calls for programs in other languages. Each passes its arguments on; its contract is that of the function it calls. A slice crosses
 // as a pointer and a length, an array behind a reference as a pointer, a struct by value; instead of a part of a slice its place is answered.
 // Every call takes any numbers and answers 0 or document 01's number of the refusal; a refused place is empty.
-use field::felt::Felt;
 use field::inverse::inverse;
 use index::build::IndexBuilt;
 use index::build::build_index;
@@ -32,30 +31,24 @@ ghost use Rattle.rows.specs.Calls.{scanned, replayed, replayedFragment};
 ghost use Rattle.readings.specs.Answers.{depthsAfter};
 ghost use Rattle.readings.specs.Parser.{answer};
 ghost use Rattle.reader.specs.Reads.{traceRead};
-ghost use Rattle.exports.specs.Inverses.{inverseNumber, inverseValue};
+ghost use Rattle.field.specs.Inverse.{inverseOf};
 ghost use Rattle.groups.specs.Answer.{number};
 ghost use Rattle.indexes.specs.Enclosing.{enclosing};
 ghost use Rattle.index.specs.Building.{building, indexBuilt, indexAfter};
 ghost use Rattle.exports.specs.Places.{rowStart, rowCells, blockFound, blockPlace};
 
-// The number (0, or 1 for a cell from p on) and the inverse, 0 on a refusal.
+// The number, always 0, and the inverse.
 #[repr(C)]
 pub struct Inverse {
     pub number: u32,
     pub value: u64,
 }
 
-// The inverse of a cell modulo p, 0 for 0.
+// The inverse modulo p of any number, 0 for 0 and for p.
 #[no_mangle]
 pub extern "C" fn core_inverse(x: u64) -> Inverse
-    ensures { λ r. ⌜ (r .number ≡ inverseNumber x) × (r .value ≡ inverseValue x) ⌝ }
+    ensures { λ r. ⌜ (r .number ≡ 0) × (r .value ≡ inverseOf x) ⌝ }
 {
-    if Felt::MODULUS <= x {
-        return Inverse {
-            number: 1,
-            value: 0,
-        };
-    }
     Inverse {
         number: 0,
         value: inverse(x),
@@ -71,8 +64,8 @@ pub extern "C" fn core_fixup(
     built: &[u64],
     first_stack_top: &[u64; 16],
 ) -> u32
-    ensures { λ r. ⌜ r ≡ refusal1 (now (buffer .entry)) «fragment_size» (now (counts .entry)) (now (built .entry)) (now («first_stack_top» .entry)) ⌝ }
-    ensures { λ _. ⌜ now (buffer .exit) ≡ unlessRefused (refusal1 (now (buffer .entry)) «fragment_size» (now (counts .entry)) (now (built .entry)) (now («first_stack_top» .entry))) (now (buffer .entry)) (onRows (sumOf (now (counts .entry))) (fixedUp «fragment_size» (now («first_stack_top» .entry)) (builtOf (length (now (counts .entry)) - 1) (now (built .entry)))) (now (buffer .entry))) ⌝ }
+    ensures { λ r. ⌜ r ≡ refusal1 (now (buffer .entry)) «fragment_size» (now (counts .entry)) (now (built .entry)) ⌝ }
+    ensures { λ _. ⌜ now (buffer .exit) ≡ unlessRefused (refusal1 (now (buffer .entry)) «fragment_size» (now (counts .entry)) (now (built .entry))) (now (buffer .entry)) (onRows (sumOf (now (counts .entry))) (fixedUp «fragment_size» (now («first_stack_top» .entry)) (builtOf (length (now (counts .entry)) - 1) (now (built .entry)))) (now (buffer .entry))) ⌝ }
 {
     fixup_stack_and_system_rows(buffer, fragment_size, counts, built, *first_stack_top)
 }
@@ -103,8 +96,8 @@ pub extern "C" fn core_push_halt(
     rows: usize,
     built: &[u64; 25],
 ) -> u32
-    ensures { λ r. ⌜ r ≡ refusal4 profile (now (buffer .entry)) rows (now (built .entry)) ⌝ }
-    ensures { λ _. ⌜ now (buffer .exit) ≡ unlessRefused (refusal4 profile (now (buffer .entry)) rows (now (built .entry))) (now (buffer .entry)) (onRows rows (halted profile (now (built .entry))) (now (buffer .entry))) ⌝ }
+    ensures { λ r. ⌜ r ≡ refusal4 profile (now (buffer .entry)) rows ⌝ }
+    ensures { λ _. ⌜ now (buffer .exit) ≡ unlessRefused (refusal4 profile (now (buffer .entry)) rows) (now (buffer .entry)) (onRows rows (halted profile (now (built .entry))) (now (buffer .entry))) ⌝ }
 {
     push_halt_opcode_row(profile, buffer, rows, *built)
 }
@@ -129,8 +122,8 @@ pub extern "C" fn core_finish(
     first_stack_top: &[u64; 16],
     height: usize,
 ) -> u32
-    ensures { λ r. ⌜ r ≡ refusalAll profile (now (buffer .entry)) «fragment_size» (now (counts .entry)) (now (built .entry)) (now («first_stack_top» .entry)) height ⌝ }
-    ensures { λ _. ⌜ now (buffer .exit) ≡ unlessRefused (refusalAll profile (now (buffer .entry)) «fragment_size» (now (counts .entry)) (now (built .entry)) (now («first_stack_top» .entry)) height) (now (buffer .entry)) (allPasses profile «fragment_size» (now (counts .entry)) (now (built .entry)) (now («first_stack_top» .entry)) height (now (buffer .entry))) ⌝ }
+    ensures { λ r. ⌜ r ≡ refusalAll profile (now (buffer .entry)) «fragment_size» (now (counts .entry)) (now (built .entry)) height ⌝ }
+    ensures { λ _. ⌜ now (buffer .exit) ≡ unlessRefused (refusalAll profile (now (buffer .entry)) «fragment_size» (now (counts .entry)) (now (built .entry)) height) (now (buffer .entry)) (allPasses profile «fragment_size» (now (counts .entry)) (now (built .entry)) (now («first_stack_top» .entry)) height (now (buffer .entry))) ⌝ }
 {
     finish(
         profile,

@@ -7,3 +7,4 @@ pub mod Every
 pub mod Entries
 pub mod Columns
 pub mod AnyFrom
+pub mod CellLaws

@@ -1,4 +1,5 @@
 pub mod Modulus
+pub mod Cells
 pub mod Bounds
 pub mod Inverse
 pub mod Table

@@ -1,26 +1,19 @@
 // The cells of a lent slice.
-use crate::felt::Felt;
+use crate::felt::reduce;
 ghost use mathlib.Core.Path.{_≡_};
 ghost use lib.ListN.{getD};
-ghost use Rattle.field.specs.Modulus.{P};
-ghost use Rattle.field.specs.Bounds.{anyFrom};
+ghost use Rattle.field.specs.Cells.{cellAt};
 
-// Cell i of the slice, 0 past its end.
+// Cell i of the slice, read modulo p; 0 past its end.
 pub fn cell(cells: &[u64], i: usize) -> u64
-    ensures { λ r. ⌜ r ≡ getD (now (cells .entry)) i 0 ⌝ }
+    ensures { λ r. ⌜ r ≡ cellAt (now (cells .entry)) i ⌝ }
 {
-    if i < cells.len() { cells[i] } else { 0 }
+    reduce(number_at(cells, i))
 }
 
-// Whether a cell is p or above. No early way out: the loop is then a run of comparisons.
-pub fn any_big(cells: &[u64]) -> bool
-    ensures { λ r. ⌜ r ≡ anyFrom P (now (cells .entry)) ⌝ }
+// Number i of the slice as it stands, 0 past its end.
+pub fn number_at(numbers: &[u64], i: usize) -> u64
+    ensures { λ r. ⌜ r ≡ getD (now (numbers .entry)) i 0 ⌝ }
 {
-    let mut found = false;
-    let mut i = 0;
-    while i < cells.len() {
-        found = found | (Felt::MODULUS <= cells[i]);
-        i += 1;
-    }
-    found
+    if i < numbers.len() { numbers[i] } else { 0 }
 }

@@ -4,7 +4,7 @@ use mathlib.Core.Bool.{true}
 use mathlib.Core.List.{List}
 use Prim.Native.Nat.{ℕ, _+_, _-_, _*_, _≤_}
 use native.Mathlib.Omega.{arith}
-use lib.ListN.{getD}
+use Rattle.field.specs.Cells.{cellAt}
 use Rattle.groups.specs.Batches.{startsAt}
 use Rattle.groups.specs.GroupsLeft.{counts, groupSum, pushes}
 use Rattle.groups.specs.GroupOfOperation.{groupOf, toldGroup}
@@ -25,7 +25,7 @@ counts-first batches first n =
 -- the three parts of what is consumed
 pub consumed-is : (push : ℕ) (batches groups : List ℕ) (block : Block) (index : ℕ) (place : OpPlace) (sum : GroupSum) (group count : ℕ)
     → sum ≡ groupSum true (counts batches (block .«first_batch» + 0) (index - 0))
-    → group ≡ getD groups (8 * (block .«first_batch» + index) + place .group) 0
+    → group ≡ cellAt groups (8 * (block .«first_batch» + index) + place .group)
     → count ≡ pushes push (place .index) group
     → consumed push block batches groups index place ≡ sum .groups + count + place .group + 1
 unfolding consumed

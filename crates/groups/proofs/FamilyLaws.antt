@@ -1,44 +1,42 @@
--- The families sort the 18 cases rightly: a family's cells, helpers and refusal are its case's.
+-- The families sort the 18 cases rightly: a family's numbers, helpers and refusal are its case's.
 use mathlib.Core.Path.{_≡_, refl}
 use Prim.Native.Nat.{ℕ}
 use native.Mathlib.Omega.{arith}
-use Rattle.field.specs.Modulus.{P}
 use Rattle.field.specs.Inverse.{inverseOf}
 use Rattle.field.proofs.InverseLaws.{inverse-reduced}
 use Rattle.groups.specs.declared.helpers.OperationHelperRegisters.{OperationHelperRegisters}
 use Rattle.groups.specs.declared.helpers.OperationHelperRegisters.the-variants.{Eq, U32Split, Eqz, Expacc, FriExt2Fold4, U32Add, U32Add3, U32Sub, U32Mul, U32Madd, U32Div, U32Assert2, HPerm, MerklePath, HornerEvalBase, HornerEvalExt, LogDeferred, Empty}
-use Rattle.groups.specs.Answer.{accepted, refused, pick}
-use Rattle.groups.specs.Helpers.{allBelow, registerCells, u32Values, minus, helpersOf}
-use Rattle.groups.specs.Families.{familyOf, cellsOf, foundOf}
+use Rattle.groups.specs.Helpers.{allBelow, readRegisters, u32Values, minus, helpersOf, helpersOfCells}
+use Rattle.groups.specs.Families.{familyOf, readFamily, foundOf}
 
--- the zeros that fill a family's cells up are below p
-pub cells-law : (r : OperationHelperRegisters) → allBelow P (cellsOf (familyOf r)) ≡ allBelow P (registerCells r)
-unfolding allBelow cellsOf registerCells
-cells-law (Eq second first) = refl
-cells-law (U32Split lo hi) = refl
-cells-law (Eqz top) = refl
-cells-law (Expacc val) = refl
-cells-law (FriExt2Fold4 ev es x inv) = refl
-cells-law (U32Add sum carry) = refl
-cells-law (U32Add3 sum carry) = refl
-cells-law (U32Sub difference) = refl
-cells-law (U32Mul lo hi) = refl
-cells-law (U32Madd lo hi) = refl
-cells-law (U32Div quotient remainder diff) = refl
-cells-law (U32Assert2 first second) = refl
-cells-law (HPerm addr) = refl
-cells-law (MerklePath addr) = refl
-cells-law (HornerEvalBase alpha tmp0 tmp1) = refl
-cells-law (HornerEvalExt alpha acc) = refl
-cells-law (LogDeferred addr root) = refl
-cells-law Empty = refl
+-- reading a family's numbers is reading its case's
+pub read-law : (r : OperationHelperRegisters) → readFamily (familyOf r) ≡ familyOf (readRegisters r)
+unfolding readRegisters
+read-law (Eq second first) = refl
+read-law (U32Split lo hi) = refl
+read-law (Eqz top) = refl
+read-law (Expacc val) = refl
+read-law (FriExt2Fold4 ev es x inv) = refl
+read-law (U32Add sum carry) = refl
+read-law (U32Add3 sum carry) = refl
+read-law (U32Sub difference) = refl
+read-law (U32Mul lo hi) = refl
+read-law (U32Madd lo hi) = refl
+read-law (U32Div quotient remainder diff) = refl
+read-law (U32Assert2 first second) = refl
+read-law (HPerm addr) = refl
+read-law (MerklePath addr) = refl
+read-law (HornerEvalBase alpha tmp0 tmp1) = refl
+read-law (HornerEvalExt alpha acc) = refl
+read-law (LogDeferred addr root) = refl
+read-law Empty = refl
 
 -- the inverse of x − 0 is that of x
 minus-zero : (x : ℕ) → inverseOf (minus x 0) ≡ inverseOf x
 minus-zero x = inverse-reduced x (minus x 0) (omega arith)
 
-pub found-law : (r : OperationHelperRegisters) → foundOf (familyOf r) ≡ pick (allBelow 4294967296 (u32Values r)) (accepted (helpersOf r)) (refused 9)
-unfolding foundOf allBelow u32Values helpersOf
+pub found-law : (r : OperationHelperRegisters) → foundOf (familyOf r) ≡ helpersOfCells r
+unfolding foundOf allBelow u32Values helpersOf helpersOfCells
 found-law (Eq second first) = refl
 found-law (U32Split lo hi) = refl
 found-law (Eqz top) = rw minus-zero

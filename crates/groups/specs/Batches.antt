@@ -1,12 +1,12 @@
 -- The batches of a block, as lent. Twelve numbers a batch: group count, nine group starts, number of operations, first operation;
 -- and eight cells a batch, its groups. Batch `index` of a block is record first_batch + index of both.
-use mathlib.Core.Bool.{Bool, _&&_, _||_}
+use mathlib.Core.Bool.{Bool, _&&_}
 use mathlib.Core.List.{List, [], _∷_}
 use Prim.Native.Nat.{ℕ, _+_, _-_, _*_, _/_}
 use lib.Dec.{leb, ltb}
 use lib.ListN.{length, getD}
 use Rattle.groups.specs.Answer.{Answer, accepted, refused, pick}
-use Rattle.groups.specs.Words.{wordAt, beyond}
+use Rattle.groups.specs.Words.{wordAt}
 use Rattle.groups.specs.declared.batch.Block.{Block}
 use Rattle.groups.specs.declared.batch.Batch.{Batch}
 use Rattle.groups.specs.declared.batch.BatchFound.{BatchFound}
@@ -41,10 +41,6 @@ batchAt batches groups block index =
 abbrev pub toldBatch : BatchFound → Answer Batch
 toldBatch (BatchFound.At batch) = accepted batch
 toldBatch BatchFound.Missing = refused 5
-
--- Refusal 1: "input cell ≥ p". One of the eight groups is no cell
-unfoldable pub bigGroup : Batch → Bool
-bigGroup batch = beyond (batch .low) || beyond (batch .high)
 
 -- the nine group starts of record r: "A batch lends nine non-decreasing group starts"
 abbrev pub startsOf : (batches : List ℕ) → (r : ℕ) → List ℕ

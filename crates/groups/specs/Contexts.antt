@@ -4,9 +4,9 @@ use mathlib.Core.Bool.{Bool, true, false, _||_}
 use mathlib.Core.List.{List}
 use Prim.Native.Nat.{ℕ, _+_, _-_, _*_, _/_, _^_}
 use lib.Dec.{ltb}
-use lib.ListN.{getD}
+use Rattle.field.specs.Cells.{cellAt}
 use Rattle.groups.specs.Answer.{Answer, accepted, refused, andThen, pick}
-use Rattle.groups.specs.Batches.{recordOf, batchAt, bigGroup, startsAt, lentBatches}
+use Rattle.groups.specs.Batches.{recordOf, batchAt, startsAt, lentBatches}
 use Rattle.groups.specs.Flags.{batchFlags}
 use Rattle.groups.specs.GroupsLeft.{counts, groupSum, pushes}
 use Rattle.groups.specs.GroupOfOperation.{groupOf}
@@ -34,7 +34,7 @@ sumFrom batches block index =
 
 -- the cell of the operation's group
 abbrev pub groupCell : (groups : List ℕ) → Block → ℕ → OpPlace → ℕ
-groupCell groups block index place = getD groups (8 * recordOf block index + place .group) 0
+groupCell groups block index place = cellAt groups (8 * recordOf block index + place .group)
 
 -- "each earlier batch consumes its groups rounded up .., each PUSH before the operation in its group .. 1, and the group index plus 1"
 unfoldable pub consumed : (push : ℕ) → Block → (batches groups : List ℕ) → ℕ → OpPlace → ℕ
@@ -62,25 +62,23 @@ contextInGroup push block batches groups index batch place =
     (pick (tooLarge block batch (sumBefore batches block index .above8)) (refused 11)
     (accepted (opContext push block batches groups index batch place)))
 
--- at operation `op` of batch `index`: the lowest of 1, 5, 6, 8 and 11 that holds
+-- at operation `op` of batch `index`: the lowest of 5, 6, 8 and 11 that holds
 unfoldable pub contextAtOp : (push : ℕ) → Block → (batches groups : List ℕ) → (index op : ℕ) → Answer OpContext
 contextAtOp push block batches groups index op =
     andThen (batchAt batches groups block index) (λ batch.
-    pick (bigGroup batch) (refused 1)
-    (andThen (groupOf (startsAt batches block index) (batch .«num_ops») op) (λ place.
-    contextInGroup push block batches groups index batch place)))
+    andThen (groupOf (startsAt batches block index) (batch .«num_ops») op) (λ place.
+    contextInGroup push block batches groups index batch place))
 
 -- the number and the values of each case
 abbrev pub toldOp : OpContextFound → Answer OpContext
 toldOp (OpContextFound.At context) = accepted context
 toldOp (OpContextFound.Refused n) = refused n
 
--- "the plain sum of groups from that batch on"; the first group as lent
+-- "the plain sum of groups from that batch on"; the first group as it is read
 unfoldable pub contextAtBatchStart : Block → (batches groups : List ℕ) → (index : ℕ) → Answer BatchContext
 contextAtBatchStart block batches groups index =
     andThen (batchAt batches groups block index) (λ batch.
-    pick (bigGroup batch) (refused 1)
-    (andThen (batchFlags (sumFrom batches block index .groups)) (λ flags.
+    andThen (batchFlags (sumFrom batches block index .groups)) (λ flags.
     pick (tooLarge block batch (sumFrom batches block index .above8)) (refused 11)
     (accepted (record {
       context = record {
@@ -89,7 +87,7 @@ contextAtBatchStart block batches groups index =
       };
       batch = batch;
       flags = flags;
-    })))))
+    }))))
 
 -- the number and the values of each case
 abbrev pub toldBatchStart : BatchContextFound → Answer BatchContext

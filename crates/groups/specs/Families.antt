@@ -1,8 +1,9 @@
 -- The 18 cases sorted by the way in which their helpers are made, for the private functions of `helpers.rt`. No public promise names
--- this file: `proofs/FamilyLaws.antt` shows that cells, refusals and helpers are those of `Helpers.antt`.
+-- this file: `proofs/FamilyLaws.antt` shows that refusals and helpers are those of `Helpers.antt`.
 use mathlib.Core.List.{List, [], _∷_}
 use Prim.Native.Nat.{ℕ}
 use Rattle.field.specs.Inverse.{inverseOf}
+use Rattle.field.specs.Cells.{read}
 use Rattle.groups.specs.declared.helpers.OperationHelperRegisters.{OperationHelperRegisters}
 use Rattle.groups.specs.declared.helpers.OperationHelperRegisters.the-variants.{Eq, U32Split, Eqz, Expacc, FriExt2Fold4, U32Add, U32Add3, U32Sub, U32Mul, U32Madd, U32Div, U32Assert2, HPerm, MerklePath, HornerEvalBase, HornerEvalExt, LogDeferred, Empty}
 use Rattle.groups.specs.declared.helpers.Family.{Family}
@@ -32,12 +33,12 @@ familyOf (HornerEvalExt alpha acc) = Cells (alpha .0) (alpha .1) 0 0 (acc .0) (a
 familyOf (LogDeferred addr root) = Cells addr (root .0) (root .1) (root .2) (root .3) 0
 familyOf Empty = Cells 0 0 0 0 0 0
 
--- its cells, filled up with zeros to six
-unfoldable pub cellsOf : Family → List ℕ
-cellsOf (Cells a b c d e f) = a ∷ b ∷ c ∷ d ∷ e ∷ f ∷ []
-cellsOf (Inverse a b) = a ∷ b ∷ 0 ∷ 0 ∷ 0 ∷ 0 ∷ []
-cellsOf (Limbs a b c) = a ∷ b ∷ c ∷ 0 ∷ 0 ∷ 0 ∷ []
-cellsOf (LimbsAndInverse lo hi) = lo ∷ hi ∷ 0 ∷ 0 ∷ 0 ∷ 0 ∷ []
+-- a family with each of its numbers read as a cell
+abbrev pub readFamily : Family → Family
+readFamily (Cells a b c d e f) = Cells (read a) (read b) (read c) (read d) (read e) (read f)
+readFamily (Inverse a b) = Inverse (read a) (read b)
+readFamily (Limbs a b c) = Limbs (read a) (read b) (read c)
+readFamily (LimbsAndInverse lo hi) = LimbsAndInverse (read lo) (read hi)
 
 -- its helpers, or 9 where a value is not below 2^32
 unfoldable pub foundOf : Family → Answer UserOpHelpers

@@ -1,9 +1,11 @@
--- Document 01, "Helpers": the cells h2 to h7 of an operation's row, by what the cycle captured, and refusals 1 and 9.
+-- Document 01, "Helpers": the cells h2 to h7 of an operation's row, by what the cycle captured, and refusal 9.
 use mathlib.Core.Bool.{Bool, true, false, _&&_}
 use mathlib.Core.List.{List, [], _∷_}
 use Prim.Native.Nat.{ℕ, _+_, _-_, _/_, _%_}
 use lib.Dec.{ltb}
 use Rattle.field.specs.Modulus.{P}
+use Rattle.field.specs.Cells.{read}
+use Rattle.groups.specs.Words.{readWord, readQuad}
 use Rattle.groups.specs.Answer.{Answer, accepted, refused, pick}
 use Rattle.field.specs.Inverse.{inverseOf}
 use Rattle.groups.specs.declared.helpers.OperationHelperRegisters.{OperationHelperRegisters}
@@ -17,26 +19,26 @@ unfoldable pub allBelow : ℕ → List ℕ → Bool
 allBelow limit [] = true
 allBelow limit (x ∷ xs) = ltb x limit && allBelow limit xs
 
--- the cells of a register set, in the order of its helpers, for refusal 1: "input cell ≥ p, used or not"
-unfoldable pub registerCells : OperationHelperRegisters → List ℕ
-registerCells (Eq second first) = first ∷ second ∷ []
-registerCells (U32Split lo hi) = lo ∷ hi ∷ []
-registerCells (Eqz top) = top ∷ []
-registerCells (Expacc val) = val ∷ []
-registerCells (FriExt2Fold4 ev es x inv) = ev .0 ∷ ev .1 ∷ es .0 ∷ es .1 ∷ x ∷ inv ∷ []
-registerCells (U32Add sum carry) = sum ∷ carry ∷ []
-registerCells (U32Add3 sum carry) = sum ∷ carry ∷ []
-registerCells (U32Sub difference) = difference ∷ []
-registerCells (U32Mul lo hi) = lo ∷ hi ∷ []
-registerCells (U32Madd lo hi) = lo ∷ hi ∷ []
-registerCells (U32Div quotient remainder diff) = quotient ∷ remainder ∷ diff ∷ []
-registerCells (U32Assert2 first second) = second ∷ first ∷ []
-registerCells (HPerm addr) = addr ∷ []
-registerCells (MerklePath addr) = addr ∷ []
-registerCells (HornerEvalBase alpha tmp0 tmp1) = alpha .0 ∷ alpha .1 ∷ tmp1 .0 ∷ tmp1 .1 ∷ tmp0 .0 ∷ tmp0 .1 ∷ []
-registerCells (HornerEvalExt alpha acc) = alpha .0 ∷ alpha .1 ∷ acc .0 ∷ acc .1 ∷ []
-registerCells (LogDeferred addr root) = addr ∷ root .0 ∷ root .1 ∷ root .2 ∷ root .3 ∷ []
-registerCells Empty = []
+-- the register set with each of its numbers read as a cell
+unfoldable pub readRegisters : OperationHelperRegisters → OperationHelperRegisters
+readRegisters (Eq second first) = Eq (read second) (read first)
+readRegisters (U32Split lo hi) = U32Split (read lo) (read hi)
+readRegisters (Eqz top) = Eqz (read top)
+readRegisters (Expacc val) = Expacc (read val)
+readRegisters (FriExt2Fold4 ev es x inv) = FriExt2Fold4 (readQuad ev) (readQuad es) (read x) (read inv)
+readRegisters (U32Add sum carry) = U32Add (read sum) (read carry)
+readRegisters (U32Add3 sum carry) = U32Add3 (read sum) (read carry)
+readRegisters (U32Sub difference) = U32Sub (read difference)
+readRegisters (U32Mul lo hi) = U32Mul (read lo) (read hi)
+readRegisters (U32Madd lo hi) = U32Madd (read lo) (read hi)
+readRegisters (U32Div quotient remainder diff) = U32Div (read quotient) (read remainder) (read diff)
+readRegisters (U32Assert2 first second) = U32Assert2 (read first) (read second)
+readRegisters (HPerm addr) = HPerm (read addr)
+readRegisters (MerklePath addr) = MerklePath (read addr)
+readRegisters (HornerEvalBase alpha tmp0 tmp1) = HornerEvalBase (readQuad alpha) (readQuad tmp0) (readQuad tmp1)
+readRegisters (HornerEvalExt alpha acc) = HornerEvalExt (readQuad alpha) (readQuad acc)
+readRegisters (LogDeferred addr root) = LogDeferred (read addr) (readWord root)
+readRegisters Empty = Empty
 
 -- the values that the cases split, for refusal 9: "helper value ≥ 2^32"
 unfoldable pub u32Values : OperationHelperRegisters → List ℕ
@@ -99,13 +101,13 @@ helpersOf (HornerEvalExt alpha acc) = six (alpha .0) (alpha .1) 0 0 (acc .0) (ac
 helpersOf (LogDeferred addr root) = six addr (root .0) (root .1) (root .2) (root .3) 0
 helpersOf Empty = six 0 0 0 0 0 0
 
--- the helpers, or the lowest number that holds: "Where no order is named, the lowest number is answered." Refusal 1: "input cell ≥ p,
--- used or not"; refusal 9: "helper value ≥ 2^32"
+-- the helpers of cells. Refusal 9: "helper value ≥ 2^32"
+unfoldable pub helpersOfCells : OperationHelperRegisters → Answer UserOpHelpers
+helpersOfCells r = pick (allBelow 4294967296 (u32Values r)) (accepted (helpersOf r)) (refused 9)
+
+-- the helpers of a register set as it comes in
 unfoldable pub helpersAnswer : OperationHelperRegisters → Answer UserOpHelpers
-helpersAnswer r =
-    pick (allBelow P (registerCells r))
-    (pick (allBelow 4294967296 (u32Values r)) (accepted (helpersOf r)) (refused 9))
-    (refused 1)
+helpersAnswer r = helpersOfCells (readRegisters r)
 
 -- the number and the values of each case
 abbrev pub toldHelpers : HelpersFound → Answer UserOpHelpers

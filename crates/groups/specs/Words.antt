@@ -1,16 +1,18 @@
 -- Four cells that stand together.
-use mathlib.Core.Bool.{Bool, _||_}
 use mathlib.Core.List.{List}
-use Prim.Native.Nat.{ℕ, _+_}
-use lib.Dec.{leb}
-use lib.ListN.{getD}
+use Prim.Native.Nat.{ℕ, _+_, _%_}
 use Rattle.field.specs.Modulus.{P}
+use Rattle.field.specs.Cells.{cellAt}
 use Rattle.groups.specs.declared.word.Word.{Word}
+use Rattle.groups.specs.declared.word.QuadFelt.{QuadFelt}
 
 -- the four cells from cell i on, 0 past the end
 unfoldable pub wordAt : List ℕ → ℕ → Word
-wordAt cells i = (getD cells i 0, getD cells (i + 1) 0, getD cells (i + 2) 0, getD cells (i + 3) 0)
+wordAt cells i = (cellAt cells i, cellAt cells (i + 1), cellAt cells (i + 2), cellAt cells (i + 3))
 
--- Refusal 1: "input cell ≥ p". One of the four is no cell
-unfoldable pub beyond : Word → Bool
-beyond w = leb P (w .0) || (leb P (w .1) || (leb P (w .2) || leb P (w .3)))
+-- a word whose four numbers are read as cells
+abbrev pub readWord : Word → Word
+readWord w = (w .0 % P, w .1 % P, w .2 % P, w .3 % P)
+
+abbrev pub readQuad : QuadFelt → QuadFelt
+readQuad q = (q .0 % P, q .1 % P)

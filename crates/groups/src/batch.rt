@@ -2,10 +2,9 @@
 // first operation) and eight cells a batch in `groups`. Batch `index` of a block is record first_batch + index of both.
 use crate::number::number;
 use crate::word::Word;
-use crate::word::is_beyond;
 use crate::word::word_at;
 ghost use mathlib.Core.Path.{_≡_};
-ghost use Rattle.groups.specs.Batches.{batchAt, toldBatch, startsAt, lentBatches, bigGroup};
+ghost use Rattle.groups.specs.Batches.{batchAt, toldBatch, startsAt, lentBatches};
 
 // A block: its total of groups as `num_op_groups` answers, the record of its first batch, and how many batches it has.
 pub struct Block {
@@ -51,16 +50,6 @@ pub fn batch_at(batches: &[u32], groups: &[u64], block: Block, index: u32) -> Ba
         low: word_at(groups, 8 * record),
         high: word_at(groups, 8 * record + 4),
     })
-}
-
-// Whether one of the batch's eight group cells is p or above.
-pub fn has_big_group(batch: Batch) -> bool
-    ensures { λ r. ⌜ r ≡ bigGroup batch ⌝ }
-{
-    if is_beyond(batch.low) {
-        return true;
-    }
-    is_beyond(batch.high)
 }
 
 // The nine group starts of batch `index`.

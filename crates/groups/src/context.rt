@@ -3,7 +3,6 @@ use crate::batch::Batch;
 use crate::batch::BatchFound;
 use crate::batch::Block;
 use crate::batch::batch_at;
-use crate::batch::has_big_group;
 use crate::batch::lent_batches;
 use crate::batch::starts_at;
 use crate::flags::BatchFlags;
@@ -106,7 +105,7 @@ fn in_group(
 }
 
 impl BasicBlockContext {
-    // The context at operation `op` of batch `index`, or the lowest number of 1, 5, 6, 8 and 11 that holds.
+    // The context at operation `op` of batch `index`, or the lowest number of 5, 6, 8 and 11 that holds.
     pub fn new_at_op(
         push: u8,
         block: Block,
@@ -120,9 +119,6 @@ impl BasicBlockContext {
         let BatchFound::At(batch) = batch_at(batches, groups, block, index) else {
             return OpContextFound::Refused(5);
         };
-        if has_big_group(batch) {
-            return OpContextFound::Refused(1);
-        }
         let starts = starts_at(batches, block, index);
         let GroupFound::In(place) = op_idx_in_batch_to_group(starts, batch.num_ops, op) else {
             return OpContextFound::Refused(6);
@@ -130,7 +126,7 @@ impl BasicBlockContext {
         in_group(push, block, batches, groups, index, batch, place)
     }
 
-    // The context at the start of batch `index`, or the lowest number of 1, 5, 7 and 11 that holds.
+    // The context at the start of batch `index`, or the lowest number of 5, 7 and 11 that holds.
     pub fn new_at_batch_start(
         block: Block,
         batches: &[u32],
@@ -142,9 +138,6 @@ impl BasicBlockContext {
         let BatchFound::At(batch) = batch_at(batches, groups, block, index) else {
             return BatchContextFound::Refused(5);
         };
-        if has_big_group(batch) {
-            return BatchContextFound::Refused(1);
-        }
         let lent = lent_batches(batches, block);
         let sum = sum_groups(batches, block.first_batch, index, lent, false);
         let FlagsFound::Are(flags) = batch_flags(sum.groups) else {

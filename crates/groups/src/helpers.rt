@@ -1,16 +1,15 @@
 // The helper registers of an operation: what a cycle captures of it, and the six cells h2 to h7 that its row shows.
 use crate::word::QuadFelt;
 use crate::word::Word;
-use field::felt::Felt;
+use field::felt::reduce;
 use field::felt::sub;
 use field::inverse::inverse;
 ghost use mathlib.Core.Path.{_≡_};
 ghost use mathlib.Core.List.{[], _∷_};
-ghost use Rattle.field.specs.Modulus.{P};
-ghost use Rattle.groups.specs.Helpers.{allBelow, registerCells, six, helpersAnswer, toldHelpers};
-ghost use Rattle.groups.specs.Families.{familyOf, cellsOf, foundOf};
+ghost use Rattle.groups.specs.Helpers.{allBelow, six, helpersAnswer, toldHelpers};
+ghost use Rattle.groups.specs.Families.{familyOf, readFamily, foundOf};
 
-// What a cycle captures of its operation. Numbers are cells.
+// What a cycle captures of its operation. Numbers are read modulo p.
 pub enum OperationHelperRegisters {
     // EQ: the second and the first stack element before it.
     Eq {
@@ -192,16 +191,22 @@ fn limbs_and_inverse(lo: u64, hi: u64) -> HelpersFound
 }
 
 impl Family {
-    // Whether all its cells are below p.
-    fn in_field(self) -> bool
-        ensures { λ r. ⌜ r ≡ allBelow P (cellsOf self) ⌝ }
+    // Each of its numbers read modulo p.
+    fn read(self) -> Self
+        ensures { λ r. ⌜ r ≡ readFamily self ⌝ }
     {
-        let p = Felt::MODULUS;
         match self {
-            Self::Cells(a, b, c, d, e, f) => all_below(p, a, b, c, d, e, f),
-            Self::Inverse(first, second) => all_below(p, first, second, 0, 0, 0, 0),
-            Self::Limbs(a, b, c) => all_below(p, a, b, c, 0, 0, 0),
-            Self::LimbsAndInverse(lo, hi) => all_below(p, lo, hi, 0, 0, 0, 0),
+            Self::Cells(a, b, c, d, e, f) => Self::Cells(
+                reduce(a),
+                reduce(b),
+                reduce(c),
+                reduce(d),
+                reduce(e),
+                reduce(f),
+            ),
+            Self::Inverse(first, second) => Self::Inverse(reduce(first), reduce(second)),
+            Self::Limbs(a, b, c) => Self::Limbs(reduce(a), reduce(b), reduce(c)),
+            Self::LimbsAndInverse(lo, hi) => Self::LimbsAndInverse(reduce(lo), reduce(hi)),
         }
     }
 
@@ -252,20 +257,10 @@ impl OperationHelperRegisters {
         }
     }
 
-    // Whether all cells of the register set are below p.
-    pub fn cells_in_field(self) -> bool
-        ensures { λ r. ⌜ r ≡ allBelow P (registerCells self) ⌝ }
-    {
-        self.family().in_field()
-    }
-
-    // The cells h2 to h7, or the lowest refusal that holds: 1 for a cell from p on, 9 for a 32-bit value from 2^32 on.
+    // The cells h2 to h7, its numbers read modulo p, or 9 for a 32-bit value from 2^32 on.
     pub fn to_user_op_helpers(self) -> HelpersFound
         ensures { λ r. ⌜ toldHelpers r ≡ helpersAnswer self ⌝ }
     {
-        if !self.cells_in_field() {
-            return HelpersFound::Refused(1);
-        }
-        self.family().helpers()
+        self.family().read().helpers()
     }
 }

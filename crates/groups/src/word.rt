@@ -1,12 +1,12 @@
 // Four cells that stand together. An enum can hold a Word, which it could not an array.
 use field::cell::cell;
-use field::felt::Felt;
+use field::felt::reduce;
 ghost use mathlib.Core.Path.{_≡_};
-ghost use Rattle.groups.specs.Words.{wordAt, beyond};
+ghost use Rattle.groups.specs.Words.{wordAt, readWord};
 
 pub struct Word(pub u64, pub u64, pub u64, pub u64);
 
-// The four cells from cell `at` on, each 0 past the end of the slice.
+// The four cells from cell `at` on, each read modulo p, 0 past the end of the slice.
 pub fn word_at(cells: &[u64], at: usize) -> Word
     ensures { λ r. ⌜ r ≡ wordAt (now (cells .entry)) at ⌝ }
 {
@@ -21,20 +21,16 @@ pub fn word_at(cells: &[u64], at: usize) -> Word
     )
 }
 
-// Whether one of the four is p or above, and so no cell.
-pub fn is_beyond(word: Word) -> bool
-    ensures { λ r. ⌜ r ≡ beyond word ⌝ }
+// The word with each number read modulo p.
+pub fn read_word(word: Word) -> Word
+    ensures { λ r. ⌜ r ≡ readWord word ⌝ }
 {
-    if Felt::MODULUS <= word.0 {
-        return true;
-    }
-    if Felt::MODULUS <= word.1 {
-        return true;
-    }
-    if Felt::MODULUS <= word.2 {
-        return true;
-    }
-    Felt::MODULUS <= word.3
+    Word(
+        reduce(word.0),
+        reduce(word.1),
+        reduce(word.2),
+        reduce(word.3),
+    )
 }
 
 // An element of the quadratic extension, by its two coefficients.

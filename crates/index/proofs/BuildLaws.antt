@@ -45,7 +45,7 @@ module _ (p : Profile) (cells lent : List ℕ) (read : TraceRead) (k : read ≡ 
   unfolding traceRead
   row-of = rw k refl
 
-  -- 1, 2, 11, 12, 13 and 15
+  -- 2, 11, 12, 13 and 15
   pub no-trace : (r : IndexBuilt) → (read .number ≡ 0 → ⊥) → r ≡ indexBuilt (refused (read .number) (read .row)) → (r ≡ indexBuilt (building p cells (length lent))) × (lent ≡ indexAfter (building p cells (length lent)) lent)
   unfolding building
   no-trace r h f =

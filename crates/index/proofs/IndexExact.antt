@@ -10,6 +10,8 @@ use borrow.Author.Tests.{le-ltb, lt-ltb, ltb-false, eq-eqb}
 use lib.Dec.{ltb}
 use lib.ListN.{length, take, drop}
 use lib.Seq.{take-at}
+use Rattle.field.specs.Cells.{reduced}
+use Rattle.field.proofs.CellLaws.{length-reduced}
 use Rattle.groups.specs.Answer as group
 use Rattle.records.specs.declared.profile.Profile.{Profile}
 use Rattle.readings.specs.Readings.{Block, Reading, Trace, allRows}
@@ -17,6 +19,7 @@ use Rattle.readings.specs.Answers.{Answer, accepted, refused, numberOf, rowOf}
 use Rattle.readings.specs.Parser.{answer}
 use Rattle.readings.specs.Tokens.{tokensOf}
 use Rattle.readings.proofs.AcceptedTraces.{enough-depths, accepts-traces, accepts-exactly}
+use Rattle.readings.proofs.ReducedCells.{reads-reduced}
 use Rattle.indexes.specs.Indexes.{blocksIn, index, startRow, innermost}
 use Rattle.indexes.specs.Enclosing.{enclosing}
 use Rattle.indexes.proofs.IndexLists.{index-length}
@@ -36,6 +39,11 @@ unfolding Trace Reading enclosing
 index-found p cells b t row =
     let e : length (index b) % 3 ≡ 0 = omega (arith, length-index b) in
     rw (eq-eqb (length (index b) % 3) 0 e) (ap group.accepted (innermost-found (tokensOf p (allRows cells)) b (t .1 .0) row))
+
+-- an index is built of a buffer as of its reduced cells (N2)
+pub builds-reduced : (p : Profile) (cells : List ℕ) (lent : ℕ) → building p (reduced cells) lent ≡ building p cells lent
+unfolding building
+builds-reduced p cells lent = rw (length-reduced cells, reads-reduced p cells (length cells / 49))
 
 -- the answer does not depend on how many depth numbers there are, where they are enough
 same-answer : (p : Profile) (cells : List ℕ) (depths : ℕ) → length cells / 49 ≤ depths → answer p cells depths ≡ answer p cells (length cells / 49)

@@ -25,6 +25,7 @@ fn main() {
     builds(b"traces_a");
     builds(b"traces_b");
     builds(b"traces_c");
+    builds(b"cells");
     builds(b"refused_a");
     builds(b"refused_b");
     lookups(b"lookups");

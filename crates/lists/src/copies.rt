@@ -2,7 +2,7 @@
 use crate::text::item;
 use crate::text::low8;
 use crate::text::low32;
-use field::cell::cell;
+use field::cell::number_at;
 
 // Fills `to` with the numbers from place `at` on.
 pub fn copy(from: &[u64], at: usize, to: &mut [u64]) {
@@ -53,7 +53,7 @@ pub fn same(a: &[u64], b: &[u64]) -> bool {
     let mut same = true;
     let mut i = 0;
     while i < b.len() {
-        same = same & (cell(a, i) == b[i]);
+        same = same & (number_at(a, i) == b[i]);
         i += 1;
     }
     same

@@ -1,5 +1,5 @@
 // A file of decimal numbers, read into an array.
-use field::cell::cell;
+use field::cell::number_at;
 ghost use Prim.Native.Nat.{_≤_};
 
 fn wide(b: u8) -> u64 {
@@ -75,7 +75,7 @@ pub fn item(v: &[u64], at: usize, i: usize) -> u64 {
     if v.len() <= at {
         return 0;
     }
-    cell(&v[at..], i)
+    number_at(&v[at..], i)
 }
 
 // The number that the low 32 bits are.

@@ -3,7 +3,7 @@
 //
 // Row r has the address r % 7. Each tenth row is a flagged END, the others are LOOP rows. All other cells are 0.
 use crate::given::profile_of;
-use field::cell::cell;
+use field::cell::number_at;
 use lists::copies::copy;
 use lists::text::one_if;
 use passes::multiplicity::set_loop_body_multiplicities;
@@ -19,7 +19,7 @@ fn cell_of(r: usize, column: usize, counts: &[u64]) -> u64 {
         6 => (r % 7) as u64,
         7 => one_if(is_end),
         18 => one_if(is_end),
-        23 => count_of(is_end || 4998 < r, cell(counts, (r % 7 + 1) % 7)),
+        23 => count_of(is_end || 4998 < r, number_at(counts, (r % 7 + 1) % 7)),
         _ => 0,
     }
 }

@@ -23,6 +23,8 @@ fn large_vector(name: &[u8]) {
 fn main() {
     vectors(b"passes_a");
     vectors(b"passes_b");
+    vectors(b"cells_a");
+    vectors(b"cells_b");
     vectors(b"refusals_a");
     vectors(b"refusals_b");
     vectors(b"orders");

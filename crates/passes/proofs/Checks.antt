@@ -1,14 +1,10 @@
 -- Laws of what the passes refuse.
-use mathlib.Core.Path.{_≡_, refl, ap}
+use mathlib.Core.Path.{_≡_, refl}
 use mathlib.Core.Bool.{Bool, true, false, _||_}
 use mathlib.Core.List.{List, _∷_}
-use Prim.Native.Nat.{ℕ, zero, suc, _*_, _/_, _<_}
+use Prim.Native.Nat.{ℕ, zero, suc}
 use native.Mathlib.Omega.{arith}
-use lib.ListN.{length}
-use lib.Seq.{take-all}
-use Rattle.field.specs.Modulus.{P}
-use Rattle.field.specs.Bounds.{anyFrom}
-use Rattle.passes.specs.Passes.{rowsBig, firstOf, unlessRefused}
+use Rattle.passes.specs.Passes.{firstOf, unlessRefused}
 
 pub neither : (a b : Bool) → (a || b) ≡ false → (a ≡ false) × (b ≡ false)
 neither true b e = let z : _≡_ {A = ℕ} 0 1 = cc in absurd (omega arith)
@@ -19,11 +15,6 @@ pub none-first : (t : Bool) (number : ℕ) (rest : List (Bool × ℕ)) → first
 unfolding firstOf
 none-first true number rest e = absurd (omega arith)
 none-first false number rest e = (refl, e)
-
--- more rows than the buffer has are all of it
-pub rows-all : (n : ℕ) (buffer : List ℕ) → length buffer / 49 < n → rowsBig n buffer ≡ anyFrom P buffer
-unfolding rowsBig
-rows-all n buffer h = ap (anyFrom P) (take-all (49 * n) buffer (omega arith))
 
 -- a refused call leaves the buffer
 pub refused-stays : (number : ℕ) (before after : List ℕ) → (number ≡ 0 → ⊥) → before ≡ unlessRefused number before after

@@ -1,9 +1,8 @@
 -- Laws of the fragments' counts: their sum, the checks of pass 1, and what they leave.
-use mathlib.Core.Path.{_≡_, _∙_, refl, sym, ap}
+use mathlib.Core.Path.{_≡_, refl, sym}
 use mathlib.Core.Bool.{Bool, true, false, _||_, or-assoc}
 use mathlib.Core.List.{List, [], _∷_}
 use Prim.Native.Nat.{ℕ, suc, _+_, _-_, _*_, _/_, _≤_, _<_, min}
-use native.Mathlib.Decide.{decLt}
 use native.Mathlib.Numerals.{add-one}
 use native.Mathlib.Omega.{arith}
 use borrow.Author.Tests.{ltb-true, ltb-false, eqb-false, lt-ltb, le-ltb}
@@ -11,8 +10,8 @@ use lib.Dec.{ltb, eqb}
 use lib.ListN.{length, drop, getD, drop-of-length-le}
 use lib.Seq.{drop-cons}
 use Rattle.records.specs.Cells.{fragmentWrong}
-use Rattle.passes.specs.Passes.{rowsBig, bufferWrong, fewerRows, sumOf, anyAbove, notFull, noFragment, fragmentsWrong, refusal1}
-use Rattle.passes.proofs.Checks.{neither, none-first, rows-all}
+use Rattle.passes.specs.Passes.{bufferWrong, fewerRows, sumOf, anyAbove, notFull, noFragment, fragmentsWrong, refusal1}
+use Rattle.passes.proofs.Checks.{neither, none-first}
 
 -- SUMS
 
@@ -36,13 +35,6 @@ few-built built fragments =
 
 few-rows : (rows sum : ℕ) → ltb rows (min (rows + 1) sum) ≡ ltb rows sum
 few-rows rows sum = same-test rows (min (rows + 1) sum) rows sum (λ h. omega arith) (λ h. omega arith)
-
-pub rows-capped : (n : ℕ) (buffer : List ℕ) → rowsBig (min (length buffer / 49 + 1) n) buffer ≡ rowsBig n buffer
-rows-capped n buffer = go (decLt (length buffer / 49) n)
-  where
-    go : Dec (length buffer / 49 < n) → rowsBig (min (length buffer / 49 + 1) n) buffer ≡ rowsBig n buffer
-    go (yes h) = rows-all (min (length buffer / 49 + 1) n) buffer (omega arith) ∙ sym (rows-all n buffer h)
-    go (no h) = ap (λ k. rowsBig k buffer) (omega arith)
 
 pub fragments-test : (cells size : ℕ) (counts built : List ℕ)
     → (fragmentWrong cells (min (cells / 49 + 1) (sumOf counts)) || (eqb size 0 || (anyAbove size counts || ltb (length built / 25) (length counts))))
@@ -114,11 +106,10 @@ full-last size counts i e =
 -- THE NUMBER
 
 -- what a call that is not refused has passed
-pub passed : (buffer : List ℕ) (size : ℕ) (counts built top : List ℕ) → refusal1 buffer size counts built top ≡ 0
+pub passed : (buffer : List ℕ) (size : ℕ) (counts built : List ℕ) → refusal1 buffer size counts built ≡ 0
     → (fragmentsWrong (length buffer) size counts built ≡ false) × (noFragment counts ≡ false) × (notFull size counts ≡ false)
 unfolding refusal1
-passed buffer size counts built top e =
-    let a = none-first _ 0 _ e in
-    let b = none-first _ 10 _ (a .1) in
+passed buffer size counts built e =
+    let b = none-first _ 10 _ e in
     let d = none-first _ 25 _ (b .1) in
     (b .0, d .0, none-first _ 24 _ (d .1) .0)

@@ -1,19 +1,16 @@
 -- Where the finisher refuses nothing, the rows that its passes work on are in the buffer and in the height.
-use mathlib.Core.Path.{_≡_, _∙_, refl, sym}
-use mathlib.Core.Bool.{Bool, true, false, _||_}
+use mathlib.Core.Path.{_≡_, _∙_}
+use mathlib.Core.Bool.{false, _||_}
 use mathlib.Core.List.{List, [], _∷_}
-use Prim.Native.Nat.{ℕ, zero, suc, _+_, _-_, _*_, _/_, _%_, _≤_, _<_, min}
+use Prim.Native.Nat.{ℕ, _+_, _-_, _*_, _/_, _%_, _≤_, _<_, min}
 use native.Mathlib.Omega.{arith}
 use borrow.Author.Tests.{ltb-false, leb-false}
-use lib.Dec.{ltb, leb, eqb}
+use lib.Dec.{ltb, leb}
 use lib.ListN.{length, take, drop, length-take, length-drop}
 use Rattle.records.specs.declared.profile.Profile.{Profile}
-use Rattle.field.specs.Bounds.{anyFrom}
-use Rattle.records.specs.Profiles.{profileWrong}
-use Rattle.passes.specs.Buffers.{rowsOf}
-use Rattle.passes.specs.Passes.{firstOf, rowsBig, bufferWrong, fewerRows, sumOf, anyAbove, notFull, noFragment, fragmentsWrong, heightWrong, loopWithoutBody, refusal2, refusalAll}
+use Rattle.passes.specs.Passes.{bufferWrong, fewerRows, sumOf, notFull, noFragment, fragmentsWrong, heightWrong, refusal2, refusalAll}
 use Rattle.passes.proofs.Checks.{neither, none-first}
-use Rattle.passes.proofs.Counts.{Fits, fits}
+use Rattle.passes.proofs.Counts.{fits}
 
 -- the rows of a buffer that is not refused are at most 2^24
 few-rows : (cells : ℕ) → bufferWrong cells ≡ false → cells / 49 ≤ 16777216
@@ -24,7 +21,7 @@ enough : (cells n : ℕ) → fewerRows cells n ≡ false → n ≤ cells / 49
 unfolding fewerRows
 enough cells n e = ltb-false (cells / 49) n e
 
--- where pass 2 refuses neither 1, 2 nor 11
+-- where pass 2 refuses neither 2 nor 11
 pub record Held (cells rows : ℕ) : Type 0 where
   pub in-buffer : 49 * rows ≤ cells
   pub few : rows ≤ 16777216
@@ -38,7 +35,7 @@ held cells rows e =
 
 pub held-2 : (p : Profile) (buffer : List ℕ) (rows : ℕ) → refusal2 p buffer rows ≡ 0 → Held (length buffer) rows
 unfolding refusal2
-held-2 p buffer rows e = held (length buffer) rows (none-first _ _ _ (none-first _ _ _ (none-first _ _ _ e .1) .1) .0)
+held-2 p buffer rows e = held (length buffer) rows (none-first _ _ _ (none-first _ _ _ e .1) .0)
 
 -- what the finisher's passes ask
 pub record Ready (cells rows height : ℕ) (counts built : List ℕ) : Type 0 where
@@ -93,11 +90,10 @@ pub record Passed (cells size height : ℕ) (counts built : List ℕ) : Type 0 w
   pub fragment : noFragment counts ≡ false
   pub full : notFull size counts ≡ false
 
-pub passed-all : (p : Profile) (buffer : List ℕ) (size : ℕ) (counts built top : List ℕ) (height : ℕ) → refusalAll p buffer size counts built top height ≡ 0 → Passed (length buffer) size height counts built
+pub passed-all : (p : Profile) (buffer : List ℕ) (size : ℕ) (counts built : List ℕ) (height : ℕ) → refusalAll p buffer size counts built height ≡ 0 → Passed (length buffer) size height counts built
 unfolding refusalAll
-passed-all p buffer size counts built top height e =
-    let a = none-first _ _ _ (none-first _ _ _ e .1) .1 in
-    let b = none-first _ _ _ a in
+passed-all p buffer size counts built height e =
+    let b = none-first _ _ _ (none-first _ _ _ e .1) in
     let d = neither (fragmentsWrong (length buffer) size counts built) (heightWrong (length buffer) (sumOf counts) height) (b .0) in
     let f = none-first _ _ _ (b .1) in
     let g = none-first _ _ _ (f .1) in

@@ -5,6 +5,8 @@ use Prim.Native.Nat.{ℕ, zero, suc, pred, _+_, _-_, _*_, _≤_, _<_}
 use native.Mathlib.Omega.{arith}
 use lib.ListN.{length, take, drop, getD, set, length-append, length-take, length-drop}
 use lib.Seq.{drop-drop}
+use Rattle.field.specs.Cells.{reduced}
+use Rattle.field.proofs.CellLaws.{length-reduced}
 use Rattle.records.specs.Built.{reversed16}
 use Rattle.records.specs.Cells.{putRow}
 use Rattle.passes.specs.Buffers.{rowsOf, flat, onRows}
@@ -20,7 +22,7 @@ built-wide : (n : ℕ) (built : List ℕ) → 25 * n ≤ length built → Cells2
 unfolding builtOf Cells25
 built-wide zero built h = tt
 built-wide (suc n) built h =
-    (length-take 25 built ∙ omega arith, built-wide n (drop 25 built) (omega (arith, length-drop 25 built)))
+    (length-reduced (take 25 built) ∙ length-take 25 built ∙ omega arith, built-wide n (drop 25 built) (omega (arith, length-drop 25 built)))
 
 length-built : (n : ℕ) (built : List ℕ) → length (builtOf n built) ≡ n
 unfolding builtOf
@@ -28,13 +30,13 @@ length-built zero built = refl
 length-built (suc n) built = ap suc (length-built n (drop 25 built))
 
 -- the built cells of one fragment more
-built-more : (n : ℕ) (built : List ℕ) → builtOf (suc n) built ≡ builtOf n built ++ (take 25 (drop (25 * n) built) ∷ [])
+built-more : (n : ℕ) (built : List ℕ) → builtOf (suc n) built ≡ builtOf n built ++ (reduced (take 25 (drop (25 * n) built)) ∷ [])
 unfolding builtOf
 built-more zero built = refl
 built-more (suc n) built =
     let e : 25 + 25 * n ≡ 25 * suc n = omega arith in
-    ap (λ y. take 25 built ∷ y) (built-more n (drop 25 built))
-    ∙ ap (λ y. take 25 built ∷ (builtOf n (drop 25 built) ++ (take 25 y ∷ []))) (drop-drop (25 * n) 25 built ∙ ap (λ k. drop k built) e)
+    ap (λ y. reduced (take 25 built) ∷ y) (built-more n (drop 25 built))
+    ∙ ap (λ y. reduced (take 25 built) ∷ (builtOf n (drop 25 built) ++ (reduced (take 25 y) ∷ []))) (drop-drop (25 * n) 25 built ∙ ap (λ k. drop k built) e)
 
 -- a row of 49 cells stays one
 sides-wide : (system stack row : List ℕ) → length system ≡ 6 → length stack ≡ 19 → length row ≡ 49 → length (withSides system stack row) ≡ 49
@@ -111,7 +113,7 @@ module _ (n size : ℕ) (some : 0 < size) (buffer : List ℕ) (fits : 49 * n ≤
     -- one of the later fragments more
     pub later-next : (j : ℕ) → suc j * size < n → 25 * suc j ≤ length built
         → putRow (onRows n (laterRows size size (builtOf j built)) buffer) (suc j * size)
-        (withSides (take 6 (take 25 (drop (25 * j) built))) (drop 6 (take 25 (drop (25 * j) built)))
+        (withSides (take 6 (reduced (take 25 (drop (25 * j) built)))) (drop 6 (reduced (take 25 (drop (25 * j) built))))
         (take 49 (drop (49 * (suc j * size)) (onRows n (laterRows size size (builtOf j built)) buffer))))
         ≡ onRows n (laterRows size size (builtOf (suc j) built)) buffer
     unfolding later sides
@@ -119,7 +121,7 @@ module _ (n size : ℕ) (some : 0 < size) (buffer : List ℕ) (fits : 49 * n ≤
         let w : Wide (later j) = later-wide (rowsOf n buffer) (builtOf j built) size size (built-wide j built (omega arith)) (wide-rows n buffer fits) in
         let in-rows : suc j * size < length (later j) = omega (arith, length-at j) in
         let at : size + size * length (builtOf j built) ≡ suc j * size = rw length-built (omega arith) in
-        let cells : List ℕ = take 25 (drop (25 * j) built) in
+        let cells : List ℕ = reduced (take 25 (drop (25 * j) built)) in
         let in-all : size + size * length (builtOf j built) < length (rowsOf n buffer) = omega (arith, at, length-rows n buffer) in
         rw (at-rows j, row-at (later j) rest (suc j * size) w in-rows, put-set (later j) rest (suc j * size) (sides size some cells (getD (later j) (suc j * size) [])) w in-rows)
         (sym (at-rows (suc j) ∙ ap (λ y. flat y ++ rest) (ap (λ y. laterRows size size y (rowsOf n buffer)) (built-more j built) ∙ (rw at at (later-more size some cells (rowsOf n buffer) (builtOf j built) size in-all)))))
@@ -127,7 +129,7 @@ module _ (n size : ℕ) (some : 0 < size) (buffer : List ℕ) (fits : 49 * n ≤
     -- a turn of the loop: fragment k gets the built cells of fragment k - 1
     pub later-turn : (k : ℕ) → 1 ≤ k → k * size < n → 25 * k ≤ length built
         → putRow (onRows n (laterRows size size (builtOf (k - 1) built)) buffer) (k * size)
-        (withSides (take 6 (take 25 (drop (25 * (k - 1)) built))) (drop 6 (take 25 (drop (25 * (k - 1)) built)))
+        (withSides (take 6 (reduced (take 25 (drop (25 * (k - 1)) built)))) (drop 6 (reduced (take 25 (drop (25 * (k - 1)) built))))
         (take 49 (drop (49 * (k * size)) (onRows n (laterRows size size (builtOf (k - 1) built)) buffer))))
         ≡ onRows n (laterRows size size (builtOf (k + 1 - 1) built)) buffer
     later-turn zero some h b = absurd (omega arith)
@@ -144,12 +146,13 @@ first-then-later zero size buffer top lasts some more fits = absurd (omega arith
 first-then-later (suc n) zero buffer top lasts some more fits = absurd (omega arith)
 first-then-later (suc n) (suc size) buffer top lasts some more fits =
     let first : List ℕ = firstRow top (take 49 buffer) in
+    let stack : List ℕ = reversed16 top ++ (16 ∷ 0 ∷ 0 ∷ []) in
     let others : List (List ℕ) = rowsOf n (drop 49 buffer) in
     let behind : List ℕ = drop (49 * suc n) buffer in
     let wide = wide-rows (suc n) buffer fits in
     let written : putRow buffer 0 first ≡ flat (first ∷ others) ++ behind =
     ap (λ y. putRow y 0 first) (as-rows (suc n) buffer) ∙ put-set (take 49 buffer ∷ others) behind 0 first wide (omega arith) in
-    let row : length first ≡ 49 = sides-wide (take 6 (take 49 buffer)) (reversed16 top ++ (16 ∷ 0 ∷ 0 ∷ [])) (take 49 buffer) (length-take 6 (take 49 buffer) ∙ omega (arith, wide .0)) refl (wide .0) in
+    let row : length first ≡ 49 = sides-wide (take 6 (take 49 buffer)) (reduced stack) (take 49 buffer) (length-take 6 (take 49 buffer) ∙ omega (arith, wide .0)) (length-reduced stack) (wide .0) in
     let long : suc (length others) ≡ suc n = ap suc (length-rows n (drop 49 buffer)) in
     let later = on-flat (first ∷ others) behind (laterRows (suc size) (suc size) lasts) (row, wide .1) (length-later (first ∷ others) lasts (suc size) (suc size)) in
     let fixed = on-rows (suc n) (fixedUp (suc size) top lasts) buffer (ap suc (length-later others lasts (suc size) size) ∙ long) in

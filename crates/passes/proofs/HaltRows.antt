@@ -5,7 +5,7 @@ use Prim.Native.Nat.{ℕ, zero, suc, _+_, _-_, _*_, _≤_, _<_}
 use native.Mathlib.Omega.{arith}
 use lib.ListN.{length, take, drop, length-append, length-take, length-drop}
 use lib.Seq.{drop-drop}
-use Rattle.groups.specs.Words.{wordAt}
+use Rattle.field.proofs.CellLaws.{length-reduced}
 use Rattle.records.specs.declared.profile.Profile.{Profile}
 use Rattle.records.specs.declared.decoder_row.DecoderRow.{DecoderRow}
 use Rattle.records.specs.declared.state.SystemCols.{SystemCols}
@@ -14,13 +14,12 @@ use Rattle.records.specs.DecoderRows.{noWord, decoderCells, controlFlow}
 use Rattle.records.specs.Built.{systemCells, stackCells}
 use Rattle.records.specs.Cells.{rowCells, putRow}
 use Rattle.passes.specs.Buffers.{rowsOf, flat, onRows, lastRow}
-use Rattle.passes.specs.Passes.{firstHalf, haltDecoder, haltStack, haltRow, halted, paddingRow, paddingRows, padded}
+use Rattle.passes.specs.Passes.{wordIn, firstHalf, haltDecoder, haltStack, haltRow, halted, paddingRow, paddingRows, padded}
 use Rattle.records.proofs.Windows.{window}
 use Rattle.passes.proofs.RowLists.{Wide, wide-app, length-rows, wide-rows, as-rows, last-rows, last-cell, length-last, put-behind}
 
 -- h0 to h3 of the last row stand 35 cells before its end
-pub last-half : (n : ℕ) (b : List ℕ) → 0 < n → firstHalf (lastRow (rowsOf n b)) ≡ wordAt b (49 * n - 35)
-unfolding wordAt
+pub last-half : (n : ℕ) (b : List ℕ) → 0 < n → firstHalf (lastRow (rowsOf n b)) ≡ wordIn b (49 * n - 35)
 last-half zero b h = absurd (omega arith)
 last-half (suc n) b h =
     let a : 49 * suc n - 35 ≡ 49 * n + 14 = omega arith in
@@ -39,7 +38,7 @@ last-stack (suc n) b h =
 
 pub length-row : (system : SystemCols) (d : DecoderRow) (stack : StackCols) → length (rowCells system d stack) ≡ 49
 unfolding rowCells systemCells decoderCells stackCells
-length-row system d stack = refl
+length-row system d stack = length-reduced (systemCells system ++ decoderCells d ++ stackCells stack)
 
 module _ (p : Profile) (before : List ℕ) (system : SystemCols) (d : DecoderRow) (stack : StackCols) (is : d ≡ controlFlow (p .halt) (firstHalf before) noWord 0) where
   pub halt-row : (built : List ℕ) → systemCells system ≡ take 6 built → stackCells stack ≡ take 19 (drop 6 built) → rowCells system d stack ≡ haltRow p built before
@@ -59,7 +58,7 @@ put-halt p built b n {x} h is =
 
 padding-wide : (p : Profile) (k : ℕ) (before : List ℕ) → length before ≡ 49 → length (paddingRow p k before) ≡ 49
 unfolding paddingRow haltDecoder decoderCells controlFlow
-padding-wide p k before e = simp (length-take, length-drop) (omega arith)
+padding-wide p k before e = simp (length-reduced, length-take, length-drop) (omega arith)
 
 paddings-wide : (p : Profile) (n k : ℕ) (before : List ℕ) → length before ≡ 49 → Wide (paddingRows p n k before)
 unfolding paddingRows Wide

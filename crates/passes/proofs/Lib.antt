@@ -12,3 +12,4 @@ pub mod RowsFrom
 pub mod Sides
 pub mod Tallies
 pub mod Written
+pub mod ReducedRows

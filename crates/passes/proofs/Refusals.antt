@@ -11,20 +11,18 @@ use lib.ListN.{length}
 use Rattle.records.specs.declared.profile.Profile.{Profile}
 use Rattle.records.specs.Profiles.{profileWrong}
 use Rattle.passes.proofs.Checks.{neither}
-use Rattle.passes.specs.Passes.{firstOf, rowsBig, bufferWrong, fewerRows, refusal3, refusal4, refusal5, unlessRefused}
+use Rattle.passes.specs.Passes.{firstOf, bufferWrong, fewerRows, refusal3, refusal4, refusal5, unlessRefused}
 
 -- the checks pass, and so the last of them
-lengths-pass : (big lengths : Bool) → firstOf ((big, 1) ∷ (lengths, 11) ∷ []) ≡ 0 → lengths ≡ false
+lengths-pass : (lengths : Bool) → firstOf ((lengths, 11) ∷ []) ≡ 0 → lengths ≡ false
 unfolding firstOf
-lengths-pass true lengths e = absurd (omega arith)
-lengths-pass false true e = absurd (omega arith)
-lengths-pass false false e = refl
+lengths-pass true e = absurd (omega arith)
+lengths-pass false e = refl
 
-all-pass : (big wrong lengths : Bool) → firstOf ((big, 1) ∷ (wrong, 2) ∷ (lengths, 11) ∷ []) ≡ 0 → lengths ≡ false
+all-pass : (wrong lengths : Bool) → firstOf ((wrong, 2) ∷ (lengths, 11) ∷ []) ≡ 0 → lengths ≡ false
 unfolding firstOf
-all-pass true wrong lengths e = absurd (omega arith)
-all-pass false true lengths e = absurd (omega arith)
-all-pass false false lengths e = lengths-pass false lengths e
+all-pass true lengths e = absurd (omega arith)
+all-pass false lengths e = lengths-pass lengths e
 
 enough : (cells n : ℕ) → fewerRows cells n ≡ false → 49 * n ≤ cells
 unfolding fewerRows
@@ -44,14 +42,14 @@ unfolding refusal3
 fits3 b n e =
     let wrong : Bool = bufferWrong (length b) in
     let fewer : Bool = fewerRows (length b) n in
-    enough (length b) n (neither wrong fewer (lengths-pass (rowsBig n b) (wrong || fewer) e) .1)
+    enough (length b) n (neither wrong fewer (lengths-pass (wrong || fewer) e) .1)
 
-pub fits4 : (p : Profile) (b : List ℕ) (n : ℕ) (built : List ℕ) → refusal4 p b n built ≡ 0 → 49 * n + 49 ≤ length b
+pub fits4 : (p : Profile) (b : List ℕ) (n : ℕ) → refusal4 p b n ≡ 0 → 49 * n + 49 ≤ length b
 unfolding refusal4
-fits4 p b n built e =
+fits4 p b n e =
     let wrong : Bool = bufferWrong (length b) in
     let fewer : Bool = fewerRows (length b) (n + 1) in
-    let f : fewer ≡ false = neither wrong fewer (all-pass _ _ (wrong || fewer) e) .1 in
+    let f : fewer ≡ false = neither wrong fewer (all-pass (profileWrong p) (wrong || fewer) e) .1 in
     omega (arith, enough (length b) (n + 1) f)
 
 -- there is a row to repeat, the height is no less, and the buffer has it
@@ -66,7 +64,7 @@ fits5 p b n height e =
     let wrong : Bool = bufferWrong (length b) in
     let fewer : Bool = fewerRows (length b) height in
     let low : Bool = ltb height n in
-    let lengths : (wrong || (eqb n 0 || (low || fewer))) ≡ false = all-pass (rowsBig n b) (profileWrong p) (wrong || (eqb n 0 || (low || fewer))) e in
+    let lengths : (wrong || (eqb n 0 || (low || fewer))) ≡ false = all-pass (profileWrong p) (wrong || (eqb n 0 || (low || fewer))) e in
     let rows : (eqb n 0 ≡ false) × ((low || fewer) ≡ false) = neither (eqb n 0) (low || fewer) (neither wrong (eqb n 0 || (low || fewer)) lengths .1) in
     let heights : (low ≡ false) × (fewer ≡ false) = neither low fewer (rows .1) in
     let z : ¬ (n ≡ 0) = eqb-false n 0 (rows .0) in

@@ -1,5 +1,5 @@
 -- The cells of a buffer's row, and what rows of two buffers that are alike have in common.
-use mathlib.Core.Path.{_≡_, refl, sym, _∙_}
+use mathlib.Core.Path.{_≡_, refl, sym, ap, _∙_}
 use mathlib.Core.Bool.{false, and-true, and-false}
 use mathlib.Core.List.{List, [], _∷_}
 use Prim.Native.Nat.{ℕ, zero, suc, _+_, _*_, _/_, _%_, _<_, _≤_}
@@ -8,6 +8,9 @@ use lib.Dec.{eqb}
 use lib.ListN.{length, getD, set, take, drop, length-set}
 use lib.Seq.{getD-take, getD-drop, getD-set-other}
 use borrow.Author.Tests.{eq-eqb, ne-eqb}
+use Rattle.field.specs.Modulus.{P}
+use Rattle.field.specs.Cells.{cellAt, reduced}
+use Rattle.field.proofs.CellLaws.{getD-reduced, reduced-take}
 use Rattle.records.specs.declared.profile.Profile.{Profile}
 use Rattle.passes.specs.Buffers.{h4Of}
 use Rattle.passes.specs.Passes.{lowBits, opcodeOf, flaggedEnd}
@@ -16,6 +19,11 @@ use Rattle.passes.specs.LoopCounts.{rowAt, Alike}
 pub row-cell : (c : List ℕ) (i k : ℕ) → k < 49 → getD (rowAt i c) k 0 ≡ getD c (49 * i + k) 0
 unfolding rowAt
 row-cell c i k h = getD-take 49 (drop (49 * i) c) k 0 h ∙ getD-drop (49 * i) c k 0
+
+-- the same, as it is read
+pub row-read : (c : List ℕ) (i k : ℕ) → k < 49 → cellAt (rowAt i c) k ≡ cellAt c (49 * i + k)
+unfolding cellAt
+row-read c i k h = ap (λ x. x % P) (row-cell c i k h)
 
 seven : (l : List ℕ)
     → lowBits (take 7 l) ≡ getD l 0 0 % 2 + 2 * (getD l 1 0 % 2) + 4 * (getD l 2 0 % 2) + 8 * (getD l 3 0 % 2) + 16 * (getD l 4 0 % 2) + 32 * (getD l 5 0 % 2) + 64 * (getD l 6 0 % 2)
@@ -29,15 +37,16 @@ seven (a ∷ b ∷ c ∷ d ∷ e ∷ []) = omega arith
 seven (a ∷ b ∷ c ∷ d ∷ e ∷ f ∷ []) = omega arith
 seven (a ∷ b ∷ c ∷ d ∷ e ∷ f ∷ g ∷ l) = omega arith
 
-bit : (c : List ℕ) (i k : ℕ) → 7 + k < 49 → getD (drop 7 (rowAt i c)) k 0 ≡ getD c (49 * i + (7 + k)) 0
-bit c i k h = getD-drop 7 (rowAt i c) k 0 ∙ row-cell c i (7 + k) h
+bit : (c : List ℕ) (i k : ℕ) → 7 + k < 49 → getD (reduced (drop 7 (rowAt i c))) k 0 ≡ cellAt c (49 * i + (7 + k))
+unfolding cellAt
+bit c i k h = getD-reduced (drop 7 (rowAt i c)) k ∙ ap (λ x. x % P) (getD-drop 7 (rowAt i c) k 0 ∙ row-cell c i (7 + k) h)
 
 -- the opcode of row i from the buffer's cells
 pub opcode-cells : (c : List ℕ) (i : ℕ)
-    → opcodeOf (rowAt i c) ≡ getD c (49 * i + 7) 0 % 2 + 2 * (getD c (49 * i + 8) 0 % 2) + 4 * (getD c (49 * i + 9) 0 % 2) + 8 * (getD c (49 * i + 10) 0 % 2) + 16 * (getD c (49 * i + 11) 0 % 2) + 32 * (getD c (49 * i + 12) 0 % 2) + 64 * (getD c (49 * i + 13) 0 % 2)
+    → opcodeOf (rowAt i c) ≡ cellAt c (49 * i + 7) % 2 + 2 * (cellAt c (49 * i + 8) % 2) + 4 * (cellAt c (49 * i + 9) % 2) + 8 * (cellAt c (49 * i + 10) % 2) + 16 * (cellAt c (49 * i + 11) % 2) + 32 * (cellAt c (49 * i + 12) % 2) + 64 * (cellAt c (49 * i + 13) % 2)
 unfolding opcodeOf
 opcode-cells c i =
-    seven (drop 7 (rowAt i c))
+    ap lowBits (reduced-take 7 (drop 7 (rowAt i c))) ∙ seven (reduced (drop 7 (rowAt i c)))
     ∙ rw (bit c i 0 (omega arith), bit c i 1 (omega arith), bit c i 2 (omega arith), bit c i 3 (omega arith), bit c i 4 (omega arith), bit c i 5 (omega arith), bit c i 6 (omega arith))
 
 drop-past : (n : ℕ) (c : List ℕ) → length c ≤ n → drop n c ≡ []
@@ -48,16 +57,16 @@ drop-past (suc n) (x ∷ c) h = drop-past n c (omega arith)
 
 -- a row past the end has the opcode 0
 pub opcode-past : (c : List ℕ) (i : ℕ) → length c / 49 < i → 0 ≡ opcodeOf (rowAt i c)
-unfolding opcodeOf rowAt lowBits
+unfolding opcodeOf rowAt lowBits reduced
 opcode-past c i h = rw (drop-past (49 * i) c (omega arith)) refl
 
-pub flagged-yes : (p : Profile) (c : List ℕ) (i : ℕ) → getD c (49 * i + 18) 0 ≡ 1 → flaggedEnd p (rowAt i c) ≡ eqb (opcodeOf (rowAt i c)) (p .end)
+pub flagged-yes : (p : Profile) (c : List ℕ) (i : ℕ) → cellAt c (49 * i + 18) ≡ 1 → flaggedEnd p (rowAt i c) ≡ eqb (opcodeOf (rowAt i c)) (p .end)
 unfolding flaggedEnd
-flagged-yes p c i e = rw (eq-eqb (h4Of (rowAt i c)) 1 (row-cell c i 18 (omega arith) ∙ e)) (and-true (eqb (opcodeOf (rowAt i c)) (p .end)))
+flagged-yes p c i e = rw (eq-eqb (h4Of (rowAt i c)) 1 (row-read c i 18 (omega arith) ∙ e)) (and-true (eqb (opcodeOf (rowAt i c)) (p .end)))
 
-pub flagged-no : (p : Profile) (c : List ℕ) (i : ℕ) → (getD c (49 * i + 18) 0 ≡ 1 → ⊥) → flaggedEnd p (rowAt i c) ≡ false
+pub flagged-no : (p : Profile) (c : List ℕ) (i : ℕ) → (cellAt c (49 * i + 18) ≡ 1 → ⊥) → flaggedEnd p (rowAt i c) ≡ false
 unfolding flaggedEnd
-flagged-no p c i n = rw (ne-eqb (h4Of (rowAt i c)) 1 (λ e. n (sym (row-cell c i 18 (omega arith)) ∙ e))) (and-false (eqb (opcodeOf (rowAt i c)) (p .end)))
+flagged-no p c i n = rw (ne-eqb (h4Of (rowAt i c)) 1 (λ e. n (sym (row-read c i 18 (omega arith)) ∙ e))) (and-false (eqb (opcodeOf (rowAt i c)) (p .end)))
 
 pub alike-refl : (a : List ℕ) → Alike a a
 alike-refl a = record { size = refl; cells = λ i k h. refl }
@@ -73,13 +82,17 @@ alike-set a b i v g = record {
 }
 
 module _ (a b : List ℕ) (g : Alike a b) (i : ℕ) where
-  pub cell-alike : (k : ℕ) → k < 23 → getD (rowAt i a) k 0 ≡ getD (rowAt i b) k 0
-  cell-alike k h = row-cell a i k (omega arith) ∙ g .cells i k h ∙ sym (row-cell b i k (omega arith))
+  read-alike : (k : ℕ) → k < 23 → cellAt a (49 * i + k) ≡ cellAt b (49 * i + k)
+  unfolding cellAt
+  read-alike k h = ap (λ x. x % P) (g .cells i k h)
+
+  pub cell-alike : (k : ℕ) → k < 23 → cellAt (rowAt i a) k ≡ cellAt (rowAt i b) k
+  cell-alike k h = row-read a i k (omega arith) ∙ read-alike k h ∙ sym (row-read b i k (omega arith))
 
   pub opcode-alike : opcodeOf (rowAt i a) ≡ opcodeOf (rowAt i b)
   opcode-alike =
       opcode-cells a i
-      ∙ rw (g .cells i 7 (omega arith), g .cells i 8 (omega arith), g .cells i 9 (omega arith), g .cells i 10 (omega arith), g .cells i 11 (omega arith), g .cells i 12 (omega arith), g .cells i 13 (omega arith))
+      ∙ rw (read-alike 7 (omega arith), read-alike 8 (omega arith), read-alike 9 (omega arith), read-alike 10 (omega arith), read-alike 11 (omega arith), read-alike 12 (omega arith), read-alike 13 (omega arith))
       (sym (opcode-cells b i))
 
   pub flagged-alike : (p : Profile) → flaggedEnd p (rowAt i a) ≡ flaggedEnd p (rowAt i b)

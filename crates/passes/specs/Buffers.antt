@@ -1,7 +1,8 @@
 -- A buffer of cells as rows of 49, one after another.
 use mathlib.Core.List.{List, [], _∷_, _++_}
 use Prim.Native.Nat.{ℕ, zero, suc, _*_}
-use lib.ListN.{length, take, drop, getD}
+use lib.ListN.{length, take, drop}
+use Rattle.field.specs.Cells.{cellAt}
 
 -- the first n rows of a buffer
 unfoldable pub rowsOf : (n : ℕ) → List ℕ → List (List ℕ)
@@ -24,9 +25,9 @@ lastRow (row ∷ []) = row
 lastRow (row ∷ next ∷ rows) = lastRow (next ∷ rows)
 
 -- cells of a row by their places: "clk, ctx, fn_hash (4); addr, op bits (7, lowest first), h0 to h7, in_span, group_count, ..; stack top
--- (16), b0, b1, helper"
+-- (16), b0, b1, helper". Each is read as a cell
 abbrev pub addrOf : List ℕ → ℕ
-addrOf row = getD row 6 0
+addrOf row = cellAt row 6
 
 abbrev pub h4Of : List ℕ → ℕ
-h4Of row = getD row 18 0
+h4Of row = cellAt row 18

@@ -4,12 +4,11 @@ use mathlib.Core.List.{List, [], _∷_, _++_}
 use Prim.Native.Nat.{ℕ, zero, suc, pred, _+_, _-_, _*_, _/_, _%_}
 use lib.Dec.{leb, ltb, eqb}
 use lib.ListN.{length, take, drop, getD, set}
-use Rattle.field.specs.Modulus.{P}
+use Rattle.field.specs.Cells.{reduced}
 use Rattle.field.specs.Inverse.{inverseOf}
 use Rattle.groups.specs.Answer.{pick}
 use Rattle.groups.specs.declared.word.Word.{Word}
 use Rattle.records.specs.declared.profile.Profile.{Profile}
-use Rattle.field.specs.Bounds.{anyFrom}
 use Rattle.records.specs.Profiles.{profileWrong}
 use Rattle.records.specs.DecoderRows.{noWord, controlFlow, decoderCells}
 use Rattle.records.specs.Built.{reversed16}
@@ -23,7 +22,7 @@ withSides system stack row = system ++ take 24 (drop 6 row) ++ stack
 
 -- "row 0 gets the reversed first stack top, depth 16, 0, 0"
 unfoldable pub firstRow : (top row : List ℕ) → List ℕ
-firstRow top row = withSides (take 6 row) (reversed16 top ++ (16 ∷ 0 ∷ 0 ∷ [])) row
+firstRow top row = withSides (take 6 row) (reduced (reversed16 top ++ (16 ∷ 0 ∷ 0 ∷ []))) row
 
 -- "each later fragment's first row gets the previous fragment's last built cells": `lasts` are 25 cells a fragment, and the next first row
 -- is `left` rows on
@@ -37,10 +36,10 @@ unfoldable pub fixedUp : (size : ℕ) → (top : List ℕ) → (lasts : List (Li
 fixedUp size top lasts [] = []
 fixedUp size top lasts (row ∷ rows) = firstRow top row ∷ laterRows size (pred size) lasts rows
 
--- the built cells of the first n fragments, 25 each
+-- the built cells of the first n fragments, 25 each, as they are read
 unfoldable pub builtOf : (n : ℕ) → (built : List ℕ) → List (List ℕ)
 builtOf zero built = []
-builtOf (suc n) built = take 25 built ∷ builtOf n (drop 25 built)
+builtOf (suc n) built = reduced (take 25 built) ∷ builtOf n (drop 25 built)
 
 -- PASS 2
 
@@ -49,9 +48,9 @@ unfoldable pub lowBits : List ℕ → ℕ
 lowBits [] = 0
 lowBits (bit ∷ bits) = bit % 2 + 2 * lowBits bits
 
--- "Opcodes are read from each bit cell's lowest bit."
+-- "Opcodes are read from each bit cell's lowest bit", that of the reduced cell
 unfoldable pub opcodeOf : List ℕ → ℕ
-opcodeOf row = lowBits (take 7 (drop 7 row))
+opcodeOf row = lowBits (reduced (take 7 (drop 7 row)))
 
 -- an END row whose h4 is exactly 1
 unfoldable pub flaggedEnd : Profile → List ℕ → Bool
@@ -92,9 +91,13 @@ inverted (row ∷ rows) = set row 48 (inverseOf (getD row 48 0)) ∷ inverted ro
 
 -- PASS 4
 
+-- the four numbers from number i on
+abbrev pub wordIn : List ℕ → (i : ℕ) → Word
+wordIn cells i = (getD cells i 0, getD cells (i + 1) 0, getD cells (i + 2) 0, getD cells (i + 3) 0)
+
 -- h0 to h3 of a row
 abbrev pub firstHalf : List ℕ → Word
-firstHalf row = (getD row 14 0, getD row 15 0, getD row 16 0, getD row 17 0)
+firstHalf row = wordIn row 14
 
 -- the decoder cells of a HALT row: "h0 to h3 of the row before (0 if there is none); the rest 0 but opcode and extra"
 unfoldable pub haltDecoder : Profile → (before : List ℕ) → List ℕ
@@ -104,9 +107,9 @@ haltDecoder p before = decoderCells (controlFlow (p .halt) (firstHalf before) no
 unfoldable pub haltStack : (built : List ℕ) → List ℕ
 haltStack built = take 19 (drop 6 built)
 
--- "One HALT row: last built system and stack cells"
+-- "One HALT row: last built system and stack cells"; "Every cell that a call writes is reduced"
 unfoldable pub haltRow : Profile → (built before : List ℕ) → List ℕ
-haltRow p built before = take 6 built ++ haltDecoder p before ++ haltStack built
+haltRow p built before = reduced (take 6 built ++ haltDecoder p before ++ haltStack built)
 
 unfoldable pub halted : Profile → (built : List ℕ) → List (List ℕ) → List (List ℕ)
 halted p built rows = rows ++ (haltRow p built (lastRow rows) ∷ [])
@@ -115,7 +118,7 @@ halted p built rows = rows ++ (haltRow p built (lastRow rows) ∷ [])
 
 -- "HALT rows with h0 to h3 and stack of the last, clk the row's number, ctx and fn_hash 0"
 unfoldable pub paddingRow : Profile → (number : ℕ) → (before : List ℕ) → List ℕ
-paddingRow p number before = (number ∷ 0 ∷ 0 ∷ 0 ∷ 0 ∷ 0 ∷ []) ++ haltDecoder p before ++ take 19 (drop 30 before)
+paddingRow p number before = reduced ((number ∷ 0 ∷ 0 ∷ 0 ∷ 0 ∷ 0 ∷ []) ++ haltDecoder p before ++ take 19 (drop 30 before))
 
 -- n padding rows, the first of them having the given number
 unfoldable pub paddingRows : Profile → (n number : ℕ) → (before : List ℕ) → List (List ℕ)
@@ -126,10 +129,6 @@ unfoldable pub padded : Profile → (height : ℕ) → List (List ℕ) → List 
 padded p height rows = rows ++ paddingRows p (height - length rows) (length rows) (lastRow rows)
 
 -- WHAT THE PASSES REFUSE
-
--- Refusal 1: a cell of the first n rows, as far as they are in the buffer, is no cell
-unfoldable pub rowsBig : (n : ℕ) → (buffer : List ℕ) → Bool
-rowsBig n buffer = anyFrom P (take (49 * n) buffer)
 
 -- Refusal 11: "buffer no multiple of 49, over 2^24 rows"
 unfoldable pub bufferWrong : (cells : ℕ) → Bool
@@ -160,7 +159,7 @@ abbrev pub noFragment : List ℕ → Bool
 noFragment [] = true
 noFragment (count ∷ counts) = false
 
--- the first refusal of a list that holds, 0 where none does: "The finishing passes check 1, 2, 11, 26, 25, 14."
+-- the first refusal of a list that holds, 0 where none does: "The finishing passes check 1, 2, 11, 26, 25, 14.", and 1 cannot be (N2)
 unfoldable pub firstOf : List (Bool × ℕ) → ℕ
 firstOf [] = 0
 firstOf ((true, number) ∷ rest) = number
@@ -171,11 +170,10 @@ unfoldable pub fragmentsWrong : (cells size : ℕ) → (counts built : List ℕ)
 fragmentsWrong cells size counts built =
     bufferWrong cells || (fewerRows cells (sumOf counts) || (eqb size 0 || (anyAbove size counts || ltb (length built) (25 * length counts))))
 
-unfoldable pub refusal1 : (buffer : List ℕ) → (size : ℕ) → (counts built top : List ℕ) → ℕ
-refusal1 buffer size counts built top =
+unfoldable pub refusal1 : (buffer : List ℕ) → (size : ℕ) → (counts built : List ℕ) → ℕ
+refusal1 buffer size counts built =
     firstOf
-    ((rowsBig (sumOf counts) buffer || (anyFrom P built || anyFrom P top), 1)
-    ∷ (fragmentsWrong (length buffer) size counts built, 11)
+    ((fragmentsWrong (length buffer) size counts built, 11)
     ∷ (noFragment counts, 26)
     ∷ (notFull size counts, 25)
     ∷ [])
@@ -183,29 +181,26 @@ refusal1 buffer size counts built top =
 unfoldable pub refusal2 : Profile → (buffer : List ℕ) → (rows : ℕ) → ℕ
 refusal2 p buffer rows =
     firstOf
-    ((rowsBig rows buffer, 1)
-    ∷ (profileWrong p, 2)
+    ((profileWrong p, 2)
     ∷ (bufferWrong (length buffer) || fewerRows (length buffer) rows, 11)
     ∷ (loopWithoutBody p (rowsOf rows buffer), 14)
     ∷ [])
 
 unfoldable pub refusal3 : (buffer : List ℕ) → (rows : ℕ) → ℕ
 refusal3 buffer rows =
-    firstOf ((rowsBig rows buffer, 1) ∷ (bufferWrong (length buffer) || fewerRows (length buffer) rows, 11) ∷ [])
+    firstOf ((bufferWrong (length buffer) || fewerRows (length buffer) rows, 11) ∷ [])
 
-unfoldable pub refusal4 : Profile → (buffer : List ℕ) → (rows : ℕ) → (built : List ℕ) → ℕ
-refusal4 p buffer rows built =
+unfoldable pub refusal4 : Profile → (buffer : List ℕ) → (rows : ℕ) → ℕ
+refusal4 p buffer rows =
     firstOf
-    ((rowsBig rows buffer || anyFrom P built, 1)
-    ∷ (profileWrong p, 2)
+    ((profileWrong p, 2)
     ∷ (bufferWrong (length buffer) || fewerRows (length buffer) (rows + 1), 11)
     ∷ [])
 
 unfoldable pub refusal5 : Profile → (buffer : List ℕ) → (rows height : ℕ) → ℕ
 refusal5 p buffer rows height =
     firstOf
-    ((rowsBig rows buffer, 1)
-    ∷ (profileWrong p, 2)
+    ((profileWrong p, 2)
     ∷ (bufferWrong (length buffer) || (eqb rows 0 || (ltb height rows || fewerRows (length buffer) height)), 11)
     ∷ [])
 
@@ -220,11 +215,10 @@ unlessRefused (suc n) before after = before
 unfoldable pub heightWrong : (cells rows height : ℕ) → Bool
 heightWrong cells rows height = leb height rows || fewerRows cells height
 
-unfoldable pub refusalAll : Profile → (buffer : List ℕ) → (size : ℕ) → (counts built top : List ℕ) → (height : ℕ) → ℕ
-refusalAll p buffer size counts built top height =
+unfoldable pub refusalAll : Profile → (buffer : List ℕ) → (size : ℕ) → (counts built : List ℕ) → (height : ℕ) → ℕ
+refusalAll p buffer size counts built height =
     firstOf
-    ((rowsBig (sumOf counts) buffer || (anyFrom P built || anyFrom P top), 1)
-    ∷ (profileWrong p, 2)
+    ((profileWrong p, 2)
     ∷ (fragmentsWrong (length buffer) size counts built || heightWrong (length buffer) (sumOf counts) height, 11)
     ∷ (noFragment counts, 26)
     ∷ (notFull size counts, 25)

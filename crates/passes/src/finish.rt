@@ -1,6 +1,5 @@
 // The finisher: all checks of the five finishing passes first, and then all five in order.
 use crate::buffer::fewer_rows;
-use crate::fixup::any_cell_big;
 use crate::fixup::fixup_rows;
 use crate::fixup::fragments_wrong;
 use crate::fixup::no_fragment;
@@ -33,14 +32,10 @@ fn finish_refusal(
     fragment_size: usize,
     counts: &[u32],
     built: &[u64],
-    first_stack_top: [u64; 16],
     height: usize,
 ) -> u32
-    ensures { λ r. ⌜ r ≡ refusalAll profile (now (buffer .entry)) «fragment_size» (now (counts .entry)) (now (built .entry)) «first_stack_top» height ⌝ }
+    ensures { λ r. ⌜ r ≡ refusalAll profile (now (buffer .entry)) «fragment_size» (now (counts .entry)) (now (built .entry)) height ⌝ }
 {
-    if any_cell_big(buffer, counts, built, first_stack_top) {
-        return 1;
-    }
     if is_wrong(profile) {
         return 2;
     }
@@ -98,18 +93,10 @@ pub fn finish(
     first_stack_top: [u64; 16],
     height: usize,
 ) -> u32
-    ensures { λ r. ⌜ r ≡ refusalAll profile (now (buffer .entry)) «fragment_size» (now (counts .entry)) (now (built .entry)) «first_stack_top» height ⌝ }
-    ensures { λ _. ⌜ now (buffer .exit) ≡ unlessRefused (refusalAll profile (now (buffer .entry)) «fragment_size» (now (counts .entry)) (now (built .entry)) «first_stack_top» height) (now (buffer .entry)) (allPasses profile «fragment_size» (now (counts .entry)) (now (built .entry)) «first_stack_top» height (now (buffer .entry))) ⌝ }
+    ensures { λ r. ⌜ r ≡ refusalAll profile (now (buffer .entry)) «fragment_size» (now (counts .entry)) (now (built .entry)) height ⌝ }
+    ensures { λ _. ⌜ now (buffer .exit) ≡ unlessRefused (refusalAll profile (now (buffer .entry)) «fragment_size» (now (counts .entry)) (now (built .entry)) height) (now (buffer .entry)) (allPasses profile «fragment_size» (now (counts .entry)) (now (built .entry)) «first_stack_top» height (now (buffer .entry))) ⌝ }
 {
-    let number = finish_refusal(
-        profile,
-        buffer,
-        fragment_size,
-        counts,
-        built,
-        first_stack_top,
-        height,
-    );
+    let number = finish_refusal(profile, buffer, fragment_size, counts, built, height);
     if number != 0 {
         return number;
     }

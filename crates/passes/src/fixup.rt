@@ -1,18 +1,15 @@
 // Finishing pass 1: the system and stack cells of each fragment's first row.
-use crate::buffer::rows_big;
-use field::cell::any_big;
 use groups::number::number;
 use records::row::copy_in;
 use records::row::fragment_wrong;
 ghost use mathlib.Core.Path.{_≡_};
-ghost use mathlib.Core.Bool.{false, _||_};
+ghost use mathlib.Core.Bool.{false};
 ghost use Prim.Native.Nat.{_+_, _-_, _*_, _≤_, _<_, min};
 ghost use lib.ListN.{length, getD, take, drop};
-ghost use Rattle.field.specs.Modulus.{P};
-ghost use Rattle.field.specs.Bounds.{anyFrom};
+ghost use Rattle.field.specs.Cells.{reduced};
 ghost use Rattle.records.specs.Cells.{putRow};
 ghost use Rattle.passes.specs.Buffers.{onRows};
-ghost use Rattle.passes.specs.Passes.{withSides, firstRow, laterRows, fixedUp, builtOf, rowsBig, sumOf, anyAbove, notFull, noFragment, fragmentsWrong, refusal1, unlessRefused};
+ghost use Rattle.passes.specs.Passes.{withSides, firstRow, laterRows, fixedUp, builtOf, sumOf, anyAbove, notFull, noFragment, fragmentsWrong, refusal1, unlessRefused};
 
 // The row count of fragment i, 0 past the last.
 fn count_at(counts: &[u32], i: usize) -> usize
@@ -37,19 +34,6 @@ pub(crate) fn sum_up_to(cap: usize, counts: &[u32]) -> usize
         i += 1;
     }
     sum
-}
-
-// Refusal 1 of pass 1.
-pub(crate) fn any_cell_big(
-    buffer: &[u64],
-    counts: &[u32],
-    built: &[u64],
-    first_stack_top: [u64; 16],
-) -> bool
-    ensures { λ r. ⌜ r ≡ (rowsBig (sumOf (now (counts .entry))) (now (buffer .entry)) || (anyFrom P (now (built .entry)) || anyFrom P «first_stack_top»)) ⌝ }
-{
-    let rows = sum_up_to(buffer.len() / 49 + 1, counts);
-    rows_big(buffer, rows) | (any_big(built) | any_big(&first_stack_top))
 }
 
 // Whether a fragment's count is above the limit.
@@ -105,18 +89,9 @@ pub(crate) fn not_full(fragment_size: usize, counts: &[u32]) -> bool
 }
 
 // The number that pass 1 answers.
-fn fixup_refusal(
-    buffer: &[u64],
-    fragment_size: usize,
-    counts: &[u32],
-    built: &[u64],
-    first_stack_top: [u64; 16],
-) -> u32
-    ensures { λ r. ⌜ r ≡ refusal1 (now (buffer .entry)) «fragment_size» (now (counts .entry)) (now (built .entry)) «first_stack_top» ⌝ }
+fn fixup_refusal(buffer: &[u64], fragment_size: usize, counts: &[u32], built: &[u64]) -> u32
+    ensures { λ r. ⌜ r ≡ refusal1 (now (buffer .entry)) «fragment_size» (now (counts .entry)) (now (built .entry)) ⌝ }
 {
-    if any_cell_big(buffer, counts, built, first_stack_top) {
-        return 1;
-    }
     if fragments_wrong(buffer.len(), fragment_size, counts, built) {
         return 11;
     }
@@ -162,7 +137,7 @@ fn write_first_stack(buffer: &mut [u64], first_stack_top: [u64; 16])
 // The row gets a fragment's 25 built cells: 6 system cells and 19 stack cells.
 fn write_sides(buffer: &mut [u64], row: usize, cells: &[u64])
     requires { ⌜ (49 * row + 49 ≤ length (now buffer)) × (length (now cells) ≡ 25) ⌝ }
-    ensures { λ _. ⌜ now (buffer .exit) ≡ putRow (now (buffer .entry)) row (withSides (take 6 (now (cells .entry))) (drop 6 (now (cells .entry))) (take 49 (drop (49 * row) (now (buffer .entry))))) ⌝ }
+    ensures { λ _. ⌜ now (buffer .exit) ≡ putRow (now (buffer .entry)) row (withSides (take 6 (reduced (now (cells .entry)))) (drop 6 (reduced (now (cells .entry)))) (take 49 (drop (49 * row) (now (buffer .entry))))) ⌝ }
 {
     copy_in(buffer, 49 * row, &cells[..6]);
     copy_in(buffer, 49 * row + 30, &cells[6..]);
@@ -206,10 +181,10 @@ pub fn fixup_stack_and_system_rows(
     built: &[u64],
     first_stack_top: [u64; 16],
 ) -> u32
-    ensures number { λ r. ⌜ r ≡ refusal1 (now (buffer .entry)) «fragment_size» (now (counts .entry)) (now (built .entry)) «first_stack_top» ⌝ }
-    ensures cells { λ _. ⌜ now (buffer .exit) ≡ unlessRefused (refusal1 (now (buffer .entry)) «fragment_size» (now (counts .entry)) (now (built .entry)) «first_stack_top») (now (buffer .entry)) (onRows (sumOf (now (counts .entry))) (fixedUp «fragment_size» «first_stack_top» (builtOf (length (now (counts .entry)) - 1) (now (built .entry)))) (now (buffer .entry))) ⌝ }
+    ensures number { λ r. ⌜ r ≡ refusal1 (now (buffer .entry)) «fragment_size» (now (counts .entry)) (now (built .entry)) ⌝ }
+    ensures cells { λ _. ⌜ now (buffer .exit) ≡ unlessRefused (refusal1 (now (buffer .entry)) «fragment_size» (now (counts .entry)) (now (built .entry))) (now (buffer .entry)) (onRows (sumOf (now (counts .entry))) (fixedUp «fragment_size» «first_stack_top» (builtOf (length (now (counts .entry)) - 1) (now (built .entry)))) (now (buffer .entry))) ⌝ }
 {
-    let number = fixup_refusal(buffer, fragment_size, counts, built, first_stack_top);
+    let number = fixup_refusal(buffer, fragment_size, counts, built);
     if number != 0 {
         return number;
     }

@@ -1,11 +1,8 @@
 // The last two finishing passes: the HALT row behind the program's rows, and HALT rows up to the height.
 use crate::buffer::buffer_wrong;
 use crate::buffer::fewer_rows;
-use crate::buffer::rows_big;
-use field::cell::any_big;
-use field::cell::cell;
+use field::cell::number_at;
 use groups::word::Word;
-use groups::word::word_at;
 use records::decoder_row::DecoderRow;
 use records::profile::Profile;
 use records::profile::is_wrong;
@@ -19,7 +16,15 @@ ghost use lib.ListN.{length, take};
 ghost use Rattle.records.specs.DecoderRows.{noWord, controlFlow};
 ghost use Rattle.records.specs.Built.{systemCells, stackCells};
 ghost use Rattle.passes.specs.Buffers.{rowsOf, onRows, lastRow};
-ghost use Rattle.passes.specs.Passes.{firstHalf, halted, padded, refusal4, refusal5, unlessRefused};
+ghost use Rattle.passes.specs.Passes.{wordIn, firstHalf, halted, padded, refusal4, refusal5, unlessRefused};
+
+// The four numbers from `at` on, as they stand.
+fn word_in(cells: &[u64], at: usize) -> Word
+    requires { ⌜ at + 4 ≤ length (now cells) ⌝ }
+    ensures { λ r. ⌜ r ≡ wordIn (now (cells .entry)) at ⌝ }
+{
+    Word(cells[at], cells[at + 1], cells[at + 2], cells[at + 3])
+}
 
 // The first six cells as a row's system cells.
 fn system_of(cells: &[u64]) -> SystemCols
@@ -27,9 +32,9 @@ fn system_of(cells: &[u64]) -> SystemCols
     ensures { λ r. ⌜ systemCells r ≡ take 6 (now (cells .entry)) ⌝ }
 {
     SystemCols {
-        clk: cell(cells, 0),
-        ctx: cell(cells, 1),
-        fn_hash: word_at(cells, 2),
+        clk: number_at(cells, 0),
+        ctx: number_at(cells, 1),
+        fn_hash: word_in(cells, 2),
     }
 }
 
@@ -39,28 +44,28 @@ fn stack_of(cells: &[u64]) -> StackCols
     ensures { λ r. ⌜ stackCells r ≡ take 19 (now (cells .entry)) ⌝ }
 {
     let top = [
-        cell(cells, 0),
-        cell(cells, 1),
-        cell(cells, 2),
-        cell(cells, 3),
-        cell(cells, 4),
-        cell(cells, 5),
-        cell(cells, 6),
-        cell(cells, 7),
-        cell(cells, 8),
-        cell(cells, 9),
-        cell(cells, 10),
-        cell(cells, 11),
-        cell(cells, 12),
-        cell(cells, 13),
-        cell(cells, 14),
-        cell(cells, 15),
+        number_at(cells, 0),
+        number_at(cells, 1),
+        number_at(cells, 2),
+        number_at(cells, 3),
+        number_at(cells, 4),
+        number_at(cells, 5),
+        number_at(cells, 6),
+        number_at(cells, 7),
+        number_at(cells, 8),
+        number_at(cells, 9),
+        number_at(cells, 10),
+        number_at(cells, 11),
+        number_at(cells, 12),
+        number_at(cells, 13),
+        number_at(cells, 14),
+        number_at(cells, 15),
     ];
     StackCols {
         top,
-        b0: cell(cells, 16),
-        b1: cell(cells, 17),
-        h0: cell(cells, 18),
+        b0: number_at(cells, 16),
+        b1: number_at(cells, 17),
+        h0: number_at(cells, 18),
     }
 }
 
@@ -72,7 +77,7 @@ fn last_half(buffer: &[u64], rows: usize) -> Word
     if rows == 0 {
         return Word(0, 0, 0, 0);
     }
-    word_at(buffer, 49 * rows - 35)
+    word_in(buffer, 49 * rows - 35)
 }
 
 // The decoder part of a HALT row behind the first `rows` rows.
@@ -85,12 +90,9 @@ fn halt_decoder(profile: Profile, buffer: &[u64], rows: usize) -> DecoderRow
 }
 
 // What pass 4 refuses, 0 where it does not.
-fn halt_refusal(profile: Profile, buffer: &[u64], rows: usize, built: &[u64]) -> u32
-    ensures { λ r. ⌜ r ≡ refusal4 profile (now (buffer .entry)) rows (now (built .entry)) ⌝ }
+fn halt_refusal(profile: Profile, buffer: &[u64], rows: usize) -> u32
+    ensures { λ r. ⌜ r ≡ refusal4 profile (now (buffer .entry)) rows ⌝ }
 {
-    if rows_big(buffer, rows) | any_big(built) {
-        return 1;
-    }
     if is_wrong(profile) {
         return 2;
     }
@@ -118,10 +120,10 @@ pub fn push_halt_opcode_row(
     rows: usize,
     built: [u64; 25],
 ) -> u32
-    ensures { λ r. ⌜ r ≡ refusal4 profile (now (buffer .entry)) rows built ⌝ }
-    ensures { λ _. ⌜ now (buffer .exit) ≡ unlessRefused (refusal4 profile (now (buffer .entry)) rows built) (now (buffer .entry)) (onRows rows (halted profile built) (now (buffer .entry))) ⌝ }
+    ensures { λ r. ⌜ r ≡ refusal4 profile (now (buffer .entry)) rows ⌝ }
+    ensures { λ _. ⌜ now (buffer .exit) ≡ unlessRefused (refusal4 profile (now (buffer .entry)) rows) (now (buffer .entry)) (onRows rows (halted profile built) (now (buffer .entry))) ⌝ }
 {
-    let refusal = halt_refusal(profile, buffer, rows, &built);
+    let refusal = halt_refusal(profile, buffer, rows);
     if refusal != 0 {
         return refusal;
     }
@@ -133,9 +135,6 @@ pub fn push_halt_opcode_row(
 fn padding_refusal(profile: Profile, buffer: &[u64], rows: usize, height: usize) -> u32
     ensures { λ r. ⌜ r ≡ refusal5 profile (now (buffer .entry)) rows height ⌝ }
 {
-    if rows_big(buffer, rows) {
-        return 1;
-    }
     if is_wrong(profile) {
         return 2;
     }

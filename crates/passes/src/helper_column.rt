@@ -1,7 +1,6 @@
 // The third finishing pass: each helper cell becomes its inverse, 0 staying 0.
 use crate::buffer::buffer_wrong;
 use crate::buffer::fewer_rows;
-use crate::buffer::rows_big;
 use field::inverse::invert_column;
 ghost use mathlib.Core.Path.{_≡_};
 ghost use Prim.Native.Nat.{_*_, _≤_};
@@ -13,9 +12,6 @@ ghost use Rattle.passes.specs.Passes.{inverted, refusal3, unlessRefused}
 fn helper_refusal(buffer: &[u64], rows: usize) -> u32
     ensures { λ r. ⌜ r ≡ refusal3 (now (buffer .entry)) rows ⌝ }
 {
-    if rows_big(buffer, rows) {
-        return 1;
-    }
     if buffer_wrong(buffer.len()) | fewer_rows(buffer.len(), rows) {
         return 11;
     }

@@ -4,8 +4,8 @@
 // the address behind it; the LOOP rows taken then look their counts up.
 use crate::buffer::buffer_wrong;
 use crate::buffer::fewer_rows;
-use crate::buffer::rows_big;
 use field::cell::cell;
+use field::cell::number_at;
 use records::profile::Profile;
 use records::profile::is_wrong;
 ghost use mathlib.Core.Path.{_≡_};
@@ -133,7 +133,7 @@ fn count_ends(profile: Profile, buffer: &[u64], rows: usize, keys: &[u64]) -> [u
 fn count_of(keys: &[u64], counts: &[u64], x: u64) -> u64
     ensures { λ r. ⌜ (Ordered (now (keys .entry)) → 0 < occurrences x (now (keys .entry)) → (count : ℕ → ℕ) → Tallied (now (keys .entry)) (now (counts .entry)) count → r ≡ count x) ⌝ }
 {
-    cell(counts, sorted::lower(keys, x))
+    number_at(counts, sorted::lower(keys, x))
 }
 
 // Whether the count of a LOOP row from `from` to `next` is 0.
@@ -231,9 +231,6 @@ pub(crate) fn write_multiplicities(profile: Profile, buffer: &mut [u64], rows: u
 fn multiplicity_refusal(profile: Profile, buffer: &[u64], rows: usize) -> u32
     ensures { λ r. ⌜ r ≡ refusal2 profile (now (buffer .entry)) rows ⌝ }
 {
-    if rows_big(buffer, rows) {
-        return 1;
-    }
     if is_wrong(profile) {
         return 2;
     }

@@ -8,7 +8,9 @@ use native.Mathlib.Omega.{arith}
 use borrow.Author.Tests.{eq-eqb, ne-eqb}
 use lib.Dec.{eqb, ltb}
 use lib.ListN.{length, getD, take, drop}
-use lib.Seq.{getD-drop}
+use Rattle.field.specs.Modulus.{P}
+use Rattle.field.specs.Cells.{cellAt, reduced}
+use Rattle.field.proofs.CellLaws.{cell-drop}
 use Rattle.groups.specs.Answer.{pick}
 use Rattle.records.specs.declared.profile.Profile.{Profile}
 use Rattle.records.specs.Profiles.{isOneOf}
@@ -25,8 +27,9 @@ use Rattle.reader.proofs.RowTokens.{row-of, Something, tag, among}
 -- CELLS
 
 -- cell k of row i
-pub cell-of : (cells : List ℕ) (i k : ℕ) → i < length cells / 49 → k < 49 → getD (rowAt (allRows cells) i) k 0 ≡ getD cells (49 * i + k) 0
-cell-of cells i k h l = ap (λ (row : List ℕ). getD row k 0) (row-of cells i h) ∙ row-cell cells i k l
+pub cell-of : (cells : List ℕ) (i k : ℕ) → i < length cells / 49 → k < 49 → cellAt (rowAt (allRows cells) i) k ≡ cellAt cells (49 * i + k)
+unfolding cellAt
+cell-of cells i k h l = ap (λ (row : List ℕ). getD row k 0 % P) (row-of cells i h) ∙ ap (λ (x : ℕ). x % P) (row-cell cells i k l)
 
 -- its opcode, of 7 bits
 pub opcode-of : (cells : List ℕ) (i : ℕ) → i < length cells / 49 → opcodeOf (rowAt (allRows cells) i) ≡ opcodeOf (rowIn i cells)
@@ -39,8 +42,8 @@ abbrev bit : ℕ → Bool
 bit x = ltb x 2
 
 seven-bits : (l : List ℕ)
-    → allBits (take 7 l) ≡ (bit (getD l 0 0) && (bit (getD l 1 0) && (bit (getD l 2 0) && (bit (getD l 3 0) && (bit (getD l 4 0) && (bit (getD l 5 0) && bit (getD l 6 0)))))))
-unfolding allBits
+    → allBits (reduced (take 7 l)) ≡ (bit (cellAt l 0) && (bit (cellAt l 1) && (bit (cellAt l 2) && (bit (cellAt l 3) && (bit (cellAt l 4) && (bit (cellAt l 5) && bit (cellAt l 6)))))))
+unfolding allBits reduced cellAt
 seven-bits [] = refl
 seven-bits (a ∷ []) = refl
 seven-bits (a ∷ b ∷ []) = refl
@@ -48,15 +51,15 @@ seven-bits (a ∷ b ∷ c ∷ []) = refl
 seven-bits (a ∷ b ∷ c ∷ d ∷ []) = refl
 seven-bits (a ∷ b ∷ c ∷ d ∷ e ∷ []) = refl
 seven-bits (a ∷ b ∷ c ∷ d ∷ e ∷ f ∷ []) = refl
-seven-bits (a ∷ b ∷ c ∷ d ∷ e ∷ f ∷ g ∷ l) = rw (and-true (bit g))
+seven-bits (a ∷ b ∷ c ∷ d ∷ e ∷ f ∷ g ∷ l) = rw (and-true (bit (g % P)))
 
 pub bits-of : (cells : List ℕ) (i : ℕ) → i < length cells / 49
     → allBits (inSpanOf (rowAt (allRows cells) i) ∷ opBitsOf (rowAt (allRows cells) i))
-    ≡ (bit (getD cells (49 * i + 22) 0) && (bit (getD cells (49 * i + 7) 0) && (bit (getD cells (49 * i + 8) 0) && (bit (getD cells (49 * i + 9) 0) && (bit (getD cells (49 * i + 10) 0) && (bit (getD cells (49 * i + 11) 0) && (bit (getD cells (49 * i + 12) 0) && bit (getD cells (49 * i + 13) 0))))))))
+    ≡ (bit (cellAt cells (49 * i + 22)) && (bit (cellAt cells (49 * i + 7)) && (bit (cellAt cells (49 * i + 8)) && (bit (cellAt cells (49 * i + 9)) && (bit (cellAt cells (49 * i + 10)) && (bit (cellAt cells (49 * i + 11)) && (bit (cellAt cells (49 * i + 12)) && bit (cellAt cells (49 * i + 13)))))))))
 unfolding allBits
 bits-of cells i h =
     let row : List ℕ = rowAt (allRows cells) i in
-    let at : (k : ℕ) → 7 + k < 49 → getD (drop 7 row) k 0 ≡ getD cells (49 * i + (7 + k)) 0 = λ k l. getD-drop 7 row k 0 ∙ cell-of cells i (7 + k) h l in
+    let at : (k : ℕ) → 7 + k < 49 → cellAt (drop 7 row) k ≡ cellAt cells (49 * i + (7 + k)) = λ k l. cell-drop 7 row k ∙ cell-of cells i (7 + k) h l in
     rw (seven-bits (drop 7 row), cell-of cells i 22 h (omega arith), at 0 (omega arith), at 1 (omega arith), at 2 (omega arith), at 3 (omega arith), at 4 (omega arith), at 5 (omega arith), at 6 (omega arith))
 
 -- KINDS

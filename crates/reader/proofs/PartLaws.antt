@@ -8,7 +8,8 @@ use mathlib.Core.Option.{Option}
 use native.Mathlib.Nat.{zero-add}
 use native.Mathlib.Decide.{decLt}
 use lib.Dec.{eqb}
-use lib.ListN.{length, getD}
+use lib.ListN.{length}
+use Rattle.field.specs.Cells.{cellAt}
 use Rattle.readings.specs.Tokens.{OneChild, Kind, Token, start, repeat, end, halt, nothing}
 use Rattle.readings.specs.Readings.{Ops, Block, Passes, spellOps, spell, spellPasses, depthOf, depthOfPasses, flag, passesIn, endRowOf, asksOf, asksOfPasses, rowAt}
 use Rattle.readings.specs.Answers.{Answer, refused}
@@ -243,7 +244,7 @@ module _ (rows : List (List ℕ)) (w : List Token) where
   pub ops-more : (row wanted : ℕ) → OneOf (4 ∷ 5 ∷ []) (tag (kindOf (tokenIn w row))) → row < length w → (r : Part) → OpsRight rows w (row + 1) wanted r → OpsRight rows w row wanted r
   ops-more row wanted h i r x = more-by (tokenIn w row) row wanted refl h i r x
 
-  pub ops-end : (row wanted : ℕ) → tokenIn w row ≡ end → row < length w → OpsRight rows w row wanted (Done (row + 1) (wrongUnless (eqb (getD (rowAt rows row) 18 0) wanted) row))
+  pub ops-end : (row wanted : ℕ) → tokenIn w row ≡ end → row < length w → OpsRight rows w row wanted (Done (row + 1) (wrongUnless (eqb (cellAt (rowAt rows row) 18) wanted) row))
   unfolding OpsRight spellOps endRowOf
   ops-end row wanted e i = (Ops.ended row, rows-at w row _ e i, flag-alone rows row wanted)
 
@@ -291,13 +292,13 @@ module _ (rows : List (List ℕ)) (w : List Token) where
       one-refused number at f = rw f (λ s. right-next row _ _ _ e i refl ∙ (rw f at h) (child k row ∷ s))
 
       one-end : (b : Block) (a : ℕ) (v : Wrong) → rowsFrom w (row + 1) ≡ spell b (rowsFrom w a) → depthOf b ≤ d → rowOfWrong v ≡ firstWrong rows (asksOf 0 b []) → tokenIn w a ≡ end →
-          BlockRight rows w row (suc d) wanted (Done (a + 1) (earlier v (wrongUnless (eqb (getD (rowAt rows a) 18 0) wanted) a)))
+          BlockRight rows w row (suc d) wanted (Done (a + 1) (earlier v (wrongUnless (eqb (cellAt (rowAt rows a) 18) wanted) a)))
       unfolding BlockRight spell depthOf asksOf kindOf
       one-end b a v f g u j = (
         Block.one k row b a,
         rows-at w row _ e i ∙ ap (λ r. (row, start (Kind.one k)) ∷ r) (f ∙ ap (spell b) (rows-at w a end j (token-inside w a end j tt))),
         omega arith,
-        earlier-row v (wrongUnless (eqb (getD (rowAt rows a) 18 0) wanted) a)
+        earlier-row v (wrongUnless (eqb (cellAt (rowAt rows a) 18) wanted) a)
             ∙ ap (orElse (rowOfWrong v)) (flag-alone rows a wanted)
             ∙ sym (block-wrong rows b 0 (rowOfWrong v) (flag a wanted ∷ []) u),
       )
@@ -307,11 +308,11 @@ module _ (rows : List (List ℕ)) (w : List Token) where
       one-no b a f g l n =
           λ s. right-next row _ _ _ e i refl ∙ right-block b d (row + 1) a (child k row ∷ s) (full d s (only k row b)) f g refl ∙ right-fails a (full d s (only k row b)) l (no-end-only d s k row b a (tokenIn w a) n)
 
-      pub one-closed : (a : ℕ) (v : Wrong) → x ≡ Done a v → a ≤ length w → BlockRight rows w row (suc d) wanted (closed (kindOf (tokenIn w a)) a (getD (rowAt rows a) 18 0) wanted v)
+      pub one-closed : (a : ℕ) (v : Wrong) → x ≡ Done a v → a ≤ length w → BlockRight rows w row (suc d) wanted (closed (kindOf (tokenIn w a)) a (cellAt (rowAt rows a) 18) wanted v)
       unfolding BlockRight
       one-closed a v f l =
           let (b, p, g, u) = rw f at h in
-          closing (BlockRight rows w row (suc d) wanted) a (getD (rowAt rows a) 18 0) wanted v (tokenIn w a) (one-end b a v p g u) (one-no b a p g l)
+          closing (BlockRight rows w row (suc d) wanted) a (cellAt (rowAt rows a) 18) wanted v (tokenIn w a) (one-end b a v p g u) (one-no b a p g l)
 
     -- two
     module _ (e : tokenIn w row ≡ start Kind.join) (x : Part) (h : BlockRight rows w (row + 1) d 0 x) where
@@ -328,15 +329,15 @@ module _ (rows : List (List ℕ)) (w : List Token) where
 
         join-end : (b b′ : Block) (n : ℕ) (v′ : Wrong) → rowsFrom w (row + 1) ≡ spell b (rowsFrom w a) → rowsFrom w a ≡ spell b′ (rowsFrom w n) → depthOf b ≤ d → depthOf b′ ≤ d →
             rowOfWrong v ≡ firstWrong rows (asksOf 0 b []) → rowOfWrong v′ ≡ firstWrong rows (asksOf 0 b′ []) → tokenIn w n ≡ end →
-            BlockRight rows w row (suc d) wanted (Done (n + 1) (earlier (earlier v v′) (wrongUnless (eqb (getD (rowAt rows n) 18 0) wanted) n)))
+            BlockRight rows w row (suc d) wanted (Done (n + 1) (earlier (earlier v v′) (wrongUnless (eqb (cellAt (rowAt rows n) 18) wanted) n)))
         unfolding BlockRight spell depthOf asksOf kindOf
         join-end b b′ n v′ p p′ g g′ u u′ j = (
           Block.join row b b′ n,
           rows-at w row _ e i ∙ ap (λ r. (row, start Kind.join) ∷ r) (p ∙ ap (spell b) (p′ ∙ ap (spell b′) (rows-at w n end j (token-inside w n end j tt)))),
           omega arith,
-          earlier-row (earlier v v′) (wrongUnless (eqb (getD (rowAt rows n) 18 0) wanted) n)
-              ∙ ap (λ o. orElse o (rowOfWrong (wrongUnless (eqb (getD (rowAt rows n) 18 0) wanted) n))) (earlier-row v v′)
-              ∙ else-assoc (rowOfWrong v) (rowOfWrong v′) (rowOfWrong (wrongUnless (eqb (getD (rowAt rows n) 18 0) wanted) n))
+          earlier-row (earlier v v′) (wrongUnless (eqb (cellAt (rowAt rows n) 18) wanted) n)
+              ∙ ap (λ o. orElse o (rowOfWrong (wrongUnless (eqb (cellAt (rowAt rows n) 18) wanted) n))) (earlier-row v v′)
+              ∙ else-assoc (rowOfWrong v) (rowOfWrong v′) (rowOfWrong (wrongUnless (eqb (cellAt (rowAt rows n) 18) wanted) n))
               ∙ ap (λ o. orElse (rowOfWrong v) (orElse (rowOfWrong v′) o)) (flag-alone rows n wanted)
               ∙ ap (orElse (rowOfWrong v)) (sym (block-wrong rows b′ 0 (rowOfWrong v′) (flag n wanted ∷ []) u′))
               ∙ sym (block-wrong rows b 0 (rowOfWrong v) (asksOf 0 b′ (flag n wanted ∷ [])) u),
@@ -351,12 +352,12 @@ module _ (rows : List (List ℕ)) (w : List Token) where
             ∙ right-block b′ d a n (second row b ∷ s) (full d s (both row b b′)) p′ g′ refl
             ∙ right-fails n (full d s (both row b b′)) l (no-end-both d s row b b′ n (tokenIn w n) m)
 
-        pub join-closed : (n : ℕ) (v′ : Wrong) → y ≡ Done n v′ → n ≤ length w → BlockRight rows w row (suc d) wanted (closed (kindOf (tokenIn w n)) n (getD (rowAt rows n) 18 0) wanted (earlier v v′))
+        pub join-closed : (n : ℕ) (v′ : Wrong) → y ≡ Done n v′ → n ≤ length w → BlockRight rows w row (suc d) wanted (closed (kindOf (tokenIn w n)) n (cellAt (rowAt rows n) 18) wanted (earlier v v′))
         unfolding BlockRight
         join-closed n v′ g l =
             let (b, p, q, u) = rw f at h in
             let (b′, p′, q′, u′) = rw g at z in
-            closing (BlockRight rows w row (suc d) wanted) n (getD (rowAt rows n) 18 0) wanted (earlier v v′) (tokenIn w n) (join-end b b′ n v′ p p′ q q′ u u′) (join-no b b′ n p p′ q q′ l)
+            closing (BlockRight rows w row (suc d) wanted) n (cellAt (rowAt rows n) 18) wanted (earlier v v′) (tokenIn w n) (join-end b b′ n v′ p p′ q q′ u u′) (join-no b b′ n p p′ q q′ l)
 
     pub block-loop : tokenIn w row ≡ start Kind.loop → (r : Part) → PassesRight rows w row d wanted r → BlockRight rows w row (suc d) wanted r
     unfolding BlockRight PassesRight spell depthOf asksOf step opening enter
@@ -367,7 +368,7 @@ module _ (rows : List (List ℕ)) (w : List Token) where
 
   -- whether the count of the LOOP row is n
   abbrev counted : (loopRow n : ℕ) → Wrong
-  counted loopRow n = wrongUnless (eqb (getD (rowAt rows loopRow) 23 0) n) loopRow
+  counted loopRow n = wrongUnless (eqb (cellAt (rowAt rows loopRow) 23) n) loopRow
 
   -- what is right of Passes behind `before` passes, whose lowest wrong row is `so`
   pub PassesFrom : (loopRow row left wanted before : ℕ) → Wrong → Part → Type 0
@@ -399,11 +400,11 @@ module _ (rows : List (List ℕ)) (w : List Token) where
           ∙ ap (orElse (rowOfWrong so)) (sym (block-wrong rows b 1 (rowOfWrong v) (flag a wanted ∷ []) u))
 
       pub pass-last : tokenIn w a ≡ end → a < length w →
-          PassesFrom loopRow row left wanted before so (Done (a + 1) (earlier (counted loopRow (before + 1)) (earlier (earlier so v) (wrongUnless (eqb (getD (rowAt rows a) 18 0) wanted) a))))
+          PassesFrom loopRow row left wanted before so (Done (a + 1) (earlier (counted loopRow (before + 1)) (earlier (earlier so v) (wrongUnless (eqb (cellAt (rowAt rows a) 18) wanted) a))))
       unfolding BlockRight PassesFrom spellPasses depthOfPasses passesIn asksOfPasses
       pass-last e i =
           let (b, p, g, u) = rw f at h in
-          let own : Wrong = wrongUnless (eqb (getD (rowAt rows a) 18 0) wanted) a in (
+          let own : Wrong = wrongUnless (eqb (cellAt (rowAt rows a) 18) wanted) a in (
             Passes.ended b a,
             p ∙ ap (spell b) (rows-at w a end e i),
             g,

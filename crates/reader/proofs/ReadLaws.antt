@@ -9,10 +9,8 @@ use native.Mathlib.Omega.{arith}
 use borrow.Author.Tests.{eqb-true, eqb-false, ltb-true, ltb-false, eq-eqb, ne-eqb}
 use lib.Dec.{eqb, ltb}
 use lib.ListN.{length, drop, length-drop}
-use Rattle.field.specs.Modulus.{P}
 use Rattle.groups.specs.Answer.{pick}
 use Rattle.records.specs.declared.profile.Profile.{Profile}
-use Rattle.field.specs.Bounds.{anyFrom}
 use Rattle.records.specs.Profiles.{profileWrong}
 use Rattle.passes.specs.Passes.{bufferWrong, firstOf}
 use Rattle.passes.proofs.Checks.{neither, none-first}
@@ -152,7 +150,7 @@ module _ (p : Profile) (cells : List ℕ) (depths : ℕ) where
   unfolding answer unlessBadInput cellsAnswer wordIn
   good-answer f = rw f refl
 
-  -- an answer of 0 is none of 1, 2 and 11
+  -- an answer of 0 is neither 2 nor 11
   good-by : (n : ℕ) → readerRefusal p cells depths ≡ n → numberOf (answer p cells depths) ≡ 0 → readerRefusal p cells depths ≡ 0
   unfolding numberOf
   good-by zero f h = f
@@ -185,8 +183,7 @@ module _ (p : Profile) (cells depths : List ℕ) (read : TraceRead) (k : read �
     unfolding bufferRefusal firstOf bufferWrong
     few-rows =
         let (f, g) = buffer-passes p cells (length depths) passed in
-        let (i, j) = none-first (anyFrom P cells) 0 ((profileWrong p, 2) ∷ (bufferWrong (length cells), 11) ∷ []) f in
-        let (k, l) = none-first (profileWrong p) 1 ((bufferWrong (length cells), 11) ∷ []) j in
+        let (k, l) = none-first (profileWrong p) 1 ((bufferWrong (length cells), 11) ∷ []) f in
         let (m, n) = none-first (bufferWrong (length cells)) 10 [] l in
         ltb-false 16777216 (length cells / 49) (neither (ltb 0 (length cells % 49)) (ltb 16777216 (length cells / 49)) m .1)
 

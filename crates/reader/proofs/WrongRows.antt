@@ -5,7 +5,7 @@ use mathlib.Core.List.{List, [], _∷_}
 use mathlib.Core.Option.{Option, none, some}
 use Prim.Native.Nat.{ℕ}
 use lib.Dec.{eqb}
-use lib.ListN.{getD}
+use Rattle.field.specs.Cells.{cellAt}
 use Rattle.groups.specs.Answer.{pick}
 use Rattle.readings.specs.Readings.{Block, Ask, flag, count, asksOf, rowAt}
 use Rattle.readings.specs.Answers.{rowAsked}
@@ -35,17 +35,17 @@ unless-row false row o = refl
 
 module _ (rows : List (List ℕ)) where
   -- one ask in front of others
-  flag-wrong : (row value : ℕ) (rest : List Ask) → firstWrong rows (flag row value ∷ rest) ≡ orElse (rowOfWrong (wrongUnless (eqb (getD (rowAt rows row) 18 0) value) row)) (firstWrong rows rest)
+  flag-wrong : (row value : ℕ) (rest : List Ask) → firstWrong rows (flag row value ∷ rest) ≡ orElse (rowOfWrong (wrongUnless (eqb (cellAt (rowAt rows row) 18) value) row)) (firstWrong rows rest)
   unfolding firstWrong isMet rowAsked
-  flag-wrong row value rest = unless-row (eqb (getD (rowAt rows row) 18 0) value) row (firstWrong rows rest)
+  flag-wrong row value rest = unless-row (eqb (cellAt (rowAt rows row) 18) value) row (firstWrong rows rest)
 
-  pub count-wrong : (row value : ℕ) (rest : List Ask) → firstWrong rows (count row value ∷ rest) ≡ orElse (rowOfWrong (wrongUnless (eqb (getD (rowAt rows row) 23 0) value) row)) (firstWrong rows rest)
+  pub count-wrong : (row value : ℕ) (rest : List Ask) → firstWrong rows (count row value ∷ rest) ≡ orElse (rowOfWrong (wrongUnless (eqb (cellAt (rowAt rows row) 23) value) row)) (firstWrong rows rest)
   unfolding firstWrong isMet rowAsked
-  count-wrong row value rest = unless-row (eqb (getD (rowAt rows row) 23 0) value) row (firstWrong rows rest)
+  count-wrong row value rest = unless-row (eqb (cellAt (rowAt rows row) 23) value) row (firstWrong rows rest)
 
-  pub flag-alone : (row value : ℕ) → rowOfWrong (wrongUnless (eqb (getD (rowAt rows row) 18 0) value) row) ≡ firstWrong rows (flag row value ∷ [])
+  pub flag-alone : (row value : ℕ) → rowOfWrong (wrongUnless (eqb (cellAt (rowAt rows row) 18) value) row) ≡ firstWrong rows (flag row value ∷ [])
   unfolding firstWrong
-  flag-alone row value = sym (flag-wrong row value [] ∙ else-none (rowOfWrong (wrongUnless (eqb (getD (rowAt rows row) 18 0) value) row)))
+  flag-alone row value = sym (flag-wrong row value [] ∙ else-none (rowOfWrong (wrongUnless (eqb (cellAt (rowAt rows row) 18) value) row)))
 
   -- a tree's asks in front of others
   pub block-wrong : (b : Block) (g : ℕ) (o : Option ℕ) (rest : List Ask) → o ≡ firstWrong rows (asksOf g b []) → firstWrong rows (asksOf g b rest) ≡ orElse o (firstWrong rows rest)

@@ -19,7 +19,7 @@ use Rattle.reader.specs.declared.trace.TraceRead.{TraceRead}
 unfoldable pub traceRead : Answer → TraceRead
 traceRead a = record { number = numberOf a; row = rowOf a; «program_rows» = programRowsOf a }
 
--- the answer of a buffer that 1, 2 and 11 pass
+-- the answer of a buffer that 2 and 11 pass
 unfoldable pub cellsAnswer : Profile → (cells : List ℕ) → Answer
 cellsAnswer p cells = answerOfWord (allRows cells) (readWord (wordIn p cells))
 

@@ -6,7 +6,8 @@ use records::profile::Profile;
 ghost use mathlib.Core.Path.{_≡_};
 ghost use Prim.Native.Nat.{_/_, _<_, _≤_};
 ghost use lib.Dec.{eqb};
-ghost use lib.ListN.{length, getD};
+ghost use lib.ListN.{length};
+ghost use Rattle.field.specs.Cells.{cellAt};
 ghost use Rattle.readings.specs.Readings.{rowAt, allRows};
 ghost use Rattle.reader.specs.Rows.{kindOf, tokenAt, wordIn};
 ghost use Rattle.reader.specs.Parts.{earlier, wrongUnless, tooDeep, closed, OpsRead, BlockRead, PassesRead};
@@ -36,7 +37,7 @@ fn first(a: Wrong, b: Wrong) -> Wrong
 // Whether cell k of a row is as asked.
 fn ask(cells: &[u64], row: usize, k: usize, value: u64) -> Wrong
     requires { ⌜ (row < length (now cells) / 49) × (k < 49) ⌝ }
-    ensures { λ r. ⌜ r ≡ wrongUnless (eqb (getD (rowAt (allRows (now (cells .entry))) row) k 0) value) row ⌝ }
+    ensures { λ r. ⌜ r ≡ wrongUnless (eqb (cellAt (rowAt (allRows (now (cells .entry))) row) k) value) row ⌝ }
 {
     if cell(cells, 49 * row + k) == value {
         Wrong::Nowhere
@@ -62,7 +63,7 @@ fn too_deep(kind: RowKind, row: usize) -> Part
 
 // The END of a block; `flag` is what its h4 has to be, `wrong` the lowest wrong row of the block's parts.
 fn close(profile: Profile, cells: &[u64], row: usize, flag: u64, wrong: Wrong) -> Part
-    ensures { λ r. ⌜ r ≡ closed (kindOf (tokenAt profile (now (cells .entry)) row)) row (getD (rowAt (allRows (now (cells .entry))) row) 18 0) flag wrong ⌝ }
+    ensures { λ r. ⌜ r ≡ closed (kindOf (tokenAt profile (now (cells .entry)) row)) row (cellAt (rowAt (allRows (now (cells .entry))) row) 18) flag wrong ⌝ }
 {
     let kind = row_kind(profile, cells, row);
     if let RowKind::End = kind {

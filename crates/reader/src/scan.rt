@@ -1,17 +1,13 @@
-// Refusals 1, 2 and 11 of a buffer that is read.
-use field::cell::any_big;
+// Refusals 2 and 11 of a buffer that is read.
 use records::profile::Profile;
 use records::profile::is_wrong;
 ghost use mathlib.Core.Path.{_≡_};
 ghost use Rattle.readings.specs.Answers.{readerRefusal};
 
-// The first of 1, 2 and 11 that holds, else 0; `depths` is how many depth numbers are lent.
+// The first of 2 and 11 that holds, else 0; `depths` is how many depth numbers are lent.
 pub(crate) fn refusal(profile: Profile, cells: &[u64], depths: usize) -> u32
     ensures { λ r. ⌜ r ≡ readerRefusal profile (now (cells .entry)) depths ⌝ }
 {
-    if any_big(cells) {
-        return 1;
-    }
     if is_wrong(profile) {
         return 2;
     }

@@ -68,7 +68,7 @@ fn behind_block(profile: Profile, cells: &[u64], next: usize, wrong: Wrong) -> T
     }
 }
 
-// The answer of a buffer that 1, 2 and 11 pass.
+// The answer of a buffer that 2 and 11 pass.
 pub(crate) fn read_cells(profile: Profile, cells: &[u64]) -> TraceRead
     ensures { λ r. ⌜ r ≡ traceRead (cellsAnswer profile (now (cells .entry))) ⌝ }
 {
@@ -83,7 +83,7 @@ pub(crate) fn read_cells(profile: Profile, cells: &[u64]) -> TraceRead
     }
 }
 
-// The answer of a reader that is lent so many depth numbers, without writing them: 1, 2, 11, then 12, 15 or 13, else accepted.
+// The answer of a reader that is lent so many depth numbers, without writing them: 2, 11, then 12, 15 or 13, else accepted.
 pub fn validate(profile: Profile, cells: &[u64], depths: usize) -> TraceRead
     ensures { λ r. ⌜ r ≡ traceRead (answer profile (now (cells .entry)) depths) ⌝ }
 {

@@ -6,7 +6,7 @@
 // changes of single cells 17 to 22, each a place and a number; the rows from 23, each as opcode, in_span, h4 and group_count.
 use crate::given::fill;
 use crate::given::profile_of;
-use field::cell::cell;
+use field::cell::number_at;
 use lists::copies::copy;
 use lists::copies::put;
 use lists::text::item;
@@ -103,8 +103,8 @@ fn depths_right(v: &[u64], at: usize, rows: usize, depths: &[u32]) -> bool {
 fn view_right(v: &[u64], at: usize, input: &[u64], buffer: &[u64]) -> bool {
     let cells = lent(input, CELLS, buffer.len());
     let part = row(&buffer[..cells], item(input, ASKED, 0) as usize);
-    ((part.len() as u64 == item(v, at, 0)) & (cell(part, 0) == item(v, at, 1)))
-        & (cell(part, 48) == item(v, at, 2))
+    ((part.len() as u64 == item(v, at, 0)) & (number_at(part, 0) == item(v, at, 1)))
+        & (number_at(part, 48) == item(v, at, 2))
 }
 
 // Whether reading answers what stands at `at`: number, row and program rows.

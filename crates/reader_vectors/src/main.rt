@@ -16,6 +16,8 @@ fn vectors(name: &[u8]) {
 fn main() {
     vectors(b"listing");
     vectors(b"lengths");
+    vectors(b"cells_a");
+    vectors(b"cells_b");
     vectors(b"faults_a");
     vectors(b"faults_b");
     vectors(b"faults_c");

@@ -8,9 +8,7 @@ use native.Mathlib.Omega.{arith}
 use borrow.Author.Tests.{ltb-false, le-ltb}
 use lib.Dec.{ltb}
 use lib.ListN.{length, drop}
-use Rattle.field.specs.Modulus.{P}
 use Rattle.records.specs.declared.profile.Profile.{Profile}
-use Rattle.field.specs.Bounds.{anyFrom}
 use Rattle.records.specs.Profiles.{profileWrong}
 use Rattle.passes.specs.Buffers.{rowsOf}
 use Rattle.passes.proofs.Checks.{none-first}
@@ -43,10 +41,9 @@ pub buffer-passes : (p : Profile) (cells : List ℕ) (depths : ℕ) → readerRe
 unfolding readerRefusal bufferRefusal firstOf
 buffer-passes p cells depths e =
     let wrong = bufferWrong (length cells) || ltb depths (length cells / 49) in
-    let (f, g) = none-first (anyFrom P cells) 0 ((profileWrong p, 2) ∷ (wrong, 11) ∷ []) e in
-    let (h, i) = none-first (profileWrong p) 1 ((wrong, 11) ∷ []) g in
+    let (h, i) = none-first (profileWrong p) 1 ((wrong, 11) ∷ []) e in
     let (j, k) = passes-11 (bufferWrong (length cells)) (ltb depths (length cells / 49)) i in
-    (rw (f, h) j, ltb-false depths (length cells / 49) k)
+    (rw h j, ltb-false depths (length cells / 49) k)
 
 pub accepted-trace : (p : Profile) (cells : List ℕ) (depths : ℕ) (b : Block) → Right p cells depths (accepted b) → Trace p cells b
 unfolding Trace

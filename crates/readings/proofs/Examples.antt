@@ -1,13 +1,14 @@
 -- Examples: the listing of document 01's C10 as a trace, and one of each refusal.
 use mathlib.Core.Path.{_≡_, refl}
 use mathlib.Core.Bool.{Bool, true, false}
-use mathlib.Core.List.{List, [], _∷_, _++_}
-use Prim.Native.Nat.{ℕ, _/_, _%_}
+use mathlib.Core.List.{List, [], _∷_, _++_, map}
+use Prim.Native.Nat.{ℕ, _+_, _/_, _%_}
 use native.Mathlib.Omega.{arith}
 use lib.ListN.{length, take, set, replicate}
 use Rattle.field.specs.Modulus.{P}
 use Rattle.records.specs.declared.profile.Profile.{Profile}
 use Rattle.field.specs.Bounds.{anyFrom}
+use Rattle.field.specs.Cells.{cellAt, reduced}
 use Rattle.records.specs.Profiles.{opcodes, isOneOf, twoEqual, profileWrong, lacksBits}
 use Rattle.passes.specs.Buffers.{rowsOf, flat}
 use Rattle.passes.specs.Passes.{opcodeOf, lowBits, bufferWrong, firstOf}
@@ -70,7 +71,7 @@ abbrev pub readRows : List (List ℕ) → Answer
 readRows rows = answer profile (flat rows) (length rows)
 
 pub listing-read : readRows listing ≡ accepted reading
-unfolding answer unlessBadInput answerOfWord answerOfCells firstWrong isMet asks asksOf passesIn endRowOf rowAsked readWord wordAnswer afterBlock afterHalt ifHalt parse step give close opsWith passesWith opening enter atRepeat numbered allRows tokensOf tokenOf allBits controlToken opToken isOpOpcode controlOpcodes controls tokenBeside readerRefusal flat rowsOf firstOf anyFrom profileWrong opcodes twoEqual isOneOf lacksBits bufferWrong opcodeOf lowBits listing row reading
+unfolding answer unlessBadInput answerOfWord answerOfCells firstWrong isMet asks asksOf passesIn endRowOf rowAsked readWord wordAnswer afterBlock afterHalt ifHalt parse step give close opsWith passesWith opening enter atRepeat numbered allRows tokensOf tokenOf allBits controlToken opToken isOpOpcode controlOpcodes controls tokenBeside readerRefusal flat rowsOf firstOf anyFrom cellAt reduced profileWrong opcodes twoEqual isOneOf lacksBits bufferWrong opcodeOf lowBits listing row reading
 listing-read = refl
 
 -- so it is a trace, with 9 program rows and these depths
@@ -94,7 +95,7 @@ pub no-words :
     × (readRows (but 2 (row 5 2 3 0 0)) ≡ refused 12 2)
     × (readRows (but 7 (set (row 112 0 5 1 0) 8 2)) ≡ refused 12 7)
     × (readRows (but 4 (row 120 0 1 1 0)) ≡ refused 12 4)
-unfolding answer unlessBadInput answerOfWord answerOfCells firstWrong isMet asks asksOf passesIn endRowOf rowAsked readWord wordAnswer afterBlock afterHalt ifHalt parse step give close opsWith passesWith opening enter atRepeat numbered allRows tokensOf tokenOf allBits controlToken opToken isOpOpcode controlOpcodes controls tokenBeside readerRefusal flat rowsOf firstOf anyFrom profileWrong opcodes twoEqual isOneOf lacksBits bufferWrong opcodeOf lowBits listing row
+unfolding answer unlessBadInput answerOfWord answerOfCells firstWrong isMet asks asksOf passesIn endRowOf rowAsked readWord wordAnswer afterBlock afterHalt ifHalt parse step give close opsWith passesWith opening enter atRepeat numbered allRows tokensOf tokenOf allBits controlToken opToken isOpOpcode controlOpcodes controls tokenBeside readerRefusal flat rowsOf firstOf anyFrom cellAt reduced profileWrong opcodes twoEqual isOneOf lacksBits bufferWrong opcodeOf lowBits listing row
 no-words = (refl, refl, refl, refl, refl, refl)
 
 -- a count one short and one more; h4 of 0 and of 2 in a body's END, of 1 in another; a flag and a count wrong: the lower row
@@ -105,13 +106,25 @@ pub wrong-cells :
     × (readRows (but 7 (row 112 0 5 2 0)) ≡ refused 13 7)
     × (readRows (but 8 (row 112 0 1 1 0)) ≡ refused 13 8)
     × (readRows (set (but 7 (row 112 0 5 2 0)) 0 (row 85 0 0 0 1)) ≡ refused 13 0)
-unfolding answer unlessBadInput answerOfWord answerOfCells firstWrong isMet asks asksOf passesIn endRowOf rowAsked readWord wordAnswer afterBlock afterHalt ifHalt parse step give close opsWith passesWith opening enter atRepeat numbered allRows tokensOf tokenOf allBits controlToken opToken isOpOpcode controlOpcodes controls tokenBeside readerRefusal flat rowsOf firstOf anyFrom profileWrong opcodes twoEqual isOneOf lacksBits bufferWrong opcodeOf lowBits listing row
+unfolding answer unlessBadInput answerOfWord answerOfCells firstWrong isMet asks asksOf passesIn endRowOf rowAsked readWord wordAnswer afterBlock afterHalt ifHalt parse step give close opsWith passesWith opening enter atRepeat numbered allRows tokensOf tokenOf allBits controlToken opToken isOpOpcode controlOpcodes controls tokenBeside readerRefusal flat rowsOf firstOf anyFrom cellAt reduced profileWrong opcodes twoEqual isOneOf lacksBits bufferWrong opcodeOf lowBits listing row
 wrong-cells = (refl, refl, refl, refl, refl, refl)
 
--- a cell from p on, also in a partial last row; a step of 0; a partial last row; a depth number too few
+-- rows with each number p more
+abbrev pub raised : List (List ℕ) → List (List ℕ)
+raised rows = map (map (λ (x : ℕ). x + P)) rows
+
+-- "the reading of a trace is that of its reduced cells": the listing with each number p more; a count, a flag and a bit that are wrong reduced
+pub unreduced :
+    (readRows (raised listing) ≡ accepted reading)
+    × (readRows (but 0 (row 85 0 0 0 (P + 1))) ≡ refused 13 0)
+    × (readRows (but 7 (row 112 0 5 P 0)) ≡ refused 13 7)
+    × (readRows (but 7 (set (row 112 0 5 1 0) 8 (P + 2))) ≡ refused 12 7)
+unfolding answer unlessBadInput answerOfWord answerOfCells firstWrong isMet asks asksOf passesIn endRowOf rowAsked readWord wordAnswer afterBlock afterHalt ifHalt parse step give close opsWith passesWith opening enter atRepeat numbered allRows tokensOf tokenOf allBits controlToken opToken isOpOpcode controlOpcodes controls tokenBeside readerRefusal flat rowsOf firstOf anyFrom cellAt reduced profileWrong opcodes twoEqual isOneOf lacksBits bufferWrong opcodeOf lowBits listing row reading
+unreduced = (refl, refl, refl, refl)
+
+-- a step of 0; a partial last row; a depth number too few
 pub bad-inputs :
-    (answer profile (flat listing ++ (P ∷ [])) 10 ≡ refused 1 0)
-    × (answer (record {
+    (answer (record {
       span = 86;
       respan = 120;
       join = 87;
@@ -129,8 +142,8 @@ pub bad-inputs :
     }) (flat listing) 10 ≡ refused 2 0)
     × (answer profile (flat listing ++ (0 ∷ [])) 11 ≡ refused 11 0)
     × (answer profile (flat listing) 9 ≡ refused 11 0)
-unfolding answer unlessBadInput answerOfWord answerOfCells firstWrong isMet asks asksOf passesIn endRowOf rowAsked readWord wordAnswer afterBlock afterHalt ifHalt parse step give close opsWith passesWith opening enter atRepeat numbered allRows tokensOf tokenOf allBits controlToken opToken isOpOpcode controlOpcodes controls tokenBeside readerRefusal flat rowsOf firstOf anyFrom profileWrong opcodes twoEqual isOneOf lacksBits bufferWrong opcodeOf lowBits listing row
-bad-inputs = (refl, refl, refl, refl)
+unfolding answer unlessBadInput answerOfWord answerOfCells firstWrong isMet asks asksOf passesIn endRowOf rowAsked readWord wordAnswer afterBlock afterHalt ifHalt parse step give close opsWith passesWith opening enter atRepeat numbered allRows tokensOf tokenOf allBits controlToken opToken isOpOpcode controlOpcodes controls tokenBeside readerRefusal flat rowsOf firstOf anyFrom cellAt reduced profileWrong opcodes twoEqual isOneOf lacksBits bufferWrong opcodeOf lowBits listing row
+bad-inputs = (refl, refl, refl)
 
 -- n blocks of one child around a SPAN
 abbrev pub around : (n : ℕ) → List Token

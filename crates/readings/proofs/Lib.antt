@@ -14,4 +14,5 @@ pub mod RightAnswer
 pub mod DepthsCounted
 pub mod AcceptedTraces
 pub mod TokenLaws
+pub mod ReducedCells
 pub mod Examples

@@ -5,9 +5,7 @@ use mathlib.Core.List.{List, [], _∷_, _++_, List·Memᴰ}
 use Prim.Native.Nat.{ℕ, suc, pred, _/_, _≤_, _<_}
 use lib.Dec.{ltb}
 use lib.ListN.{length, drop}
-use Rattle.field.specs.Modulus.{P}
 use Rattle.records.specs.declared.profile.Profile.{Profile}
-use Rattle.field.specs.Bounds.{anyFrom}
 use Rattle.records.specs.Profiles.{profileWrong}
 use Rattle.passes.specs.Passes.{bufferWrong, firstOf}
 use Rattle.readings.specs.Tokens.{Kind, Token, start, repeat, end, halt, nothing, tokensOf}
@@ -18,15 +16,14 @@ pub data Answer : Type 0 where
   accepted : Block → Answer
   refused : (number row : ℕ) → Answer
 
--- 1, 2 AND 11
+-- 2 AND 11
 
--- what a reader refuses before it reads: "1 input cell ≥ p, used or not", a partial last row included; "2 profile"; "11 lengths: buffer no
--- multiple of 49, over 2^24 rows, .. fewer depth numbers than rows". 0 where none holds
+-- what a reader refuses before it reads: "2 profile"; "11 lengths: buffer no multiple of 49, over 2^24 rows, .. fewer depth numbers than
+-- rows". 0 where none holds
 unfoldable pub readerRefusal : Profile → (cells : List ℕ) → (depths : ℕ) → ℕ
 readerRefusal p cells depths =
     firstOf
-    ((anyFrom P cells, 1)
-    ∷ (profileWrong p, 2)
+    ((profileWrong p, 2)
     ∷ (bufferWrong (length cells) || ltb depths (length cells / 49), 11)
     ∷ [])
 
@@ -91,7 +88,7 @@ LowestWrong rows l n =
 
 -- THE RIGHT ANSWER
 
--- with 1, 2 and 11 the row is 0
+-- with 2 and 11 the row is 0
 pub data Right (p : Profile) (cells : List ℕ) (depths : ℕ) : Answer → Type 0 where
   badInput : (number : ℕ) → readerRefusal p cells depths ≡ suc number → Right p cells depths (refused (suc number) 0)
   noWord : (n : ℕ) → readerRefusal p cells depths ≡ 0 → NoWordAt (tokensOf p (allRows cells)) n → Right p cells depths (refused 12 n)

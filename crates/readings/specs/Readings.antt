@@ -3,9 +3,7 @@ use mathlib.Core.Path.{_≡_}
 use mathlib.Core.List.{List, [], _∷_, List·Memᴰ}
 use Prim.Native.Nat.{ℕ, suc, _-_, _/_, _≤_, max}
 use lib.ListN.{length, getD, replicate}
-use Rattle.field.specs.Modulus.{P}
 use Rattle.records.specs.declared.profile.Profile.{Profile}
-use Rattle.field.specs.Bounds.{anyFrom}
 use Rattle.records.specs.Profiles.{profileWrong}
 use Rattle.passes.specs.Buffers.{rowsOf, h4Of}
 use Rattle.passes.specs.Passes.{bufferWrong, firstOf}
@@ -176,16 +174,16 @@ AllMet rows l = (a : Ask) → List·Memᴰ a l → Meets rows a
 unfoldable pub Reading : Profile → (rows : List (List ℕ)) → Block → Type 0
 Reading p rows b = Word (tokensOf p rows) b × (depthOf b ≤ 64) × AllMet rows (asks b)
 
--- what refuses a buffer: "1 input cell ≥ p, used or not"; "2 profile"; "11 lengths: buffer no multiple of 49, over 2^24 rows". 0 where it
--- passes
+-- what refuses a buffer: "2 profile"; "11 lengths: buffer no multiple of 49, over 2^24 rows". 0 where it passes. Every number is read as a cell, so
+-- 1 cannot be
 unfoldable pub bufferRefusal : Profile → (cells : List ℕ) → ℕ
-bufferRefusal p cells = firstOf ((anyFrom P cells, 1) ∷ (profileWrong p, 2) ∷ (bufferWrong (length cells), 11) ∷ [])
+bufferRefusal p cells = firstOf ((profileWrong p, 2) ∷ (bufferWrong (length cells), 11) ∷ [])
 
 -- all rows of a buffer
 unfoldable pub allRows : (cells : List ℕ) → List (List ℕ)
 allRows cells = rowsOf (length cells / 49) cells
 
--- "A trace is one Block, at most 64 deep, and one or more HALT, in a buffer that 1, 2 and 11 pass", with flags and counts as asked; the
--- tree b is its reading
+-- "A trace is one Block, at most 64 deep, and one or more HALT, in a buffer that 1, 2 and 11 pass" (1 cannot be, N2), with flags and counts as
+-- asked; the tree b is its reading
 unfoldable pub Trace : Profile → (cells : List ℕ) → Block → Type 0
 Trace p cells b = (bufferRefusal p cells ≡ 0) × Reading p (allRows cells) b

@@ -3,7 +3,8 @@ use mathlib.Core.Bool.{Bool, true, not, _&&_}
 use mathlib.Core.List.{List, [], _∷_, map}
 use Prim.Native.Nat.{ℕ}
 use lib.Dec.{ltb, eqb}
-use lib.ListN.{take, drop, getD}
+use lib.ListN.{take, drop}
+use Rattle.field.specs.Cells.{cellAt, reduced}
 use Rattle.groups.specs.Answer.{pick}
 use Rattle.records.specs.declared.profile.Profile.{Profile}
 use Rattle.records.specs.Profiles.{isOneOf}
@@ -72,15 +73,16 @@ isOpOpcode p opcode = not (isOneOf opcode (controlOpcodes p))
 unfoldable pub opToken : Profile → (opcode : ℕ) → Token
 opToken p opcode = pick (isOpOpcode p opcode) (op opcode) nothing
 
--- cells of a row by their places: "in_span, group_count" behind "h0 to h7"; the seven op bits behind addr
+-- cells of a row by their places: "in_span, group_count" behind "h0 to h7"; the seven op bits behind addr. "the reading of a trace is that of
+-- its reduced cells" (N2)
 abbrev pub inSpanOf : List ℕ → ℕ
-inSpanOf row = getD row 22 0
+inSpanOf row = cellAt row 22
 
 abbrev pub countOf : List ℕ → ℕ
-countOf row = getD row 23 0
+countOf row = cellAt row 23
 
 abbrev pub opBitsOf : List ℕ → List ℕ
-opBitsOf row = take 7 (drop 7 row)
+opBitsOf row = reduced (take 7 (drop 7 row))
 
 -- "Other in_span or op-bit cells than 0 and 1 fit nothing."
 unfoldable pub allBits : List ℕ → Bool

@@ -4,8 +4,9 @@ use mathlib.Core.Bool.{Bool}
 use mathlib.Core.List.{List}
 use Prim.Native.Nat.{ℕ, _+_, _*_, _/_, _%_}
 use lib.Dec.{ltb}
-use lib.ListN.{length, getD}
+use lib.ListN.{length}
 use Rattle.field.specs.Modulus.{P}
+use Rattle.field.specs.Cells.{read, cellAt}
 use Rattle.groups.specs.Answer.{Answer, accepted, refused, andThen, pick}
 use Rattle.records.specs.declared.replay.DecoderState.{DecoderState}
 use Rattle.records.specs.declared.replay.Positions.{Positions}
@@ -15,6 +16,10 @@ use Rattle.records.specs.declared.replay.Started.{Started}
 use Rattle.records.specs.declared.replay.StartStep.{StartStep}
 use Rattle.records.specs.declared.replay.Ended.{Ended}
 use Rattle.records.specs.declared.replay.EndStep.{EndStep}
+
+-- an address state as it comes in (N2)
+unfoldable pub readState : DecoderState → DecoderState
+readState state = record { «current_addr» = read (state .«current_addr»); «parent_addr» = read (state .«parent_addr») }
 
 -- the three lent queues
 pub record Queues : Type 0 where
@@ -27,7 +32,7 @@ queues addresses parents ends = record { addresses = addresses; parents = parent
 
 -- the entry of a queue of single cells at a position, or the refusal of an empty queue
 unfoldable pub entryAt : (refusal : ℕ) → (queue : List ℕ) → ℕ → Answer ℕ
-entryAt refusal queue at = pick (ltb at (length queue)) (accepted (getD queue at 0)) (refused refusal)
+entryAt refusal queue at = pick (ltb at (length queue)) (accepted (cellAt queue at)) (refused refusal)
 
 -- "20, 21 (current and parent address from their queues)"
 unfoldable pub startedAt : (addresses parents : List ℕ) → Positions → Answer DecoderState
@@ -45,9 +50,9 @@ unfoldable pub endAt : (ends : List ℕ) → ℕ → Answer NodeEndData
 endAt ends at =
     pick (ltb at (length ends / 3))
     (accepted (record {
-      «ended_node_addr» = getD ends (3 * at) 0;
-      «prev_addr» = getD ends (3 * at + 1) 0;
-      «prev_parent_addr» = getD ends (3 * at + 2) 0;
+      «ended_node_addr» = cellAt ends (3 * at);
+      «prev_addr» = cellAt ends (3 * at + 1);
+      «prev_parent_addr» = cellAt ends (3 * at + 2);
     }))
     (refused 22)
 

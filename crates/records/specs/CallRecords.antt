@@ -28,7 +28,8 @@ use Rattle.records.specs.Forests.{nodeId}
 
 -- A RECORD
 
--- "each of 32 bits": a number over that is refused by what it should have named
+-- "each of 32 bits": a number over that is refused by what it should have named: a node (3), a batch (5), an operation (6), else it encodes
+-- no call (23)
 unfoldable pub of32 : (refusal : ℕ) → ℕ → Answer ℕ
 of32 refusal x = pick (ltb x 4294967296) (accepted x) (refused refusal)
 
@@ -44,7 +45,7 @@ calleeIn r = pick (eqb (getD r 7 0) 1) (CalleeWord.Is (wordAt r 8)) CalleeWord.A
 unfoldable pub infoIn : List ℕ → Answer ContextInfo
 infoIn r =
     pick (eqb (getD r 12 0) 1)
-    (andThen (of32 1 (getD r 13 0)) (λ depth.
+    (andThen (of32 23 (getD r 13 0)) (λ depth.
     accepted (ContextInfo.Is (record { «stack_depth» = depth; «next_overflow_addr» = getD r 14 0 }))))
     (accepted ContextInfo.Absent)
 
@@ -72,22 +73,28 @@ continuationOn r kind id =
     (pick (eqb kind 9) (accepted (Continuation.FinishBasicBlock id))
     (refused 23)))))))))
 
--- number 1 the kind, number 2 the node: no such node (3)
+-- the kinds are 1 to 10
+unfoldable pub namesNoKind : ℕ → Bool
+namesNoKind kind = eqb kind 0 || ltb 10 kind
+
+-- number 1 the kind, number 2 the node: no such node (3). What stands behind a number that names no kind is not read
 unfoldable pub continuationIn : List ℕ → Answer Continuation
 continuationIn r =
-    pick (eqb (getD r 1 0) 10)
+    pick (namesNoKind (getD r 1 0))
+    (refused 23)
+    (pick (eqb (getD r 1 0) 10)
     (accepted Continuation.EnterForest)
-    (andThen (of32 3 (getD r 2 0)) (λ id. continuationOn r (getD r 1 0) (nodeId id)))
+    (andThen (of32 3 (getD r 2 0)) (λ id. continuationOn r (getD r 1 0) (nodeId id))))
 
 -- flag (5), condition (6), or presence of the word (7) or the info (12) is a number that names nothing
 unfoldable pub namesNothing : List ℕ → Bool
 namesNothing r = ltb 1 (getD r 5 0) || (ltb 2 (getD r 6 0) || (ltb 1 (getD r 7 0) || ltb 1 (getD r 12 0)))
 
--- "Where no order is named, the lowest number is answered.": 1, 3, 5, 6, 23
+-- "Where no order is named, the lowest number is answered.": 3, 5, 6, 23
 unfoldable pub storedInRecord : List ℕ → Answer StoredValues
 storedInRecord r =
-    andThen (infoIn r) (λ info.
     andThen (continuationIn r) (λ continuation.
+    andThen (infoIn r) (λ info.
     pick (namesNothing r)
     (refused 23)
     (accepted (record {
@@ -99,8 +106,8 @@ storedInRecord r =
 -- number 2 the clock row, 3 the context, 4 to 7 fn_hash
 unfoldable pub systemIn : List ℕ → Answer SystemState
 systemIn r =
-    andThen (of32 1 (getD r 2 0)) (λ clk.
-    andThen (of32 1 (getD r 3 0)) (λ ctx.
+    andThen (of32 23 (getD r 2 0)) (λ clk.
+    andThen (of32 23 (getD r 3 0)) (λ ctx.
     accepted (record { clk = record { 0 = clk }; ctx = record { 0 = ctx }; «fn_hash» = wordAt r 4 })))
 
 -- numbers 8 to 23 the top of the stack, last first, 25 the overflow address
@@ -150,11 +157,11 @@ pub data Call : Type 0 where
   stores : StoredValues → Call
   finishes : (forest : ℕ) → SystemState → StackState → OperationHelperRegisters → Call
 
--- a finish: number 1 the forest's number, 24 the depth. The lowest of 1 and 23
+-- a finish: number 1 the forest's number, 24 the depth
 unfoldable pub finishIn : List ℕ → Answer Call
 finishIn r =
     andThen (systemIn r) (λ system.
-    andThen (of32 1 (getD r 24 0)) (λ depth.
+    andThen (of32 23 (getD r 24 0)) (λ depth.
     andThen (registersIn r) (λ registers.
     accepted (finishes (getD r 1 0) system (stackIn r depth) registers))))
 
@@ -181,7 +188,7 @@ ReadAs32 r x = (n : ℕ) → toldSmall n r ≡ of32 n x
 
 abbrev pub toldInfo : InfoFound → Answer ContextInfo
 toldInfo (InfoFound.Is info) = accepted info
-toldInfo InfoFound.Over = refused 1
+toldInfo InfoFound.Over = refused 23
 
 abbrev pub toldContinuation : ContinuationFound → Answer Continuation
 toldContinuation (ContinuationFound.Is continuation) = accepted continuation
@@ -193,7 +200,7 @@ toldStored (StoredFound.Refused n) = refused n
 
 abbrev pub toldSystem : SystemFound → Answer SystemState
 toldSystem (SystemFound.Is system) = accepted system
-toldSystem SystemFound.Over = refused 1
+toldSystem SystemFound.Over = refused 23
 
 abbrev pub toldRegisters : RegistersFound → Answer OperationHelperRegisters
 toldRegisters (RegistersFound.Are registers) = accepted registers

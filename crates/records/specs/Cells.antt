@@ -5,6 +5,7 @@ use Prim.Native.Nat.{ℕ, _+_, _*_, _/_, _%_}
 use lib.Dec.{leb, ltb}
 use lib.ListN.{length, take, drop}
 use lib.Seq.{paste}
+use Rattle.field.specs.Cells.{reduced}
 use Rattle.groups.specs.Answer.{pick}
 use Rattle.records.specs.declared.decoder_row.DecoderRow.{DecoderRow}
 use Rattle.records.specs.declared.state.SystemCols.{SystemCols}
@@ -12,9 +13,9 @@ use Rattle.records.specs.declared.state.StackCols.{StackCols}
 use Rattle.records.specs.DecoderRows.{decoderCells}
 use Rattle.records.specs.Built.{systemCells, stackCells}
 
--- 6 system cells, 24 decoder cells, 19 stack cells
+-- 6 system cells, 24 decoder cells, 19 stack cells; "Every cell that a call writes is reduced" (N2)
 unfoldable pub rowCells : SystemCols → DecoderRow → StackCols → List ℕ
-rowCells system row stack = systemCells system ++ decoderCells row ++ stackCells stack
+rowCells system row stack = reduced (systemCells system ++ decoderCells row ++ stackCells stack)
 
 -- a buffer with the given cells in the place of row r
 unfoldable pub putRow : List ℕ → (r : ℕ) → (cells : List ℕ) → List ℕ
@@ -24,9 +25,13 @@ putRow buffer r cells = take (49 * r) buffer ++ cells ++ drop (49 * r + 49) buff
 unfoldable pub rowWritten : List ℕ → (r : ℕ) → (cells : List ℕ) → List ℕ
 rowWritten buffer r cells = pick (ltb r (length buffer / 49)) (putRow buffer r cells) buffer
 
--- cells copied in from index `at` on, where they fit
+-- numbers put in from index `at` on, where they fit
+unfoldable pub putIn : List ℕ → (at : ℕ) → (cells : List ℕ) → List ℕ
+putIn buffer at cells = pick (leb (at + length cells) (length buffer)) (paste buffer at cells (length cells)) buffer
+
+-- cells copied in from index `at` on, each reduced
 unfoldable pub copiedIn : List ℕ → (at : ℕ) → (cells : List ℕ) → List ℕ
-copiedIn buffer at cells = pick (leb (at + length cells) (length buffer)) (paste buffer at cells (length cells)) buffer
+copiedIn buffer at cells = putIn buffer at (reduced cells)
 
 -- Refusal 11 of a finish, of its fragment: "buffer no multiple of 49, over 2^24 rows, fewer rows than said"
 unfoldable pub fragmentWrong : (cells rows : ℕ) → Bool

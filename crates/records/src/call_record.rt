@@ -12,13 +12,13 @@ use crate::ids::MastNodeId;
 use crate::ids::RowIndex;
 use crate::state::StackState;
 use crate::state::SystemState;
-use field::cell::cell;
+use field::cell::number_at;
 use groups::helpers::OperationHelperRegisters;
 use groups::word::QuadFelt;
 use groups::word::Word;
 use groups::word::word_at;
 ghost use mathlib.Core.Path.{_≡_};
-ghost use Rattle.records.specs.CallRecords.{ReadAs32, conditionIn, calleeIn, infoIn, toldInfo, resumeIn, respanIn, continuationOn, continuationIn, toldContinuation, namesNothing, storedInRecord, toldStored, systemIn, toldSystem, stackIn, fewCells, manyCells, registersIn, toldRegisters};
+ghost use Rattle.records.specs.CallRecords.{ReadAs32, conditionIn, calleeIn, infoIn, toldInfo, resumeIn, respanIn, continuationOn, namesNoKind, continuationIn, toldContinuation, namesNothing, storedInRecord, toldStored, systemIn, toldSystem, stackIn, fewCells, manyCells, registersIn, toldRegisters};
 
 // A number of 32 bits.
 pub enum Small {
@@ -65,7 +65,7 @@ pub fn narrow(x: u64) -> Small
 fn condition_at(numbers: &[u64]) -> LoopCondition
     ensures { λ r. ⌜ r ≡ conditionIn (now (numbers .entry)) ⌝ }
 {
-    let c = cell(numbers, 6);
+    let c = number_at(numbers, 6);
     if c == 0 {
         return LoopCondition::Absent;
     }
@@ -76,26 +76,26 @@ fn condition_at(numbers: &[u64]) -> LoopCondition
 fn callee_at(numbers: &[u64]) -> CalleeWord
     ensures { λ r. ⌜ r ≡ calleeIn (now (numbers .entry)) ⌝ }
 {
-    if cell(numbers, 7) == 1 {
+    if number_at(numbers, 7) == 1 {
         return CalleeWord::Is(word_at(numbers, 8));
     }
     CalleeWord::Absent
 }
 
-// Number 12: 1 present; 13 the depth, 14 the next overflow address. A depth over 32 bits: 1.
+// Number 12: 1 present; 13 the depth, 14 the next overflow address. A depth over 32 bits: 23.
 fn info_at(numbers: &[u64]) -> InfoFound
     ensures { λ r. ⌜ toldInfo r ≡ infoIn (now (numbers .entry)) ⌝ }
 {
-    if cell(numbers, 12) != 1 {
+    if number_at(numbers, 12) != 1 {
         return InfoFound::Is(ContextInfo::Absent);
     }
-    let depth = narrow(cell(numbers, 13));
+    let depth = narrow(number_at(numbers, 13));
     let Small::Is(stack_depth) = depth else {
         return InfoFound::Over;
     };
     let info = ExecutionContextInfo {
         stack_depth,
-        next_overflow_addr: cell(numbers, 14),
+        next_overflow_addr: number_at(numbers, 14),
     };
     InfoFound::Is(ContextInfo::Is(info))
 }
@@ -104,11 +104,11 @@ fn info_at(numbers: &[u64]) -> InfoFound
 fn resume_at(numbers: &[u64], node_id: MastNodeId) -> ContinuationFound
     ensures { λ r. ⌜ toldContinuation r ≡ resumeIn (now (numbers .entry)) «node_id» ⌝ }
 {
-    let batch = narrow(cell(numbers, 3));
+    let batch = narrow(number_at(numbers, 3));
     let Small::Is(batch_index) = batch else {
         return ContinuationFound::Refused(5);
     };
-    let op = narrow(cell(numbers, 4));
+    let op = narrow(number_at(numbers, 4));
     let Small::Is(op_idx_in_batch) = op else {
         return ContinuationFound::Refused(6);
     };
@@ -123,7 +123,7 @@ fn resume_at(numbers: &[u64], node_id: MastNodeId) -> ContinuationFound
 fn respan_at(numbers: &[u64], node_id: MastNodeId) -> ContinuationFound
     ensures { λ r. ⌜ toldContinuation r ≡ respanIn (now (numbers .entry)) «node_id» ⌝ }
 {
-    let batch = narrow(cell(numbers, 3));
+    let batch = narrow(number_at(numbers, 3));
     let Small::Is(batch_index) = batch else {
         return ContinuationFound::Refused(5);
     };
@@ -151,15 +151,25 @@ fn continuation_on(numbers: &[u64], kind: u64, id: MastNodeId) -> ContinuationFo
     }
 }
 
-// Number 1 the kind, number 2 the node (3), which EnterForest has not.
+// Whether a number names none of the kinds 1 to 10.
+fn names_no_kind(kind: u64) -> bool
+    ensures { λ r. ⌜ r ≡ namesNoKind kind ⌝ }
+{
+    (kind == 0) | (10 < kind)
+}
+
+// Number 1 the kind (23), number 2 the node (3), which EnterForest has not.
 fn continuation_at(numbers: &[u64]) -> ContinuationFound
     ensures { λ r. ⌜ toldContinuation r ≡ continuationIn (now (numbers .entry)) ⌝ }
 {
-    let kind = cell(numbers, 1);
+    let kind = number_at(numbers, 1);
+    if names_no_kind(kind) {
+        return ContinuationFound::Refused(23);
+    }
     if kind == 10 {
         return ContinuationFound::Is(Continuation::EnterForest);
     }
-    let node = narrow(cell(numbers, 2));
+    let node = narrow(number_at(numbers, 2));
     let Small::Is(id) = node else {
         return ContinuationFound::Refused(3);
     };
@@ -170,22 +180,23 @@ fn continuation_at(numbers: &[u64]) -> ContinuationFound
 fn names_nothing(numbers: &[u64]) -> bool
     ensures { λ r. ⌜ r ≡ namesNothing (now (numbers .entry)) ⌝ }
 {
-    (1 < cell(numbers, 5))
-        | ((2 < cell(numbers, 6)) | ((1 < cell(numbers, 7)) | (1 < cell(numbers, 12))))
+    (1 < number_at(numbers, 5))
+        | ((2 < number_at(numbers, 6))
+            | ((1 < number_at(numbers, 7)) | (1 < number_at(numbers, 12))))
 }
 
-// What a storing is given, or the lowest number that holds of 1, 3, 5, 6 and 23.
+// What a storing is given, or the lowest number that holds of 3, 5, 6 and 23.
 pub fn stored_at(numbers: &[u64]) -> StoredFound
     ensures { λ r. ⌜ toldStored r ≡ storedInRecord (now (numbers .entry)) ⌝ }
 {
-    let found = info_at(numbers);
-    let InfoFound::Is(info) = found else {
-        return StoredFound::Refused(1);
-    };
     let next = continuation_at(numbers);
     match next {
         ContinuationFound::Refused(n) => StoredFound::Refused(n),
         ContinuationFound::Is(continuation) => {
+            let found = info_at(numbers);
+            let InfoFound::Is(info) = found else {
+                return StoredFound::Refused(23);
+            };
             if names_nothing(numbers) {
                 return StoredFound::Refused(23);
             }
@@ -198,22 +209,22 @@ pub fn stored_at(numbers: &[u64]) -> StoredFound
             };
             StoredFound::Are(StoredValues {
                 continuation,
-                is_loop_body: cell(numbers, 5) == 1,
+                is_loop_body: number_at(numbers, 5) == 1,
                 captured,
             })
         }
     }
 }
 
-// Number 2 the clock row, 3 the context, each of 32 bits (1), 4 to 7 fn_hash.
+// Number 2 the clock row, 3 the context, each of 32 bits (23), 4 to 7 fn_hash.
 pub fn system_at(numbers: &[u64]) -> SystemFound
     ensures { λ r. ⌜ toldSystem r ≡ systemIn (now (numbers .entry)) ⌝ }
 {
-    let row = narrow(cell(numbers, 2));
+    let row = narrow(number_at(numbers, 2));
     let Small::Is(clk) = row else {
         return SystemFound::Over;
     };
-    let context = narrow(cell(numbers, 3));
+    let context = narrow(number_at(numbers, 3));
     let Small::Is(ctx) = context else {
         return SystemFound::Over;
     };
@@ -230,27 +241,27 @@ pub fn stack_at(numbers: &[u64], stack_depth: u32) -> StackState
     ensures { λ r. ⌜ r ≡ stackIn (now (numbers .entry)) «stack_depth» ⌝ }
 {
     let stack_top = [
-        cell(numbers, 8),
-        cell(numbers, 9),
-        cell(numbers, 10),
-        cell(numbers, 11),
-        cell(numbers, 12),
-        cell(numbers, 13),
-        cell(numbers, 14),
-        cell(numbers, 15),
-        cell(numbers, 16),
-        cell(numbers, 17),
-        cell(numbers, 18),
-        cell(numbers, 19),
-        cell(numbers, 20),
-        cell(numbers, 21),
-        cell(numbers, 22),
-        cell(numbers, 23),
+        number_at(numbers, 8),
+        number_at(numbers, 9),
+        number_at(numbers, 10),
+        number_at(numbers, 11),
+        number_at(numbers, 12),
+        number_at(numbers, 13),
+        number_at(numbers, 14),
+        number_at(numbers, 15),
+        number_at(numbers, 16),
+        number_at(numbers, 17),
+        number_at(numbers, 18),
+        number_at(numbers, 19),
+        number_at(numbers, 20),
+        number_at(numbers, 21),
+        number_at(numbers, 22),
+        number_at(numbers, 23),
     ];
     StackState {
         stack_top,
         stack_depth,
-        overflow_addr: cell(numbers, 25),
+        overflow_addr: number_at(numbers, 25),
     }
 }
 
@@ -319,7 +330,7 @@ fn registers_of(kind: u64, a: Word, b: Word) -> RegistersFound
 pub fn registers_at(numbers: &[u64]) -> RegistersFound
     ensures { λ r. ⌜ toldRegisters r ≡ registersIn (now (numbers .entry)) ⌝ }
 {
-    let kind = cell(numbers, 0);
+    let kind = number_at(numbers, 0);
     let a = word_at(numbers, 26);
     let b = word_at(numbers, 30);
     registers_of(kind, a, b)

@@ -1,6 +1,10 @@
 // What is stored for a cycle.
 use crate::ids::MastNodeId;
+use field::felt::reduce;
 use groups::word::Word;
+use groups::word::read_word;
+ghost use mathlib.Core.Path.{_≡_};
+ghost use Rattle.records.specs.Captured.{readCallee, readInfo, readCaptured};
 
 pub enum Continuation {
     StartNode(MastNodeId),
@@ -45,11 +49,52 @@ pub enum ContextInfo {
     Is(ExecutionContextInfo),
 }
 
+// The word read modulo p.
+fn read_callee(callee: CalleeWord) -> CalleeWord
+    ensures { λ r. ⌜ r ≡ readCallee callee ⌝ }
+{
+    match callee {
+        CalleeWord::Absent => CalleeWord::Absent,
+        CalleeWord::Is(word) => CalleeWord::Is(read_word(word)),
+    }
+}
+
+// The next overflow address read modulo p.
+fn read_info(info: ContextInfo) -> ContextInfo
+    ensures { λ r. ⌜ r ≡ readInfo info ⌝ }
+{
+    match info {
+        ContextInfo::Absent => ContextInfo::Absent,
+        ContextInfo::Is(context) => ContextInfo::Is(ExecutionContextInfo {
+            stack_depth: context.stack_depth,
+            next_overflow_addr: reduce(context.next_overflow_addr),
+        }),
+    }
+}
+
 // The captured values that a row uses up.
 pub struct Captured {
     pub condition: LoopCondition,
     pub callee: CalleeWord,
     pub info: ContextInfo,
+}
+
+impl Captured {
+    // The captured values with their cells read modulo p.
+    pub fn read(self) -> Self
+        ensures { λ r. ⌜ r ≡ readCaptured self ⌝ }
+    {
+        let condition = self.condition;
+        let word = self.callee;
+        let callee = read_callee(word);
+        let context = self.info;
+        let info = read_info(context);
+        Self {
+            condition,
+            callee,
+            info,
+        }
+    }
 }
 
 // What storing is given.

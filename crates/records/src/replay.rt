@@ -1,9 +1,10 @@
 // The address state of the decoder, and the lent queues that move it: block addresses, parent addresses, and three cells an END.
 use field::cell::cell;
 use field::felt::add;
+use field::felt::reduce;
 ghost use mathlib.Core.Path.{_≡_};
 ghost use Prim.Native.Nat.{_+_, _*_, _≤_, _<_};
-ghost use Rattle.records.specs.Addresses.{startStep, endStep, respanStep, endAt, toldEnd};
+ghost use Rattle.records.specs.Addresses.{readState, startStep, endStep, respanStep, endAt, toldEnd};
 
 #[repr(C)]
 pub struct DecoderState {
@@ -124,6 +125,16 @@ fn end_step(state: DecoderState, ends: &[u64], at: Positions) -> EndStep
 }
 
 impl DecoderState {
+    // The addresses read modulo p.
+    pub fn read(self) -> Self
+        ensures { λ r. ⌜ r ≡ readState self ⌝ }
+    {
+        Self {
+            current_addr: reduce(self.current_addr),
+            parent_addr: reduce(self.parent_addr),
+        }
+    }
+
     // A node starts, on a lent state: from then on it names that node and its parent. 20, 21 leave it as it was.
     pub fn replay_node_start(
         &mut self,

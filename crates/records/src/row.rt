@@ -2,6 +2,7 @@
 use crate::decoder_row::DecoderRow;
 use crate::state::StackCols;
 use crate::state::SystemCols;
+use field::felt::reduce;
 ghost use mathlib.Core.Path.{_≡_};
 ghost use mathlib.Core.List.{_++_};
 ghost use Rattle.records.specs.DecoderRows.{extra0, extra1, decoderCells};
@@ -15,7 +16,7 @@ fn wide(x: u8) -> u64
     x as u64
 }
 
-// Copies all of `src` into `dst` from index `at` on; where it does not fit, nothing is changed.
+// Copies all of `src`, read modulo p, into `dst` from index `at` on; where it does not fit, nothing is changed.
 pub fn copy_in(dst: &mut [u64], at: usize, src: &[u64])
     ensures { λ _. ⌜ now (dst .exit) ≡ copiedIn (now (dst .entry)) at (now (src .entry)) ⌝ }
 {
@@ -27,7 +28,7 @@ pub fn copy_in(dst: &mut [u64], at: usize, src: &[u64])
     }
     let mut j = 0;
     while j < src.len() {
-        dst[at + j] = src[j];
+        dst[at + j] = reduce(src[j]);
         j += 1;
     }
 }

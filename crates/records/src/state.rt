@@ -1,10 +1,13 @@
 // What a cycle is given of the system and the stack, and the cells that are built of them for the next row.
 use crate::ids::ContextId;
 use crate::ids::RowIndex;
+use field::felt::reduce;
 use groups::word::Word;
+use groups::word::read_word;
+use groups::word::word_at;
 ghost use mathlib.Core.Path.{_≡_};
 ghost use Prim.Native.Nat.{_-_};
-ghost use Rattle.records.specs.Built.{builtSystem, builtStack, reversed16, noSystem, noStack};
+ghost use Rattle.records.specs.Built.{builtSystem, builtStack, reversed16, noSystem, noStack, readSystem, readStack, read16};
 
 pub struct SystemState {
     pub clk: RowIndex,
@@ -52,7 +55,19 @@ impl SystemCols {
         Self {
             clk: system.clk.0 as u64 + 1,
             ctx: system.ctx.0 as u64,
-            fn_hash,
+            fn_hash: read_word(fn_hash),
+        }
+    }
+
+    // The cells read modulo p.
+    pub fn read(self) -> Self
+        ensures { λ r. ⌜ r ≡ readSystem self ⌝ }
+    {
+        let hash = self.fn_hash;
+        Self {
+            clk: reduce(self.clk),
+            ctx: reduce(self.ctx),
+            fn_hash: read_word(hash),
         }
     }
 }
@@ -88,6 +103,34 @@ fn reversed(t: &[u64; 16]) -> [u64; 16]
     ]
 }
 
+// 16 cells read modulo p.
+fn read_top(t: [u64; 16]) -> [u64; 16]
+    ensures { λ r. ⌜ r ≡ read16 t ⌝ }
+{
+    let a = word_at(&t, 0);
+    let b = word_at(&t, 4);
+    let c = word_at(&t, 8);
+    let d = word_at(&t, 12);
+    [
+        a.0,
+        a.1,
+        a.2,
+        a.3,
+        b.0,
+        b.1,
+        b.2,
+        b.3,
+        c.0,
+        c.1,
+        c.2,
+        c.3,
+        d.0,
+        d.1,
+        d.2,
+        d.3,
+    ]
+}
+
 impl StackCols {
     // The cells before any row is built.
     pub fn zeros() -> Self
@@ -106,13 +149,28 @@ impl StackCols {
         ensures { λ r. ⌜ r ≡ builtStack stack ⌝ }
     {
         let t = stack.stack_top;
-        let top = reversed(&t);
+        let stored = reversed(&t);
+        let top = read_top(stored);
         let h0 = overflow_helper(stack.stack_depth);
         Self {
             top,
             b0: stack.stack_depth as u64,
-            b1: stack.overflow_addr,
+            b1: reduce(stack.overflow_addr),
             h0,
+        }
+    }
+
+    // The cells read modulo p.
+    pub fn read(self) -> Self
+        ensures { λ r. ⌜ r ≡ readStack self ⌝ }
+    {
+        let t = self.top;
+        let top = read_top(t);
+        Self {
+            top,
+            b0: reduce(self.b0),
+            b1: reduce(self.b1),
+            h0: reduce(self.h0),
         }
     }
 }

@@ -11,7 +11,7 @@ use crate::parts::fill_u8;
 use crate::parts::fill_u32;
 use crate::parts::part;
 use crate::parts::place;
-use field::cell::cell;
+use field::cell::number_at;
 use lists::copies::copy;
 use lists::copies::put_all;
 use lists::copies::same;
@@ -200,7 +200,7 @@ fn run(v: &[u64], at: usize) -> Ran
 
 // How many of the list's runs come out right.
 pub fn right(v: &[u64]) -> u64 {
-    let all = cell(v, 0);
+    let all = number_at(v, 0);
     let mut right: u64 = 0;
     let mut k: u64 = 0;
     let mut at: usize = 1;

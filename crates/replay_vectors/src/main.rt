@@ -1,5 +1,5 @@
-// Replays runs whose answers were made by the listed Rust, and records that are refused, one file of data/ a list, and writes how many
-// came out right.
+// Replays runs whose answers were made by the listed Rust, in the lists cells_01 to cells_04 with p added to some of the cells that come in, and
+// records that are refused, one file of data/ a list, and writes how many came out right.
 mod given;
 mod list;
 mod parts;
@@ -34,5 +34,9 @@ fn main() {
     runs(b"runs_10");
     runs(b"runs_11");
     runs(b"runs_12");
+    runs(b"cells_01");
+    runs(b"cells_02");
+    runs(b"cells_03");
+    runs(b"cells_04");
     refused_records(b"refused");
 }

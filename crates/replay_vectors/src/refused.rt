@@ -8,7 +8,7 @@ use crate::list::left_right;
 use crate::list::replay_at;
 use crate::parts::at_most;
 use crate::parts::place;
-use field::cell::cell;
+use field::cell::number_at;
 use lists::copies::put;
 use lists::copies::same;
 use lists::text::item;
@@ -77,7 +77,7 @@ fn case_right(v: &mut [u64], records: usize, at: usize) -> bool
 
 // How many of the list's cases come out right.
 pub fn right(v: &mut [u64]) -> u64 {
-    let all = cell(v, 0);
+    let all = number_at(v, 0);
     let records = place(v, PARTS, 9);
     let mut right: u64 = 0;
     let mut k: u64 = 0;

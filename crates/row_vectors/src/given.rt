@@ -1,7 +1,6 @@
 // The records of a call, each from the numbers of an input that begin at a place.
 use groups::helpers::OperationHelperRegisters;
 use groups::word::Word;
-use groups::word::word_at;
 use lists::registers::registers;
 use lists::text::item;
 use lists::text::low8;
@@ -96,6 +95,16 @@ fn info_of(present: u64, depth: u32, address: u64) -> ContextInfo {
     })
 }
 
+// Four cells, as they stand.
+fn word_of(v: &[u64], at: usize) -> Word {
+    Word(
+        item(v, at, 0),
+        item(v, at, 1),
+        item(v, at, 2),
+        item(v, at, 3),
+    )
+}
+
 // Fourteen numbers: the continuation's four, the loop-body flag, the condition, the callee word (present or not, and its cells) and the
 // context info (present or not, depth, address).
 pub fn values_of(v: &[u64], at: usize) -> StoredValues
@@ -108,7 +117,7 @@ pub fn values_of(v: &[u64], at: usize) -> StoredValues
         low32(item(v, at, 3)),
     );
     let condition = condition_of(item(v, at, 5));
-    let callee = callee_of(item(v, at, 6), word_at(v, at + 7));
+    let callee = callee_of(item(v, at, 6), word_of(v, at + 7));
     let info = info_of(item(v, at, 11), low32(item(v, at, 12)), item(v, at, 13));
     let captured = Captured {
         condition,
@@ -171,7 +180,7 @@ fn sixteen(v: &[u64], at: usize) -> [u64; 16] {
 fn built_system_of(v: &[u64], at: usize) -> SystemCols
     requires { ⌜ at < 2000 ⌝ }
 {
-    let fn_hash = word_at(v, at + 2);
+    let fn_hash = word_of(v, at + 2);
     SystemCols {
         clk: item(v, at, 0),
         ctx: item(v, at, 1),
@@ -219,7 +228,7 @@ pub fn tracer_of(v: &[u64], at: usize) -> CoreTraceGenerationTracer
 pub fn system_of(v: &[u64], at: usize) -> SystemState
     requires { ⌜ at < 2000 ⌝ }
 {
-    let fn_hash = word_at(v, at + 2);
+    let fn_hash = word_of(v, at + 2);
     SystemState {
         clk: RowIndex(low32(item(v, at, 0))),
         ctx: ContextId(low32(item(v, at, 1))),

@@ -12,7 +12,7 @@ use Rattle.groups.specs.Answer.{Answer, accepted, refused, pick}
 use Rattle.records.specs.declared.continuation.StoredValues.{StoredValues}
 use Rattle.rows.specs.declared.tracer.CoreTraceGenerationTracer.{CoreTraceGenerationTracer}
 use Rattle.rows.specs.declared.tracer.TracerFinalState.{TracerFinalState}
-use Rattle.records.specs.Built.{noSystem, noStack}
+use Rattle.records.specs.Built.{noSystem, noStack, readSystem, readStack}
 use Rattle.rows.specs.Cycles.{finalState, lastSystem, lastStack}
 use Rattle.rows.specs.Calls.{Setting, storingDone, callDone, callWritten, through, written, told}
 use Rattle.records.specs.CallRecords.{storing, callIn, recordAt}
@@ -53,7 +53,7 @@ module _ (write : Bool) (s : Setting) (records : List ℕ) (t₀ t t′ : CoreTr
   )
 
 final-number : (t : CoreTraceGenerationTracer) (same : Bool) → eqb (t .refusal) 0 ≡ same → pick {A = TracerFinalState} same
-    (record { refusal = 0; «last_system_cols» = lastSystem t; «last_stack_cols» = lastStack t; «num_rows_written» = t .rows })
+    (record { refusal = 0; «last_system_cols» = readSystem (lastSystem t); «last_stack_cols» = readStack (lastStack t); «num_rows_written» = t .rows })
     (record { refusal = t .refusal; «last_system_cols» = noSystem; «last_stack_cols» = noStack; «num_rows_written» = 0 }) .refusal ≡ t .refusal
 final-number t true e = rw (eqb-true (t .refusal) 0 e)
 final-number t false e = refl

@@ -1,5 +1,3 @@
-pub mod AnyAll
-pub mod BigCells
 pub mod CallSteps
 pub mod Cuts
 pub mod PartScans

@@ -8,12 +8,10 @@ use borrow.Author.Tests.{ltb-true, ltb-false}
 use lib.Dec.{leb, ltb, eqb}
 use lib.ListN.{length, take, drop, getD, length-drop}
 use lib.Seq.{getD-take, getD-drop}
-use Rattle.field.specs.Modulus.{P}
 use Rattle.field.specs.Bounds.{anyFrom}
 use Rattle.rows.specs.declared.directory.Parts.{Parts}
 use Rattle.records.specs.Forests.{Forest}
-use Rattle.records.specs.Addresses.{Queues}
-use Rattle.rows.specs.Scans.{lentBig, anyLongBlock, anyLargeBatch, forestTooLarge}
+use Rattle.rows.specs.Scans.{anyBigOpcode, anyLongBlock, anyLargeBatch, forestTooLarge}
 use Rattle.rows.specs.Calls.{window, forestIn}
 
 pub never : {A : Type 0} → false ≡ true → A
@@ -53,13 +51,9 @@ any-window : (limit width first count : ℕ) (xs : List ℕ) → anyFrom limit (
 unfolding window
 any-window limit width first count xs e = any-drop limit (width * first) xs (any-take limit (width * count) (drop (width * first) xs) e)
 
-pub part-big : (f : Forest) (w : Parts) (q : Queues) → lentBig (forestIn f w) q ≡ true → lentBig f q ≡ true
-unfolding lentBig forestIn
-part-big f w q =
-    let queued = anyFrom P (q .addresses) || (anyFrom P (q .parents) || anyFrom P (q .ends)) in
-    or-both _ _ _ _ (any-window P 4 (w .«first_slot») (w .slots) (f .digests))
-    (or-both _ _ _ _ (any-window P 8 (w .«first_batch») (w .batches) (f .groups))
-    (or-both _ queued _ queued (any-window 128 1 (w .«first_op») (w .ops) (f .ops)) (λ h. h)))
+pub part-big : (f : Forest) (w : Parts) → anyBigOpcode (forestIn f w .ops) ≡ true → anyBigOpcode (f .ops) ≡ true
+unfolding anyBigOpcode forestIn
+part-big f w = any-window 128 1 (w .«first_op») (w .ops) (f .ops)
 
 -- RECORDS THAT PASS A TEST
 
@@ -154,7 +148,7 @@ module _ (first count : ℕ) (batches : List ℕ) where
       large-moved
       (rw (any-large records (length records / 12)) at e))
 
-pub part-too-large : (f : Forest) (w : Parts) → forestTooLarge (forestIn f w) ≡ true → forestTooLarge f ≡ true
+pub part-too-large : (f : Forest) (w : Parts) → forestTooLarge (forestIn f w .nodes) (forestIn f w .batches) ≡ true → forestTooLarge (f .nodes) (f .batches) ≡ true
 unfolding forestTooLarge forestIn
 part-too-large f w =
     or-both _ _ _ _ (part-long (w .«first_slot») (w .slots) (f .nodes)) (part-large (w .«first_batch») (w .batches) (f .batches))

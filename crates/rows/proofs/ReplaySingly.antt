@@ -21,7 +21,7 @@ use Rattle.records.specs.Forests.{Forest}
 use Rattle.records.specs.Addresses.{Queues}
 use Rattle.records.specs.Profiles.{profileWrong}
 use Rattle.rows.specs.Made.{place, made}
-use Rattle.rows.specs.Scans.{lentBig, forestTooLarge, scanOf, cycleBig}
+use Rattle.rows.specs.Scans.{anyBigOpcode, forestTooLarge, scanOf}
 use Rattle.records.specs.Cells.{fragmentWrong}
 use Rattle.rows.specs.Cycles.{fresh, storing, storedIn, continuationOf, refuseIf, cycleWith, cycle, keeping, tracerAfter, fragmentAfter}
 use Rattle.rows.specs.Calls.{Setting, partsAt, forestIn, forestOf, refusing, callDone, callWritten, through, written, ending, told, scanned, replayed, replayedFragment}
@@ -33,22 +33,21 @@ use Rattle.rows.proofs.PartScans.{never, part-big, part-too-large}
 -- THE CHECKS OF A FINISH
 
 -- the scan's answers (`big`, `large`) among the checks of a finish
-abbrev checks : (kept : Bool) (n : ℕ) → Answer Continuation → (big cell wrong large length : Bool) → (Continuation → Answer MadeRow) → Answer MadeRow
-checks kept n found big cell wrong large length rest =
+abbrev checks : (kept : Bool) (n : ℕ) → Answer Continuation → (big wrong large length : Bool) → (Continuation → Answer MadeRow) → Answer MadeRow
+checks kept n found big wrong large length rest =
     refuseIf kept n (andThen found (λ continuation.
-    refuseIf (big || cell) 1 (refuseIf wrong 2 (refuseIf (large || length) 11 (rest continuation)))))
+    refuseIf big 1 (refuseIf wrong 2 (refuseIf (large || length) 11 (rest continuation)))))
 
 -- where nothing is refused, a scan that finds less answers the same
-same-checks : (kept : Bool) (n : ℕ) (found : Answer Continuation) (big big′ cell wrong large large′ length : Bool) (rest : Continuation → Answer MadeRow) → (big′ ≡ true → big ≡ true) → (large′ ≡ true → large ≡ true) → number (checks kept n found big cell wrong large length rest) ≡ 0 → checks kept n found big cell wrong large length rest ≡ checks kept n found big′ cell wrong large′ length rest
-same-checks true n found big big′ cell wrong large large′ length rest f g e = refl
-same-checks false n (refused m) big big′ cell wrong large large′ length rest f g e = refl
-same-checks false n (accepted x) true big′ cell wrong large large′ length rest f g e = absurd (omega arith)
-same-checks false n (accepted x) false true cell wrong large large′ length rest f g e = never (f refl)
-same-checks false n (accepted x) false false true wrong large large′ length rest f g e = refl
-same-checks false n (accepted x) false false false true large large′ length rest f g e = refl
-same-checks false n (accepted x) false false false false true large′ length rest f g e = absurd (omega arith)
-same-checks false n (accepted x) false false false false false true length rest f g e = never (g refl)
-same-checks false n (accepted x) false false false false false false length rest f g e = refl
+same-checks : (kept : Bool) (n : ℕ) (found : Answer Continuation) (big big′ wrong large large′ length : Bool) (rest : Continuation → Answer MadeRow) → (big′ ≡ true → big ≡ true) → (large′ ≡ true → large ≡ true) → number (checks kept n found big wrong large length rest) ≡ 0 → checks kept n found big wrong large length rest ≡ checks kept n found big′ wrong large′ length rest
+same-checks true n found big big′ wrong large large′ length rest f g e = refl
+same-checks false n (refused m) big big′ wrong large large′ length rest f g e = refl
+same-checks false n (accepted x) true big′ wrong large large′ length rest f g e = absurd (omega arith)
+same-checks false n (accepted x) false true wrong large large′ length rest f g e = never (f refl)
+same-checks false n (accepted x) false false true large large′ length rest f g e = refl
+same-checks false n (accepted x) false false false true large′ length rest f g e = absurd (omega arith)
+same-checks false n (accepted x) false false false false true length rest f g e = never (g refl)
+same-checks false n (accepted x) false false false false false length rest f g e = refl
 
 -- the number that a finish keeps
 kept-number : (system : SystemState) (stack : StackState) (t : CoreTraceGenerationTracer) (a : Answer MadeRow) → tracerAfter system stack t a .refusal ≡ number a
@@ -68,7 +67,7 @@ module _ (p : Profile) (f : Forest) (directory : List ℕ) (q : Queues) (cells :
   -- a finish in a forest of the directory
   module _ (k : ℕ) (system : SystemState) (stack : StackState) (registers : OperationHelperRegisters) (t : CoreTraceGenerationTracer) where
     abbrev finish : Answer MadeRow
-    finish = cycleWith (s .scan) p (forestOf s k) q system stack registers cells t
+    finish = cycleWith (s .scan) p (forestOf s k) q stack registers cells t
 
     abbrev rest : Continuation → Answer MadeRow
     rest continuation =
@@ -77,14 +76,14 @@ module _ (p : Profile) (f : Forest) (directory : List ℕ) (q : Queues) (cells :
         refuseIf (leb (cells / 49) (t .rows)) 24
         (accepted row)))
 
-    same-cycle : number finish ≡ 0 → finish ≡ cycle p (forestOf s k) q system stack registers cells t
+    same-cycle : number finish ≡ 0 → finish ≡ cycle p (forestOf s k) q stack registers cells t
     unfolding scanned cycleWith cycle scanOf forestOf
     same-cycle =
         let w = partsAt directory k in
         same-checks (not (eqb (t .refusal) 0)) (t .refusal) (continuationOf (t .stored))
-        (lentBig f q) (lentBig (forestIn f w) q) (cycleBig system stack registers t) (profileWrong p)
-        (forestTooLarge f) (forestTooLarge (forestIn f w)) (fragmentWrong cells (t .rows)) rest
-        (part-big f w q) (part-too-large f w)
+        (anyBigOpcode (f .ops)) (anyBigOpcode (forestIn f w .ops)) (profileWrong p)
+        (forestTooLarge (f .nodes) (f .batches)) (forestTooLarge (forestIn f w .nodes) (forestIn f w .batches)) (fragmentWrong cells (t .rows)) rest
+        (part-big f w) (part-too-large f w)
 
     kept-first : (same : Bool) → eqb (t .refusal) 0 ≡ same → number finish ≡ 0 → t .refusal ≡ 0
     unfolding cycleWith

@@ -4,7 +4,8 @@ use mathlib.Core.List.{List}
 use mathlib.Core.Path.{_≡_, refl, ap}
 use Prim.Native.Nat.{ℕ, _+_, _*_, _/_}
 use lib.Dec.{ltb}
-use lib.ListN.{length, getD}
+use lib.ListN.{length}
+use Rattle.field.specs.Cells.{cellAt}
 use Rattle.groups.specs.Answer.{Answer, accepted, refused, pick}
 use Rattle.records.specs.Addresses.{startedAt, startTold, startStep, afterStart, endAt, endTold, endStep, afterEnd}
 use Rattle.records.specs.declared.replay.DecoderState.{DecoderState}
@@ -76,9 +77,9 @@ module _ (ends : List ℕ) (at : Positions) (state : DecoderState) (step : EndSt
   end-refused n h =
       told-end-refused at state step (ltb (at .ends) (length ends / 3))
       (record {
-        «ended_node_addr» = getD ends (3 * at .ends) 0;
-        «prev_addr» = getD ends (3 * at .ends + 1) 0;
-        «prev_parent_addr» = getD ends (3 * at .ends + 2) 0;
+        «ended_node_addr» = cellAt ends (3 * at .ends);
+        «prev_addr» = cellAt ends (3 * at .ends + 1);
+        «prev_parent_addr» = cellAt ends (3 * at .ends + 2);
       })
       told n h
 

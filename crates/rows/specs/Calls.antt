@@ -88,14 +88,14 @@ unfoldable pub callDone : Setting → CoreTraceGenerationTracer → Answer Call 
 callDone s t (refused n) = refusing n t
 callDone s t (accepted (stores values)) = storedIn t values
 callDone s t (accepted (finishes k system stack registers)) =
-    tracerAfter system stack t (cycleWith (s .scan) (s .profile) (forestOf s k) (s .queues) system stack registers (s .cells) t)
+    tracerAfter system stack t (cycleWith (s .scan) (s .profile) (forestOf s k) (s .queues) stack registers (s .cells) t)
 
 -- the fragment after a call
 unfoldable pub callWritten : Setting → CoreTraceGenerationTracer → Answer Call → List ℕ → List ℕ
 callWritten s t (refused n) fragment = fragment
 callWritten s t (accepted (stores values)) fragment = fragment
 callWritten s t (accepted (finishes k system stack registers)) fragment =
-    fragmentAfter fragment t (cycleWith (s .scan) (s .profile) (forestOf s k) (s .queues) system stack registers (s .cells) t)
+    fragmentAfter fragment t (cycleWith (s .scan) (s .profile) (forestOf s k) (s .queues) stack registers (s .cells) t)
 
 -- ALL CALLS
 
@@ -135,9 +135,9 @@ told t = record {
   at = nextPositions t;
 }
 
--- everything lent is scanned, also forests that no record names: "used or not, .. whole queues and forest included"
+-- all forests are scanned, also those that no record names: "used or not"
 unfoldable pub scanned : Profile → Forest → (directory : List ℕ) → Queues → (cells : ℕ) → Setting
-scanned p f directory q cells = setting (scanOf p f q) p f directory q cells
+scanned p f directory q cells = setting (scanOf p (f .nodes) (f .batches) (f .ops)) p f directory q cells
 
 -- "each fragment takes a fresh tracer (nothing stored, no refusal, no row) and ends with its final state, address state and queues
 -- continuing"

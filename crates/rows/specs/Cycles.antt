@@ -27,14 +27,15 @@ use Rattle.rows.specs.declared.tracer.StoredContinuation.{StoredContinua
 use Rattle.rows.specs.declared.tracer.CoreTraceGenerationTracer.{CoreTraceGenerationTracer}
 use Rattle.rows.specs.declared.tracer.TracerFinalState.{TracerFinalState}
 use Rattle.records.specs.Forests.{Forest}
-use Rattle.records.specs.Addresses.{Queues}
-use Rattle.records.specs.Built.{builtSystem, builtStack, noSystem, noStack}
+use Rattle.records.specs.Addresses.{Queues, readState}
+use Rattle.records.specs.Captured.{readCaptured}
+use Rattle.records.specs.Built.{builtSystem, builtStack, noSystem, noStack, readSystem, readStack}
 use Rattle.rows.specs.Made.{place, made}
 use Rattle.records.specs.Cells.{rowCells, putRow}
-use Rattle.rows.specs.Scans.{scanOf, cycleBig}
+use Rattle.rows.specs.Scans.{scanOf}
 use Rattle.records.specs.Cells.{fragmentWrong}
 
--- "a fresh tracer (nothing stored, no refusal, no row)"
+-- "a fresh tracer (nothing stored, no refusal, no row)"; the addresses are read (N2)
 unfoldable pub fresh : DecoderState → Positions → CoreTraceGenerationTracer
 fresh state at = record {
   refusal = 0;
@@ -42,20 +43,20 @@ fresh state at = record {
   stored = StoredContinuation.Nothing;
   «is_loop_body» = false;
   captured = record { condition = LoopCondition.Absent; callee = CalleeWord.Absent; info = ContextInfo.Absent };
-  state = state;
+  state = readState state;
   at = at;
   system = noSystem;
   stack = noStack;
 }
 
--- "Storing replaces all of them and checks none."
+-- "Storing replaces all of them and checks none."; the cells among them are read (N2)
 abbrev pub storing : CoreTraceGenerationTracer → StoredValues → CoreTraceGenerationTracer
 storing t values = record {
   refusal = t .refusal;
   rows = t .rows;
   stored = StoredContinuation.Is (values .continuation);
   «is_loop_body» = values .«is_loop_body»;
-  captured = values .captured;
+  captured = readCaptured (values .captured);
   state = t .state;
   at = t .at;
   system = t .system;
@@ -78,11 +79,11 @@ refuseIf false n rest = rest
 
 -- "A finish checks in order: the kept refusal, 23 if nothing is stored, 1, 2, 11, 10, the continuation's own as below, 24." `cells` is
 -- the length of the fragment; the scan's answer is given
-unfoldable pub cycleWith : Scan → Profile → Forest → Queues → SystemState → StackState → OperationHelperRegisters → (cells : ℕ) → CoreTraceGenerationTracer → Answer MadeRow
-cycleWith scan p f q system stack registers cells t =
+unfoldable pub cycleWith : Scan → Profile → Forest → Queues → StackState → OperationHelperRegisters → (cells : ℕ) → CoreTraceGenerationTracer → Answer MadeRow
+cycleWith scan p f q stack registers cells t =
     refuseIf (not (eqb (t .refusal) 0)) (t .refusal)
     (andThen (continuationOf (t .stored)) (λ continuation.
-    refuseIf (scan .big || cycleBig system stack registers t) 1
+    refuseIf (scan .big) 1
     (refuseIf (scan .«profile_wrong») 2
     (refuseIf (scan .«too_large» || fragmentWrong cells (t .rows)) 11
     (refuseIf (ltb (stack .«stack_depth») 16) 10
@@ -95,8 +96,8 @@ abbrev pub HasRoom : Made → (cells rows : ℕ) → Type 0
 HasRoom (Made.Row m) cells rows = rows < cells / 49
 HasRoom (Made.Refused n) cells rows = Unit {0}
 
-unfoldable pub cycle : Profile → Forest → Queues → SystemState → StackState → OperationHelperRegisters → (cells : ℕ) → CoreTraceGenerationTracer → Answer MadeRow
-cycle p f q system stack registers cells t = cycleWith (scanOf p f q) p f q system stack registers cells t
+unfoldable pub cycle : Profile → Forest → Queues → StackState → OperationHelperRegisters → (cells : ℕ) → CoreTraceGenerationTracer → Answer MadeRow
+cycle p f q stack registers cells t = cycleWith (scanOf p (f .nodes) (f .batches) (f .ops)) p f q stack registers cells t
 
 -- "A second finish without a store reuses the continuation, without the condition, word or info already used."
 unfoldable pub leftAfter : Used → Captured → Captured
@@ -153,5 +154,5 @@ fragmentAfter fragment t (accepted m) = putRow fragment (t .rows) (rowCells (las
 unfoldable pub finalState : CoreTraceGenerationTracer → TracerFinalState
 finalState t =
     pick (eqb (t .refusal) 0)
-    (record { refusal = 0; «last_system_cols» = lastSystem t; «last_stack_cols» = lastStack t; «num_rows_written» = t .rows })
+    (record { refusal = 0; «last_system_cols» = readSystem (lastSystem t); «last_stack_cols» = readStack (lastStack t); «num_rows_written» = t .rows })
     (record { refusal = t .refusal; «last_system_cols» = noSystem; «last_stack_cols» = noStack; «num_rows_written» = 0 })

@@ -12,14 +12,14 @@ unfoldable pub singleDone : Setting → CoreTraceGenerationTracer → Answer Cal
 singleDone s t (refused n) = refusing n t
 singleDone s t (accepted (stores values)) = storedIn t values
 singleDone s t (accepted (finishes k system stack registers)) =
-    tracerAfter system stack t (cycle (s .profile) (forestOf s k) (s .queues) system stack registers (s .cells) t)
+    tracerAfter system stack t (cycle (s .profile) (forestOf s k) (s .queues) stack registers (s .cells) t)
 
 -- the fragment after a call
 unfoldable pub singleWritten : Setting → CoreTraceGenerationTracer → Answer Call → List ℕ → List ℕ
 singleWritten s t (refused n) fragment = fragment
 singleWritten s t (accepted (stores values)) fragment = fragment
 singleWritten s t (accepted (finishes k system stack registers)) fragment =
-    fragmentAfter fragment t (cycle (s .profile) (forestOf s k) (s .queues) system stack registers (s .cells) t)
+    fragmentAfter fragment t (cycle (s .profile) (forestOf s k) (s .queues) stack registers (s .cells) t)
 
 -- the tracer after the first n records
 unfoldable pub singlyThrough : Setting → (records : List ℕ) → CoreTraceGenerationTracer → (n : ℕ) → CoreTraceGenerationTracer

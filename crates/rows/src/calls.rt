@@ -9,7 +9,7 @@ use crate::directory::parts_at;
 use crate::scan::Scan;
 use crate::scan::scan_lent;
 use crate::tracer::CoreTraceGenerationTracer;
-use field::cell::cell;
+use field::cell::number_at;
 use groups::helpers::OperationHelperRegisters;
 use records::call_record::RegistersFound;
 use records::call_record::Small;
@@ -145,11 +145,11 @@ fn cycle_call(
 {
     let system_found = system_at(numbers);
     let SystemFound::Is(system) = system_found else {
-        return refuse(1, tracer);
+        return refuse(23, tracer);
     };
-    let depth_found = narrow(cell(numbers, 24));
+    let depth_found = narrow(number_at(numbers, 24));
     let Small::Is(depth) = depth_found else {
-        return refuse(1, tracer);
+        return refuse(23, tracer);
     };
     let registers_found = registers_at(numbers);
     let RegistersFound::Are(registers) = registers_found else {
@@ -169,7 +169,7 @@ fn cycle_call(
         parents,
         ends,
         profile,
-        cell(numbers, 1),
+        number_at(numbers, 1),
         system,
         stack,
         registers,
@@ -199,7 +199,7 @@ fn call(
     ensures { λ r. ⌜ r ≡ callDone (setting scan profile (forest (now (nodes .entry)) (now (digests .entry)) (now (batches .entry)) (now (groups .entry)) (now (ops .entry))) (now (directory .entry)) (queues (now (addresses .entry)) (now (parents .entry)) (now (ends .entry))) (length (now (fragment .entry)))) tracer (callIn (now (numbers .entry))) ⌝ }
     ensures { λ _. ⌜ now (fragment .exit) ≡ pick write (callWritten (setting scan profile (forest (now (nodes .entry)) (now (digests .entry)) (now (batches .entry)) (now (groups .entry)) (now (ops .entry))) (now (directory .entry)) (queues (now (addresses .entry)) (now (parents .entry)) (now (ends .entry))) (length (now (fragment .entry)))) tracer (callIn (now (numbers .entry))) (now (fragment .entry))) (now (fragment .entry)) ⌝ }
 {
-    if cell(numbers, 0) == 0 {
+    if number_at(numbers, 0) == 0 {
         return store(numbers, tracer);
     }
     cycle_call(
@@ -380,17 +380,7 @@ pub fn replay_calls(
     ensures { λ r. ⌜ r ≡ replayed (scanned profile (forest (now (nodes .entry)) (now (digests .entry)) (now (batches .entry)) (now (groups .entry)) (now (ops .entry))) (now (directory .entry)) (queues (now (addresses .entry)) (now (parents .entry)) (now (ends .entry))) (length (now (fragment .entry)))) state at (now (records .entry)) ⌝ }
     ensures { λ _. ⌜ now (fragment .exit) ≡ replayedFragment (scanned profile (forest (now (nodes .entry)) (now (digests .entry)) (now (batches .entry)) (now (groups .entry)) (now (ops .entry))) (now (directory .entry)) (queues (now (addresses .entry)) (now (parents .entry)) (now (ends .entry))) (length (now (fragment .entry)))) state at (now (records .entry)) (now (fragment .entry)) ⌝ }
 {
-    let scan = scan_lent(
-        profile,
-        nodes,
-        digests,
-        batches,
-        groups,
-        ops,
-        addresses,
-        parents,
-        ends,
-    );
+    let scan = scan_lent(profile, nodes, batches, ops);
     let first = CoreTraceGenerationTracer::new(state, at);
     let tried = run(
         false,

@@ -3,7 +3,6 @@ use crate::made::Made;
 use crate::made::MadeRow;
 use crate::made::make;
 use crate::scan::Scan;
-use crate::scan::cycle_big;
 use crate::scan::scan_lent;
 use crate::tracer::CoreTraceGenerationTracer;
 use crate::tracer::StoredContinuation;
@@ -77,12 +76,11 @@ fn checked(
     parents: &[u64],
     ends: &[u64],
     profile: Profile,
-    system: SystemState,
     stack: StackState,
     registers: OperationHelperRegisters,
     tracer: CoreTraceGenerationTracer,
 ) -> Made
-    ensures { λ r. ⌜ toldMade r ≡ cycleWith scan profile (forest (now (nodes .entry)) (now (digests .entry)) (now (batches .entry)) (now (groups .entry)) (now (ops .entry))) (queues (now (addresses .entry)) (now (parents .entry)) (now (ends .entry))) system stack registers cells tracer ⌝ }
+    ensures { λ r. ⌜ toldMade r ≡ cycleWith scan profile (forest (now (nodes .entry)) (now (digests .entry)) (now (batches .entry)) (now (groups .entry)) (now (ops .entry))) (queues (now (addresses .entry)) (now (parents .entry)) (now (ends .entry))) stack registers cells tracer ⌝ }
     ensures { λ r. ⌜ HasRoom r cells (tracer .rows) ⌝ }
 {
     if tracer.refusal != 0 {
@@ -92,7 +90,7 @@ fn checked(
     let StoredContinuation::Is(continuation) = stored else {
         return Made::Refused(23);
     };
-    if scan.big | cycle_big(system, stack, registers, tracer) {
+    if scan.big {
         return Made::Refused(1);
     }
     if scan.profile_wrong {
@@ -212,9 +210,9 @@ pub(crate) fn cycle_with(
     tracer: CoreTraceGenerationTracer,
     fragment: &mut [u64],
 ) -> Finished
-    ensures { λ r. ⌜ r .number ≡ number (cycleWith scan profile (forest (now (nodes .entry)) (now (digests .entry)) (now (batches .entry)) (now (groups .entry)) (now (ops .entry))) (queues (now (addresses .entry)) (now (parents .entry)) (now (ends .entry))) system stack registers (length (now (fragment .entry))) tracer) ⌝ }
-    ensures { λ r. ⌜ r .tracer ≡ tracerAfter system stack tracer (cycleWith scan profile (forest (now (nodes .entry)) (now (digests .entry)) (now (batches .entry)) (now (groups .entry)) (now (ops .entry))) (queues (now (addresses .entry)) (now (parents .entry)) (now (ends .entry))) system stack registers (length (now (fragment .entry))) tracer) ⌝ }
-    ensures { λ _. ⌜ now (fragment .exit) ≡ pick write (fragmentAfter (now (fragment .entry)) tracer (cycleWith scan profile (forest (now (nodes .entry)) (now (digests .entry)) (now (batches .entry)) (now (groups .entry)) (now (ops .entry))) (queues (now (addresses .entry)) (now (parents .entry)) (now (ends .entry))) system stack registers (length (now (fragment .entry))) tracer)) (now (fragment .entry)) ⌝ }
+    ensures { λ r. ⌜ r .number ≡ number (cycleWith scan profile (forest (now (nodes .entry)) (now (digests .entry)) (now (batches .entry)) (now (groups .entry)) (now (ops .entry))) (queues (now (addresses .entry)) (now (parents .entry)) (now (ends .entry))) stack registers (length (now (fragment .entry))) tracer) ⌝ }
+    ensures { λ r. ⌜ r .tracer ≡ tracerAfter system stack tracer (cycleWith scan profile (forest (now (nodes .entry)) (now (digests .entry)) (now (batches .entry)) (now (groups .entry)) (now (ops .entry))) (queues (now (addresses .entry)) (now (parents .entry)) (now (ends .entry))) stack registers (length (now (fragment .entry))) tracer) ⌝ }
+    ensures { λ _. ⌜ now (fragment .exit) ≡ pick write (fragmentAfter (now (fragment .entry)) tracer (cycleWith scan profile (forest (now (nodes .entry)) (now (digests .entry)) (now (batches .entry)) (now (groups .entry)) (now (ops .entry))) (queues (now (addresses .entry)) (now (parents .entry)) (now (ends .entry))) stack registers (length (now (fragment .entry))) tracer)) (now (fragment .entry)) ⌝ }
 {
     let made = checked(
         scan,
@@ -228,7 +226,6 @@ pub(crate) fn cycle_with(
         parents,
         ends,
         profile,
-        system,
         stack,
         registers,
         tracer,
@@ -266,21 +263,11 @@ pub fn finalize_clock_cycle(
     tracer: CoreTraceGenerationTracer,
     fragment: &mut [u64],
 ) -> Finished
-    ensures { λ r. ⌜ r .number ≡ number (cycle profile (forest (now (nodes .entry)) (now (digests .entry)) (now (batches .entry)) (now (groups .entry)) (now (ops .entry))) (queues (now (addresses .entry)) (now (parents .entry)) (now (ends .entry))) system stack registers (length (now (fragment .entry))) tracer) ⌝ }
-    ensures { λ r. ⌜ r .tracer ≡ tracerAfter system stack tracer (cycle profile (forest (now (nodes .entry)) (now (digests .entry)) (now (batches .entry)) (now (groups .entry)) (now (ops .entry))) (queues (now (addresses .entry)) (now (parents .entry)) (now (ends .entry))) system stack registers (length (now (fragment .entry))) tracer) ⌝ }
-    ensures { λ _. ⌜ now (fragment .exit) ≡ fragmentAfter (now (fragment .entry)) tracer (cycle profile (forest (now (nodes .entry)) (now (digests .entry)) (now (batches .entry)) (now (groups .entry)) (now (ops .entry))) (queues (now (addresses .entry)) (now (parents .entry)) (now (ends .entry))) system stack registers (length (now (fragment .entry))) tracer) ⌝ }
+    ensures { λ r. ⌜ r .number ≡ number (cycle profile (forest (now (nodes .entry)) (now (digests .entry)) (now (batches .entry)) (now (groups .entry)) (now (ops .entry))) (queues (now (addresses .entry)) (now (parents .entry)) (now (ends .entry))) stack registers (length (now (fragment .entry))) tracer) ⌝ }
+    ensures { λ r. ⌜ r .tracer ≡ tracerAfter system stack tracer (cycle profile (forest (now (nodes .entry)) (now (digests .entry)) (now (batches .entry)) (now (groups .entry)) (now (ops .entry))) (queues (now (addresses .entry)) (now (parents .entry)) (now (ends .entry))) stack registers (length (now (fragment .entry))) tracer) ⌝ }
+    ensures { λ _. ⌜ now (fragment .exit) ≡ fragmentAfter (now (fragment .entry)) tracer (cycle profile (forest (now (nodes .entry)) (now (digests .entry)) (now (batches .entry)) (now (groups .entry)) (now (ops .entry))) (queues (now (addresses .entry)) (now (parents .entry)) (now (ends .entry))) stack registers (length (now (fragment .entry))) tracer) ⌝ }
 {
-    let found = scan_lent(
-        profile,
-        nodes,
-        digests,
-        batches,
-        groups,
-        ops,
-        addresses,
-        parents,
-        ends,
-    );
+    let found = scan_lent(profile, nodes, batches, ops);
     cycle_with(
         true,
         found,

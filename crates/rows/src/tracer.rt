@@ -47,7 +47,7 @@ pub struct TracerFinalState {
 }
 
 impl CoreTraceGenerationTracer {
-    // A fresh tracer: nothing stored, no refusal, no row.
+    // A fresh tracer: nothing stored, no refusal, no row. The addresses are read modulo p.
     pub fn new(state: DecoderState, at: Positions) -> Self
         ensures { λ r. ⌜ r ≡ fresh state at ⌝ }
     {
@@ -58,20 +58,21 @@ impl CoreTraceGenerationTracer {
         };
         let system = SystemCols::zeros();
         let stack = StackCols::zeros();
+        let read = state.read();
         Self {
             refusal: 0,
             rows: 0,
             stored: StoredContinuation::Nothing,
             is_loop_body: false,
             captured,
-            state,
+            state: read,
             at,
             system,
             stack,
         }
     }
 
-    // Stores the values for the next finish. It checks none of them.
+    // Stores the values for the next finish, their cells read modulo p. It checks none of them.
     pub fn start_clock_cycle(self, values: StoredValues) -> Stored
         ensures { λ r. ⌜ (r .number ≡ self .refusal) × (r .tracer ≡ storedIn self values) ⌝ }
     {
@@ -82,7 +83,8 @@ impl CoreTraceGenerationTracer {
             };
         }
         let continuation = values.continuation;
-        let captured = values.captured;
+        let given = values.captured;
+        let captured = given.read();
         let state = self.state;
         let at = self.at;
         let system = self.system;
@@ -121,7 +123,7 @@ impl CoreTraceGenerationTracer {
         self.stack
     }
 
-    // The final state of the fragment.
+    // The final state of the fragment, its cells read modulo p.
     pub fn into_final_state(self) -> TracerFinalState
         ensures { λ r. ⌜ r ≡ finalState self ⌝ }
     {
@@ -135,8 +137,10 @@ impl CoreTraceGenerationTracer {
                 num_rows_written: 0,
             };
         }
-        let last_system_cols = self.last_system();
-        let last_stack_cols = self.last_stack();
+        let system = self.last_system();
+        let stack = self.last_stack();
+        let last_system_cols = system.read();
+        let last_stack_cols = stack.read();
         TracerFinalState {
             refusal: 0,
             last_system_cols,

@@ -9,11 +9,11 @@ use lib.Dec.{leb, ltb, eqb}
 use lib.ListN.{length, getD}
 use Rattle.field.specs.Modulus.{P}
 use Rattle.groups.specs.Answer.{Answer, accepted, refused, andThen, pick, number}
-use Rattle.groups.specs.Batches.{isBatch, batchAt, bigGroup, startsAt}
+use Rattle.groups.specs.Batches.{isBatch, batchAt, startsAt}
 use Rattle.groups.specs.Flags.{flagsUpTo8, batchFlags}
 use Rattle.groups.specs.GroupOfOperation.{falling, placeIn, groupFrom, groupOf}
 use Rattle.groups.specs.Contexts.{tooLarge, sumBefore, sumFrom, consumed, contextInGroup, contextAtOp, contextAtBatchStart}
-use Rattle.groups.specs.Helpers.{allBelow, registerCells, u32Values, helpersAnswer}
+use Rattle.groups.specs.Helpers.{allBelow, readRegisters, u32Values, helpersOfCells, helpersAnswer}
 use Rattle.groups.specs.declared.word.Word.{Word}
 use Rattle.groups.specs.declared.batch.Batch.{Batch}
 use Rattle.groups.specs.declared.helpers.OperationHelperRegisters.{OperationHelperRegisters}
@@ -30,14 +30,13 @@ use Rattle.records.specs.declared.continuation.Captured.{Captured}
 use Rattle.records.specs.declared.continuation.Used.{Used}
 use Rattle.rows.specs.declared.made.MadeRow.{MadeRow}
 use Rattle.rows.specs.declared.made.Finish.{Finish}
-use Rattle.records.specs.declared.state.SystemState.{SystemState}
 use Rattle.records.specs.declared.state.StackState.{StackState}
 use Rattle.rows.specs.declared.tracer.StoredContinuation.{StoredContinuation}
 use Rattle.rows.specs.declared.tracer.CoreTraceGenerationTracer.{CoreTraceGenerationTracer}
 use Rattle.records.specs.Forests.{Forest, isSlot, nodeOf, nodeAt, digestAt, opcodeAt, blockOf}
 use Rattle.records.specs.Addresses.{Queues, entryAt, startedAt, afterStart, endAt}
 use Rattle.records.specs.Profiles.{profileWrong}
-use Rattle.rows.specs.Scans.{lentBig, forestTooLarge, scanOf, cycleBig}
+use Rattle.rows.specs.Scans.{anyBigOpcode, forestTooLarge, scanOf}
 use Rattle.records.specs.Cells.{fragmentWrong}
 use Rattle.rows.specs.Made.{Place, place, calleeOf, infoOf, conditionOf, startBlock, startTwo, startOne, startDyn, startDyncall, startKind, startNode, callKind, dynKind, blockKind, entryKind, finished, bodyOf, repeated, finishLoop, operationMade, resumed, respanned, made}
 use Rattle.rows.specs.Cycles.{continuationOf, refuseIf, cycleWith, cycle}
@@ -217,21 +216,21 @@ context-numbered : (push : ℕ) (block : Block) (batches groups : List ℕ) (ind
 unfolding contextAtOp contextInGroup Numbered
 context-numbered push block batches groups index op =
     then-numbered (batchAt batches groups block index) _ (batch-numbered batches groups block index) (λ batch.
-    pick-numbered (bigGroup batch) _ _ tt (then-numbered (groupOf (startsAt batches block index) (batch .«num_ops») op) _ (group-numbered _ _ op) (λ place.
+    then-numbered (groupOf (startsAt batches block index) (batch .«num_ops») op) _ (group-numbered _ _ op) (λ place.
     pick-numbered (ltb (block .total) (consumed push block batches groups index place)) _ _ tt
-    (pick-numbered (tooLarge block batch (sumBefore batches block index .above8)) _ _ tt tt))))
+    (pick-numbered (tooLarge block batch (sumBefore batches block index .above8)) _ _ tt tt)))
 
 start-numbered : (block : Block) (batches groups : List ℕ) (index : ℕ) → Numbered (contextAtBatchStart block batches groups index)
 unfolding contextAtBatchStart Numbered
 start-numbered block batches groups index =
     then-numbered (batchAt batches groups block index) _ (batch-numbered batches groups block index) (λ batch.
-    pick-numbered (bigGroup batch) _ _ tt (then-numbered (batchFlags (sumFrom batches block index .groups)) _ (flags-numbered (sumFrom batches block index .groups)) (λ flags.
-    pick-numbered (tooLarge block batch (sumFrom batches block index .above8)) _ _ tt tt)))
+    then-numbered (batchFlags (sumFrom batches block index .groups)) _ (flags-numbered (sumFrom batches block index .groups)) (λ flags.
+    pick-numbered (tooLarge block batch (sumFrom batches block index .above8)) _ _ tt tt))
 
 helpers-numbered : (registers : OperationHelperRegisters) → Numbered (helpersAnswer registers)
-unfolding helpersAnswer Numbered
+unfolding helpersAnswer helpersOfCells Numbered
 helpers-numbered registers =
-    pick-numbered (allBelow P (registerCells registers)) _ _ (pick-numbered (allBelow 4294967296 (u32Values registers)) _ _ tt tt) tt
+    pick-numbered (allBelow 4294967296 (u32Values (readRegisters registers))) _ _ tt tt
 
 -- what a continuation makes
 module _ (f : Forest) (q : Queues) (p : Profile) (registers : OperationHelperRegisters) (flag : Bool) (captured : Captured) where
@@ -307,27 +306,27 @@ unfolding Numbered
 continuation-numbered (StoredContinuation.Is continuation) = tt
 continuation-numbered StoredContinuation.Nothing = tt
 
-module _ (p : Profile) (f : Forest) (q : Queues) (system : SystemState) (stack : StackState) (registers : OperationHelperRegisters) (cells : ℕ) (t : CoreTraceGenerationTracer) where
-  cycle-numbered : Numbered (cycle p f q system stack registers cells t)
+module _ (p : Profile) (f : Forest) (q : Queues) (stack : StackState) (registers : OperationHelperRegisters) (cells : ℕ) (t : CoreTraceGenerationTracer) where
+  cycle-numbered : Numbered (cycle p f q stack registers cells t)
   unfolding cycle cycleWith scanOf Numbered
   cycle-numbered =
       kept-numbered (eqb (t .refusal) 0) (t .refusal) _ refl
       (then-numbered (continuationOf (t .stored)) _ (continuation-numbered (t .stored)) (λ continuation.
-      if-numbered (lentBig f q || cycleBig system stack registers t) 0 _ (if-numbered (profileWrong p) 1 _
-      (if-numbered (forestTooLarge f || fragmentWrong cells (t .rows)) 10 _ (if-numbered (ltb (stack .«stack_depth») 16) 9 _
+      if-numbered (anyBigOpcode (f .ops)) 0 _ (if-numbered (profileWrong p) 1 _
+      (if-numbered (forestTooLarge (f .nodes) (f .batches) || fragmentWrong cells (t .rows)) 10 _ (if-numbered (ltb (stack .«stack_depth») 16) 9 _
       (then-numbered (made f q p registers continuation (t .«is_loop_body») (t .captured) (place (t .state) (t .at))) _
       (made-numbered f q p registers (t .«is_loop_body») (t .captured) continuation (place (t .state) (t .at))) (λ row.
       if-numbered (leb (cells / 49) (t .rows)) 23 (accepted row) tt)))))))
 
   -- what a cycle that is not refused comes from
   pub record Came (m : MadeRow) : Type 0 where
-    pub answer : cycle p f q system stack registers cells t ≡ accepted m
+    pub answer : cycle p f q stack registers cells t ≡ accepted m
     pub continuation : Continuation
     pub kept : t .refusal ≡ 0
     pub stored-is : t .stored ≡ StoredContinuation.Is continuation
-    pub small : (lentBig f q || cycleBig system stack registers t) ≡ false
+    pub small : anyBigOpcode (f .ops) ≡ false
     pub profile-right : profileWrong p ≡ false
-    pub lengths-right : (forestTooLarge f || fragmentWrong cells (t .rows)) ≡ false
+    pub lengths-right : (forestTooLarge (f .nodes) (f .batches) || fragmentWrong cells (t .rows)) ≡ false
     pub deep : ltb (stack .«stack_depth») 16 ≡ false
     pub made-is : made f q p registers continuation (t .«is_loop_body») (t .captured) (place (t .state) (t .at)) ≡ accepted m
     pub room : leb (cells / 49) (t .rows) ≡ false
@@ -336,14 +335,14 @@ module _ (p : Profile) (f : Forest) (q : Queues) (system : SystemState) (stack :
   stored-of (StoredContinuation.Is x) continuation e = cc
   stored-of StoredContinuation.Nothing continuation e = let z : _≡_ {A = ℕ} 0 1 = cc in absurd (omega arith)
 
-  pub accepted-came : (m : MadeRow) → cycle p f q system stack registers cells t ≡ accepted m → Came m
+  pub accepted-came : (m : MadeRow) → cycle p f q stack registers cells t ≡ accepted m → Came m
   unfolding cycle cycleWith scanOf
   accepted-came m e =
       let (e1, e2) = if-accepted (not (eqb (t .refusal) 0)) (t .refusal) _ m e in
       let (continuation, e3, e4) = then-accepted (continuationOf (t .stored)) _ m e2 in
-      let (e5, e6) = if-accepted (lentBig f q || cycleBig system stack registers t) 1 _ m e4 in
+      let (e5, e6) = if-accepted (anyBigOpcode (f .ops)) 1 _ m e4 in
       let (e7, e8) = if-accepted (profileWrong p) 2 _ m e6 in
-      let (e9, e10) = if-accepted (forestTooLarge f || fragmentWrong cells (t .rows)) 11 _ m e8 in
+      let (e9, e10) = if-accepted (forestTooLarge (f .nodes) (f .batches) || fragmentWrong cells (t .rows)) 11 _ m e8 in
       let (e11, e12) = if-accepted (ltb (stack .«stack_depth») 16) 10 _ m e10 in
       let (row, e13, e14) = then-accepted (made f q p registers continuation (t .«is_loop_body») (t .captured) (place (t .state) (t .at))) _ m e12 in
       let (e15, e16) = if-accepted (leb (cells / 49) (t .rows)) 24 (accepted row) m e14 in
@@ -361,5 +360,5 @@ module _ (p : Profile) (f : Forest) (q : Queues) (system : SystemState) (stack :
         room = e15;
       }
 
-  pub came : number (cycle p f q system stack registers cells t) ≡ 0 → (m : MadeRow) × Came m
-  came e = let (m, k) = accepted-of (cycle p f q system stack registers cells t) cycle-numbered e in (m, accepted-came m k)
+  pub came : number (cycle p f q stack registers cells t) ≡ 0 → (m : MadeRow) × Came m
+  came e = let (m, k) = accepted-of (cycle p f q stack registers cells t) cycle-numbered e in (m, accepted-came m k)

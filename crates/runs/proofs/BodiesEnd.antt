@@ -2,16 +2,17 @@
 use mathlib.Core.Path.{_≡_, _∙_, refl, sym, ap, ap₂, fun-ext}
 use mathlib.Core.Bool.{Bool, true, false, _&&_, _||_}
 use mathlib.Core.List.{List, [], _∷_}
-use Prim.Native.Nat.{ℕ, _<_}
+use Prim.Native.Nat.{ℕ, _%_, _<_}
 use native.Mathlib.Omega.{arith}
 use borrow.Author.Tests.{eqb-true, ne-eqb}
 use lib.Dec.{eqb}
+use Rattle.field.specs.Modulus.{P}
 use Rattle.groups.specs.Answer.{pick}
 use Rattle.groups.specs.declared.batch.Block.{Block}
 use Rattle.records.specs.declared.profile.Profile.{Profile}
 use Rattle.records.specs.declared.replay.DecoderState.{DecoderState}
 use Rattle.records.specs.Forests.{Forest}
-use Rattle.records.specs.Addresses.{Queues, respanStep}
+use Rattle.records.specs.Addresses.{Queues, respanStep, readState}
 use Rattle.records.specs.Profiles.{opcodes, profileWrong}
 use Rattle.rows.specs.Made.{Place}
 use Rattle.passes.specs.Buffers.{addrOf, h4Of}
@@ -29,6 +30,7 @@ use Rattle.runs.proofs.Spelled.{at}
 use Rattle.runs.proofs.Tallied.{behind, hits, Looped, Counts}
 use Rattle.runs.proofs.Counted.{passesRun, loopsRun, loopsIn, run-rest, whole-counts}
 use Rattle.runs.proofs.PassLooks.{ends-hits}
+use Rattle.runs.proofs.StartsReduced.{starts-reduced}
 use Rattle.runs.proofs.Folded.{AllFine, rows-laid}
 use Rattle.runs.proofs.TraceOfRun.{run-fine}
 
@@ -70,14 +72,14 @@ module _ (p : Profile) (right : profileWrong p ≡ false) (m : ℕ → ℕ) wher
 
 module _ (p : Profile) (m : ℕ → ℕ) where
   -- a node's first row carries its parent's address
-  run-first : {f : Forest} {id : ℕ} {body : Bool} {a b g : ℕ} {cycles rest : List Cycle} (d : Run p f id body a b g cycles rest) (state : DecoderState) → lackingMark m (count 0) (laid p cycles state) ≡ eqb (m a) 0
+  run-first : {f : Forest} {id : ℕ} {body : Bool} {a b g : ℕ} {cycles rest : List Cycle} (d : Run p f id body a b g cycles rest) (state : DecoderState) → lackingMark m (count 0) (laid p cycles state) ≡ eqb (m (a % P)) 0
   unfolding lackingMark behind laid laidRow
   run-first (Run.block holds d) state = refl
   run-first (Run.join holds d e) state = refl
   run-first (Run.one kind child d) state = refl
   run-first (Run.loop holds d) state = refl
 
-  passes-first : {f : Forest} {id child : ℕ} {body : Bool} {a b g : ℕ} {cycles rest : List Cycle} (d : RunPasses p f id child body a b g cycles rest) (state : DecoderState) → lackingMark m (count 0) (laid p cycles state) ≡ eqb (m b) 0
+  passes-first : {f : Forest} {id child : ℕ} {body : Bool} {a b g : ℕ} {cycles rest : List Cycle} (d : RunPasses p f id child body a b g cycles rest) (state : DecoderState) → lackingMark m (count 0) (laid p cycles state) ≡ eqb (m (b % P)) 0
   passes-first (RunPasses.ended d) state = run-first d state
   passes-first (RunPasses.again d e) state = run-first d state
 
@@ -101,7 +103,7 @@ module _ (p : Profile) (m : ℕ → ℕ) where
     run-lacking (Run.join {a = a} {b = b} holds d e) state q k = run-lacking d (at b a) (loopsRun p e q) k ∙ run-lacking e (at b a) q (run-rest p d m (loopsRun p e q) k)
     run-lacking (Run.one {a = a} {b = b} kind child d) state q k = run-lacking d (at b a) q k
     run-lacking (Run.loop {a = a} {b = b} holds d) state q k =
-        let n : eqb (m b) 0 ≡ false = ne-eqb (m b) 0 (λ z. omega (arith, k .0, some-passes d)) in
+        let n : eqb (m (b % P)) 0 ≡ false = ne-eqb (m (b % P)) 0 (λ z. omega (arith, k .0, some-passes d)) in
         ap₂ (λ x y. x || y) (passes-first d (at b a) ∙ n) (passes-lacking d q (k .1))
 
     passes-lacking : {f : Forest} {id child : ℕ} {body : Bool} {a b g : ℕ} {cycles rest : List Cycle} (d : RunPasses p f id child body a b g cycles rest) (q : List Looped) → Counts m (loopsIn p d q) →
@@ -115,7 +117,7 @@ unfolding loopWithoutBody lacking laid AllFine
 bodies-end p q size fragments here right runs =
     let rows : List (List ℕ) = rowsRun p q fragments here in
     let cycles : List Cycle = cyclesOf q fragments (here .at) in
-    let shown : looks p rows ≡ laid p cycles (here .state) = rows-laid p q fragments here (runs .accepted) (run-fine p q (runs .proper) tt) in
-    let same : _≡_ {A = ℕ → ℕ} (λ x. bodyEnds p x rows) (λ x. hits x (laid p cycles (here .state))) = fun-ext (λ x. ends-hits p x rows ∙ ap (hits x) shown) in
+    let shown : looks p rows ≡ laid p cycles (readState (here .state)) = rows-laid p q fragments here (runs .accepted) (run-fine p q (runs .proper) tt) in
+    let same : _≡_ {A = ℕ → ℕ} (λ x. bodyEnds p x rows) (λ x. hits x (laid p cycles (readState (here .state)))) = fun-ext (λ x. ends-hits p x rows ∙ ap (hits x) shown) in
     any-lacking p right (λ x. bodyEnds p x rows) rows ∙ ap₂ (λ m l. lacking m l) same shown
-    ∙ run-lacking p (λ x. hits x (laid p cycles (here .state))) (runs .proper) (here .state) [] (whole-counts p (runs .proper) (here .state) (runs .loops-apart))
+    ∙ run-lacking p (λ x. hits x (laid p cycles (readState (here .state)))) (runs .proper) (readState (here .state)) [] (whole-counts p (runs .proper) (readState (here .state)) (rw (starts-reduced q fragments (here .at)) (runs .loops-apart)))

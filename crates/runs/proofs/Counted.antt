@@ -2,8 +2,10 @@
 use mathlib.Core.Path.{_≡_, _∙_, refl, sym, ap, ap₂}
 use mathlib.Core.Bool.{Bool, false}
 use mathlib.Core.List.{List, [], _∷_}
-use Prim.Native.Nat.{ℕ, suc, _+_}
+use Prim.Native.Nat.{ℕ, suc, _+_, _%_}
 use native.Mathlib.Omega.{arith}
+use Rattle.field.specs.Modulus.{P}
+use Rattle.field.specs.Cells.{reduced}
 use Rattle.groups.specs.declared.batch.Block.{Block}
 use Rattle.records.specs.declared.profile.Profile.{Profile}
 use Rattle.records.specs.declared.replay.DecoderState.{DecoderState}
@@ -32,7 +34,7 @@ module _ (p : Profile) where
     loopsRun (Run.block holds d) q = q
     loopsRun (Run.join holds d e) q = loopsRun d (loopsRun e q)
     loopsRun (Run.one kind child d) q = loopsRun d q
-    loopsRun (Run.loop {b = b} holds d) q = (b, passesRun d) ∷ loopsIn d q
+    loopsRun (Run.loop {b = b} holds d) q = (b % P, passesRun d) ∷ loopsIn d q
 
     pub loopsIn : {f : Forest} {id child : ℕ} {body : Bool} {a b g : ℕ} {cycles rest : List Cycle} → RunPasses p f id child body a b g cycles rest → List Looped → List Looped
     loopsIn (RunPasses.ended d) q = loopsRun d q
@@ -46,15 +48,15 @@ module _ (p : Profile) where
   block-starts (InBlock.respan size more d) = block-starts d
 
   mutual
-    unfolding loopsRun addresses loopStarts withLoop
+    unfolding loopsRun addresses loopStarts withLoop reduced
 
-    run-starts : {f : Forest} {id : ℕ} {body : Bool} {a b g : ℕ} {cycles rest : List Cycle} (d : Run p f id body a b g cycles rest) (q : List Looped) → addresses q ≡ loopStarts rest → addresses (loopsRun d q) ≡ loopStarts cycles
-    run-starts (Run.block holds d) q e = e ∙ sym (block-starts d)
+    run-starts : {f : Forest} {id : ℕ} {body : Bool} {a b g : ℕ} {cycles rest : List Cycle} (d : Run p f id body a b g cycles rest) (q : List Looped) → addresses q ≡ reduced (loopStarts rest) → addresses (loopsRun d q) ≡ reduced (loopStarts cycles)
+    run-starts (Run.block holds d) q e = e ∙ ap reduced (sym (block-starts d))
     run-starts (Run.join holds d k) q e = run-starts d _ (run-starts k q e)
     run-starts (Run.one kind child d) q e = run-starts d q e
-    run-starts (Run.loop {b = b} holds d) q e = ap (λ y. b ∷ y) (passes-starts d q e)
+    run-starts (Run.loop {b = b} holds d) q e = ap (λ y. b % P ∷ y) (passes-starts d q e)
 
-    passes-starts : {f : Forest} {id child : ℕ} {body : Bool} {a b g : ℕ} {cycles rest : List Cycle} (d : RunPasses p f id child body a b g cycles rest) (q : List Looped) → addresses q ≡ loopStarts rest → addresses (loopsIn d q) ≡ loopStarts cycles
+    passes-starts : {f : Forest} {id child : ℕ} {body : Bool} {a b g : ℕ} {cycles rest : List Cycle} (d : RunPasses p f id child body a b g cycles rest) (q : List Looped) → addresses q ≡ reduced (loopStarts rest) → addresses (loopsIn d q) ≡ reduced (loopStarts cycles)
     passes-starts (RunPasses.ended d) q e = run-starts d q e
     passes-starts (RunPasses.again d k) q e = run-starts d _ (passes-starts k q e)
 
@@ -80,14 +82,14 @@ module _ (p : Profile) where
     run-hits (Run.loop holds d) i state q = omega (arith, passes-hits d i q)
 
     passes-hits : {f : Forest} {id child : ℕ} {body : Bool} {a b g : ℕ} {cycles rest : List Cycle} (d : RunPasses p f id child body a b g cycles rest) (i : ℕ) (q : List Looped) →
-        hits i (laid p cycles (at b a)) + total i q ≡ times (passesRun d) (same b i) + total i (loopsIn d q) + share body (heads i (laid p rest (at a g))) + hits i (laid p rest (at a g))
+        hits i (laid p cycles (at b a)) + total i q ≡ times (passesRun d) (same (b % P) i) + total i (loopsIn d q) + share body (heads i (laid p rest (at a g))) + hits i (laid p rest (at a g))
     passes-hits (RunPasses.ended {a = a} {b = b} d) i q = omega (arith, run-hits d i (at b a) q)
     passes-hits (RunPasses.again {a = a} {b = b} d e) i q = omega (arith, run-hits d i (at b a) (loopsIn e q), passes-hits e i q)
 
   -- in a run of the whole, with no two loops at one address, the hits of a loop's address are its passes
-  pub whole-counts : {f : Forest} {id : ℕ} {body : Bool} {a b g : ℕ} {cycles : List Cycle} (d : Run p f id body a b g cycles []) (state : DecoderState) → twoEqual (loopStarts cycles) ≡ false →
+  pub whole-counts : {f : Forest} {id : ℕ} {body : Bool} {a b g : ℕ} {cycles : List Cycle} (d : Run p f id body a b g cycles []) (state : DecoderState) → twoEqual (reduced (loopStarts cycles)) ≡ false →
       Counts (λ x. hits x (laid p cycles state)) (loopsRun d [])
-  unfolding total hits laid heads addresses loopStarts
+  unfolding total hits laid heads addresses loopStarts reduced
   whole-counts {body = body} d state h =
       counts-ext (λ x. 0 + total x (loopsRun d [])) _ (loopsRun d [])
       (λ x. omega (arith, run-hits d x state [], flag-zero body))
@@ -108,14 +110,14 @@ module _ (p : Profile) where
     passes-rest (RunPasses.again d e) m q k = passes-rest e m q (run-rest d m _ k)
 
   -- a node's first row carries its parent's address
-  run-behind : {f : Forest} {id : ℕ} {body : Bool} {a b g : ℕ} {cycles rest : List Cycle} (d : Run p f id body a b g cycles rest) (m : ℕ → ℕ) (c : ℕ) (state : DecoderState) → behind m c (laid p cycles state) ≡ m a
+  run-behind : {f : Forest} {id : ℕ} {body : Bool} {a b g : ℕ} {cycles rest : List Cycle} (d : Run p f id body a b g cycles rest) (m : ℕ → ℕ) (c : ℕ) (state : DecoderState) → behind m c (laid p cycles state) ≡ m (a % P)
   unfolding behind laid laidRow
   run-behind (Run.block holds d) m c state = refl
   run-behind (Run.join holds d e) m c state = refl
   run-behind (Run.one kind child d) m c state = refl
   run-behind (Run.loop holds d) m c state = refl
 
-  pub passes-behind : {f : Forest} {id child : ℕ} {body : Bool} {a b g : ℕ} {cycles rest : List Cycle} (d : RunPasses p f id child body a b g cycles rest) (m : ℕ → ℕ) (c : ℕ) (state : DecoderState) → behind m c (laid p cycles state) ≡ m b
+  pub passes-behind : {f : Forest} {id child : ℕ} {body : Bool} {a b g : ℕ} {cycles rest : List Cycle} (d : RunPasses p f id child body a b g cycles rest) (m : ℕ → ℕ) (c : ℕ) (state : DecoderState) → behind m c (laid p cycles state) ≡ m (b % P)
   passes-behind (RunPasses.ended d) m c state = run-behind d m c state
   passes-behind (RunPasses.again d e) m c state = run-behind d m c state
 

@@ -4,10 +4,10 @@ use mathlib.Core.Path.{_≡_, _∙_, refl, sym, ap, ap₂, subst₂}
 use mathlib.Core.List.{List, [], _∷_, _++_}
 use Prim.Native.Nat.{ℕ}
 use lib.ListN.{length, take, drop}
+use Rattle.field.specs.Cells.{reduced}
 use Rattle.groups.specs.Answer.{accepted}
 use Rattle.groups.specs.declared.helpers.OperationHelperRegisters.{OperationHelperRegisters}
 use Rattle.records.specs.declared.profile.Profile.{Profile}
-use Rattle.records.specs.declared.state.SystemState.{SystemState}
 use Rattle.records.specs.declared.state.StackState.{StackState}
 use Rattle.records.specs.declared.continuation.Continuation.{Continuation}
 use Rattle.rows.specs.declared.made.MadeRow.{MadeRow}
@@ -41,17 +41,17 @@ same-made f q p registers t u c c′ m m′ e s h h′ k k′ =
     cc
 
 -- two cycles with the same values in force, at the same address state, over the same forest, queues and registers
-pub same-row : (p : Profile) (f : Forest) (q : Queues) (registers : OperationHelperRegisters) (system system′ : SystemState) (stack stack′ : StackState) (cells cells′ : ℕ) (t u : CoreTraceGenerationTracer) (m m′ : MadeRow) →
-    inForce t ≡ inForce u → t .state ≡ u .state → cycle p f q system stack registers cells t ≡ accepted m → cycle p f q system′ stack′ registers cells′ u ≡ accepted m′ → m ≡ m′
-same-row p f q registers system system′ stack stack′ cells cells′ t u m m′ e s k k′ =
-    let x = accepted-came p f q system stack registers cells t m k in
-    let y = accepted-came p f q system′ stack′ registers cells′ u m′ k′ in
+pub same-row : (p : Profile) (f : Forest) (q : Queues) (registers : OperationHelperRegisters) (stack stack′ : StackState) (cells cells′ : ℕ) (t u : CoreTraceGenerationTracer) (m m′ : MadeRow) →
+    inForce t ≡ inForce u → t .state ≡ u .state → cycle p f q stack registers cells t ≡ accepted m → cycle p f q stack′ registers cells′ u ≡ accepted m′ → m ≡ m′
+same-row p f q registers stack stack′ cells cells′ t u m m′ e s k k′ =
+    let x = accepted-came p f q stack registers cells t m k in
+    let y = accepted-came p f q stack′ registers cells′ u m′ k′ in
     same-made f q p registers t u (x .continuation) (y .continuation) m m′ e s (x .stored-is) (y .stored-is) (x .made-is) (y .made-is)
 
 -- A WHOLE RUN
 
-row-decoder : (t : CoreTraceGenerationTracer) (m : MadeRow) → take 24 (drop 6 (rowCells (lastSystem t) (m .row) (lastStack t))) ≡ decoderCells (m .row)
-unfolding rowCells systemCells decoderCells stackCells
+row-decoder : (t : CoreTraceGenerationTracer) (m : MadeRow) → take 24 (drop 6 (rowCells (lastSystem t) (m .row) (lastStack t))) ≡ reduced (decoderCells (m .row))
+unfolding rowCells reduced systemCells decoderCells stackCells
 row-decoder t m = refl
 
 decoders-app : (l m : List (List ℕ)) → decodersOf (l ++ m) ≡ decodersOf l ++ decodersOf m
@@ -59,10 +59,10 @@ unfolding decodersOf
 decoders-app [] m = refl
 decoders-app (row ∷ l) m = ap (λ y. take 24 (drop 6 row) ∷ y) (decoders-app l m)
 
-same-row′ : (p : Profile) (f f′ : Forest) (q : Queues) (registers registers′ : OperationHelperRegisters) (system system′ : SystemState) (stack stack′ : StackState) (cells cells′ : ℕ) (t u : CoreTraceGenerationTracer) (m m′ : MadeRow) →
-    f ≡ f′ → registers ≡ registers′ → inForce t ≡ inForce u → t .state ≡ u .state → cycle p f q system stack registers cells t ≡ accepted m → cycle p f′ q system′ stack′ registers′ cells′ u ≡ accepted m′ → m ≡ m′
-same-row′ p f f′ q registers registers′ system system′ stack stack′ cells cells′ t u m m′ i j e s k k′ =
-    same-row p f q registers system system′ stack stack′ cells cells′ t u m m′ e s k (subst₂ (λ x y. cycle p x q system′ stack′ y cells′ u ≡ accepted m′) (sym i) (sym j) k′)
+same-row′ : (p : Profile) (f f′ : Forest) (q : Queues) (registers registers′ : OperationHelperRegisters) (stack stack′ : StackState) (cells cells′ : ℕ) (t u : CoreTraceGenerationTracer) (m m′ : MadeRow) →
+    f ≡ f′ → registers ≡ registers′ → inForce t ≡ inForce u → t .state ≡ u .state → cycle p f q stack registers cells t ≡ accepted m → cycle p f′ q stack′ registers′ cells′ u ≡ accepted m′ → m ≡ m′
+same-row′ p f f′ q registers registers′ stack stack′ cells cells′ t u m m′ i j e s k k′ =
+    same-row p f q registers stack stack′ cells cells′ t u m m′ e s k (subst₂ (λ x y. cycle p x q stack′ y cells′ u ≡ accepted m′) (sym i) (sym j) k′)
 
 same-place : (z w : Held) → z .tracer .state ≡ w .tracer .state → inForce (z .tracer) ≡ inForce (w .tracer) → place (z .tracer .state) (z .tracer .at) ≡ place (w .tracer .state) (w .tracer .at)
 unfolding inForce
@@ -74,7 +74,7 @@ module _ (p : Profile) (q : Queues) where
     state-same : afterAll p q l z .tracer .state ≡ afterAll p q m w .tracer .state
     force-same : inForce (afterAll p q l z .tracer) ≡ inForce (afterAll p q m w .tracer)
 
-  made-decoder : (z : Held) (i : Handed) (m : MadeRow) → answered p q z i ≡ accepted m → decodersOf (rowMade (z .tracer) (answered p q z i)) ≡ decoderCells (m .row) ∷ []
+  made-decoder : (z : Held) (i : Handed) (m : MadeRow) → answered p q z i ≡ accepted m → decodersOf (rowMade (z .tracer) (answered p q z i)) ≡ reduced (decoderCells (m .row)) ∷ []
   unfolding decodersOf
   made-decoder z i m e = ap decodersOf (row-made p q z i m e) ∙ ap (λ x. x ∷ []) (row-decoder (z .tracer) m)
 
@@ -94,7 +94,7 @@ module _ (p : Profile) (q : Queues) where
   together (finish i ∷ l) (finish j ∷ m) z w k a b s f =
       let x = stepped p q z i (a .0) in
       let y = stepped p q w j (b .0) in
-      let e : x .m ≡ y .m = same-row′ p (i .forest) (j .forest) q (i .registers) (j .registers) (i .system) (j .system) (i .stack) (j .stack) (length (z .cells)) (length (w .cells)) (z .tracer) (w .tracer) (x .m) (y .m) (k .0) (k .1) f s (x .answer) (y .answer) in
+      let e : x .m ≡ y .m = same-row′ p (i .forest) (j .forest) q (i .registers) (j .registers) (i .stack) (j .stack) (length (z .cells)) (length (w .cells)) (z .tracer) (w .tracer) (x .m) (y .m) (k .0) (k .1) f s (x .answer) (y .answer) in
       let g = after-force p q z i (x .m) (x .answer) (did q (i .forest) (inForce (z .tracer))) (z .tracer .state) (x .law)
       ∙ ap₂ (λ v h. leftBy v (did q h v)) f (k .0)
       ∙ sym (after-force p q w j (y .m) (y .answer) (did q (j .forest) (inForce (w .tracer))) (w .tracer .state) (y .law)) in
@@ -102,7 +102,7 @@ module _ (p : Profile) (q : Queues) where
       let r = together l m (after p q z (finish i)) (after p q w (finish j)) (k .2) (a .1) (b .1) h g in
       record {
         rows-same = decoders-app (rowMade (z .tracer) (answered p q z i)) (rowsIn p q l (after p q z (finish i)))
-            ∙ ap₂ (λ c d. c ++ d) (made-decoder z i (x .m) (x .answer) ∙ ap (λ (r : MadeRow). decoderCells (r .row) ∷ []) e ∙ sym (made-decoder w j (y .m) (y .answer))) (r .rows-same)
+            ∙ ap₂ (λ c d. c ++ d) (made-decoder z i (x .m) (x .answer) ∙ ap (λ (r : MadeRow). reduced (decoderCells (r .row)) ∷ []) e ∙ sym (made-decoder w j (y .m) (y .answer))) (r .rows-same)
             ∙ sym (decoders-app (rowMade (w .tracer) (answered p q w j)) (rowsIn p q m (after p q w (finish j))));
         state-same = r .state-same;
         force-same = r .force-same;

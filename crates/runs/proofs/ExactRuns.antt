@@ -6,6 +6,7 @@ use mathlib.Core.Logic.{_⊎_, inl, inr}
 use Prim.Native.Nat.{ℕ, suc, _<_}
 use native.Mathlib.Omega.{arith}
 use lib.ListN.{replicate}
+use Rattle.field.specs.Cells.{cellAt}
 use Rattle.groups.specs.Answer.{Answer, accepted, refused}
 use Rattle.groups.specs.Batches.{isBatch, batchAt}
 use Rattle.groups.specs.Words.{wordAt}
@@ -211,7 +212,7 @@ passing flag a b g c (d ∷ others) rest = spanned forest 1 true b c a ((forest,
 
 in-small : (p : Profile) {id : ℕ} {body : Bool} {a b g : ℕ} {cycles rest : List Cycle} → InBlock p forest id small 0 0 body a b g cycles rest →
     cycles ≡ (forest, operated id 0 0 5) ∷ (forest, operated id 0 1 6) ∷ (forest, finished Ending.FinishBasicBlock id body b a g) ∷ rest
-unfolding grove forest batchAt isBatch opcodeAt wordAt
+unfolding grove forest batchAt isBatch opcodeAt wordAt cellAt
 in-small p =
     at-operation p forest small 0 batch0 refl 5 (omega arith) refl (λ l.
     at-operation p forest small 0 batch0 refl 6 (omega arith) refl (λ m.
@@ -221,7 +222,7 @@ in-large : (p : Profile) {id : ℕ} {body : Bool} {a b g : ℕ} {cycles rest : L
     cycles ≡
     (forest, operated id 0 0 5) ∷ (forest, operated id 0 1 6) ∷ (forest, respanned id 1) ∷ (forest, operated id 1 0 7)
     ∷ (forest, finished Ending.FinishBasicBlock id body (moved p b) a g) ∷ rest
-unfolding grove forest batchAt isBatch opcodeAt wordAt
+unfolding grove forest batchAt isBatch opcodeAt wordAt cellAt
 in-large p =
     at-operation p forest large 0 batch0 refl 5 (omega arith) refl (λ l.
     at-operation p forest large 0 batch0 refl 6 (omega arith) refl (λ m.

@@ -1,5 +1,5 @@
 -- That no two LOOP starts get the same block address is needed: two loops of one pass each at one address, in a run that meets all other
--- premises, get the count 2, and what is written is no trace.
+-- premises, get the count 2, and what is written is no trace. So do LOOP starts that are queued as 1 and p + 1 (N2).
 use mathlib.Core.Path.{_≡_, refl}
 use mathlib.Core.Bool.{Bool, true, false}
 use mathlib.Core.List.{List, [], _∷_}
@@ -7,13 +7,14 @@ use Prim.Native.Nat.{ℕ, _≤_}
 use native.Mathlib.Omega.{arith}
 use lib.ListN.{replicate}
 use Rattle.field.specs.Inverse.{euclid, inverseOf}
-use Rattle.groups.specs.Words.{wordAt, beyond}
-use Rattle.groups.specs.Batches.{isBatch, batchAt, bigGroup, startsAt}
+use Rattle.field.specs.Cells.{cellAt, reduced}
+use Rattle.groups.specs.Words.{wordAt}
+use Rattle.groups.specs.Batches.{isBatch, batchAt, startsAt}
 use Rattle.groups.specs.Flags.{flagsUpTo8, batchFlags}
 use Rattle.groups.specs.GroupOfOperation.{falling, placeIn, groupFrom, groupOf}
 use Rattle.groups.specs.GroupsLeft.{counts, doubled, roundUp, groupsOf, sumGroups, anyAbove8, groupSum, pushes}
 use Rattle.groups.specs.Contexts.{tooLarge, consumed, opContext, contextInGroup, contextAtOp}
-use Rattle.groups.specs.Helpers.{allBelow, registerCells, u32Values, helpersOf, helpersAnswer}
+use Rattle.groups.specs.Helpers.{allBelow, readRegisters, u32Values, helpersOf, helpersOfCells, helpersAnswer}
 use Rattle.groups.specs.declared.helpers.OperationHelperRegisters.{OperationHelperRegisters}
 use Rattle.records.specs.declared.continuation.Continuation.{Continuation}
 use Rattle.records.specs.declared.continuation.LoopCondition.{LoopCondition}
@@ -22,16 +23,17 @@ use Rattle.records.specs.declared.continuation.ContextInfo.{ContextInfo}
 use Rattle.field.specs.Bounds.{anyFrom}
 use Rattle.records.specs.Profiles.{opcodes, isOneOf, twoEqual, lacksBits, profileWrong}
 use Rattle.records.specs.Forests.{Forest, isSlot, nodeId, nodeOf, nodeAt, digestAt, opcodeAt, blockOf}
-use Rattle.records.specs.Addresses.{Queues, entryAt, startedAt, endAt}
+use Rattle.records.specs.Addresses.{Queues, entryAt, startedAt, endAt, readState}
+use Rattle.records.specs.Captured.{readCaptured}
 use Rattle.records.specs.DecoderRows.{controlFlow, basicBlockBatch, operation, decoderCells}
-use Rattle.records.specs.Built.{builtSystem, builtStack, noSystem, noStack, systemCells, stackCells}
+use Rattle.records.specs.Built.{builtSystem, builtStack, noSystem, noStack, systemCells, stackCells, readSystem, readStack}
 use Rattle.rows.specs.Made.{Place, startBlock, startTwo, startOne, startKind, startNode, blockKind, entryKind, finished, bodyOf, repeated, finishLoop, operationMade, resumed, made}
 use Rattle.records.specs.Cells.{rowCells, putRow}
-use Rattle.rows.specs.Scans.{lentBig, anyLongBlock, anyLargeBatch, forestTooLarge, scanOf, stateCells, tracerCells, fixedCells, cycleCells, cycleBig}
+use Rattle.rows.specs.Scans.{anyBigOpcode, anyLongBlock, anyLargeBatch, forestTooLarge, scanOf}
 use Rattle.records.specs.Cells.{fragmentWrong}
 use Rattle.rows.specs.Cycles.{fresh, storedIn, cycleWith, cycle, leftAfter, tracerAfter, lastSystem, lastStack, fragmentAfter, finalState}
 use Rattle.passes.specs.Buffers.{rowsOf, flat, onRows, lastRow}
-use Rattle.passes.specs.Passes.{withSides, firstRow, laterRows, fixedUp, builtOf, lowBits, opcodeOf, flaggedEnd, bodyEnds, withCounts, anyWithoutBody, multiplied, loopWithoutBody, inverted, haltDecoder, haltStack, haltRow, halted, paddingRow, paddingRows, padded, rowsBig, bufferWrong, fewerRows, sumOf, anyAbove, notFull, firstOf, fragmentsWrong, heightWrong, refusalAll, lastBuilt, allPasses}
+use Rattle.passes.specs.Passes.{withSides, firstRow, laterRows, fixedUp, builtOf, lowBits, opcodeOf, flaggedEnd, bodyEnds, withCounts, anyWithoutBody, multiplied, loopWithoutBody, inverted, haltDecoder, haltStack, haltRow, halted, paddingRow, paddingRows, padded, bufferWrong, fewerRows, sumOf, anyAbove, notFull, firstOf, fragmentsWrong, heightWrong, refusalAll, lastBuilt, allPasses}
 use Rattle.readings.specs.Tokens.{controls, tokenBeside, controlToken, controlOpcodes, isOpOpcode, opToken, allBits, tokenOf, tokensOf}
 use Rattle.readings.specs.Readings.{Block, depthOf, numbered, passesIn, endRowOf, asksOf, asks, allRows, Trace}
 use Rattle.readings.specs.Answers.{refused, readerRefusal, rowAsked}
@@ -54,9 +56,14 @@ forestA = record {
   ops = 5 ∷ [];
 }
 
-unfoldable queued : Queues
-queued = record {
-  addresses = 9 ∷ 1 ∷ 3 ∷ 1 ∷ 5 ∷ [];
+-- the second loop's address as it is queued: 1, or p + 1, which is read as 1
+unfoldable second : (unreduced : Bool) → ℕ
+second false = 1
+second true = 18446744069414584322
+
+unfoldable queued : (unreduced : Bool) → Queues
+queued u = record {
+  addresses = 9 ∷ 1 ∷ 3 ∷ second u ∷ 5 ∷ [];
   parents = 0 ∷ 9 ∷ 1 ∷ 9 ∷ 1 ∷ [];
   ends = 3 ∷ 1 ∷ 9 ∷ 1 ∷ 9 ∷ 0 ∷ 5 ∷ 1 ∷ 9 ∷ 1 ∷ 9 ∷ 0 ∷ 9 ∷ 0 ∷ 77 ∷ [];
 }
@@ -95,40 +102,49 @@ calls =
 unfoldable fragments : List Fragment
 fragments = record { calls = calls; cells = replicate 637 9 } ∷ []
 
-free : AllAccepted profile queued fragments begin
-unfolding forestA queued begin storeOf cycleOf calls fragments AllAccepted Accepted numberOf after afterAll finalState cycle cycleWith scanOf lentBig forestTooLarge anyLongBlock anyLargeBatch cycleBig cycleCells stateCells tracerCells fixedCells registerCells systemCells stackCells anyFrom profileWrong opcodes twoEqual isOneOf lacksBits fragmentWrong made startNode startKind startBlock startTwo startOne finished repeated finishLoop bodyOf blockKind entryKind operationMade resumed nodeAt nodeOf isSlot digestAt opcodeAt blockOf startedAt entryAt endAt batchAt isBatch bigGroup beyond startsAt batchFlags flagsUpTo8 contextAtOp groupOf falling groupFrom placeIn contextInGroup consumed counts doubled roundUp groupsOf sumGroups anyAbove8 groupSum pushes opContext tooLarge helpersAnswer allBelow u32Values helpersOf tracerAfter leftAfter storedIn fragmentAfter putRow rowCells decoderCells fresh builtSystem builtStack noSystem noStack lastSystem lastStack controlFlow basicBlockBatch operation wordAt
-free = ((refl, (refl, (refl, (refl, (refl, (refl, (refl, (refl, (refl, (refl, (refl, (refl, (refl, (refl, (refl, (refl, (refl, (refl, (refl, (refl, (refl, (refl, (refl, (refl, refl)))))))))))))))))))))))), tt)
+free : (u : Bool) → AllAccepted profile (queued u) fragments begin
+unfolding forestA second queued begin storeOf cycleOf calls fragments AllAccepted Accepted numberOf after afterAll finalState cycle cycleWith scanOf anyBigOpcode forestTooLarge anyLongBlock anyLargeBatch readRegisters helpersOfCells systemCells stackCells anyFrom profileWrong opcodes twoEqual isOneOf lacksBits fragmentWrong made startNode startKind startBlock startTwo startOne finished repeated finishLoop bodyOf blockKind entryKind operationMade resumed nodeAt nodeOf isSlot digestAt opcodeAt blockOf startedAt entryAt endAt batchAt isBatch startsAt batchFlags flagsUpTo8 contextAtOp groupOf falling groupFrom placeIn contextInGroup consumed counts doubled roundUp groupsOf sumGroups anyAbove8 groupSum pushes opContext tooLarge helpersAnswer allBelow u32Values helpersOf tracerAfter leftAfter storedIn fragmentAfter putRow rowCells decoderCells fresh builtSystem builtStack noSystem noStack lastSystem lastStack controlFlow basicBlockBatch operation wordAt cellAt reduced readSystem readStack readState readCaptured
+free false = ((refl, (refl, (refl, (refl, (refl, (refl, (refl, (refl, (refl, (refl, (refl, (refl, (refl, (refl, (refl, (refl, (refl, (refl, (refl, (refl, (refl, (refl, (refl, (refl, refl)))))))))))))))))))))))), tt)
+free true = ((refl, (refl, (refl, (refl, (refl, (refl, (refl, (refl, (refl, (refl, (refl, (refl, (refl, (refl, (refl, (refl, (refl, (refl, (refl, (refl, (refl, (refl, (refl, (refl, refl)))))))))))))))))))))))), tt)
 
-run : Run profile forestA 0 false 0 9 77 (cyclesOf queued fragments (begin .at)) []
-unfolding forestA queued begin storeOf cycleOf calls fragments cyclesOf cyclesIn didStored didBy startOf operationAt finishOf nothingStored stored leftBy usedBy positionsAfter leftAfter inForceAfterAll inForceAfter nodeAt nodeOf isSlot opcodeAt blockOf startedAt entryAt endAt batchAt isBatch wordAt Holds HasOperations HasOpcode isOpOpcode controlOpcodes controls isOneOf
-run =
+run : (u : Bool) → Run profile forestA 0 false 0 9 77 (cyclesOf (queued u) fragments (begin .at)) []
+unfolding forestA second queued begin storeOf cycleOf calls fragments cyclesOf cyclesIn didStored didBy startOf operationAt finishOf nothingStored stored leftBy usedBy positionsAfter leftAfter inForceAfterAll inForceAfter nodeAt nodeOf isSlot opcodeAt blockOf startedAt entryAt endAt batchAt isBatch wordAt Holds HasOperations HasOpcode isOpOpcode controlOpcodes controls isOneOf cellAt reduced readSystem readStack readState readCaptured
+run false =
+    Run.join (_, refl)
+    (Run.loop (_, refl) (RunPasses.ended (Run.block (_, refl) (InBlock.operation 5 (_, refl, refl) refl (InBlock.ended (_, refl, refl) refl)))))
+    (Run.loop (_, refl) (RunPasses.ended (Run.block (_, refl) (InBlock.operation 5 (_, refl, refl) refl (InBlock.ended (_, refl, refl) refl)))))
+run true =
     Run.join (_, refl)
     (Run.loop (_, refl) (RunPasses.ended (Run.block (_, refl) (InBlock.operation 5 (_, refl, refl) refl (InBlock.ended (_, refl, refl) refl)))))
     (Run.loop (_, refl) (RunPasses.ended (Run.block (_, refl) (InBlock.operation 5 (_, refl, refl) refl (InBlock.ended (_, refl, refl) refl)))))
 
-shallow : depthOf (treeFrom profile 0 run .0) ≤ 64
+shallow : (u : Bool) → depthOf (treeFrom profile 0 (run u) .0) ≤ 64
 unfolding run treeFrom depthOf
-shallow = omega arith
+shallow false = omega arith
+shallow true = omega arith
 
 -- both loops start at the address 1
-starts : loopStarts (cyclesOf queued fragments (begin .at)) ≡ 1 ∷ 1 ∷ []
-unfolding forestA queued begin storeOf cycleOf calls fragments cyclesOf cyclesIn didStored didBy startOf operationAt finishOf nothingStored stored leftBy usedBy positionsAfter leftAfter inForceAfterAll inForceAfter nodeAt nodeOf isSlot opcodeAt blockOf startedAt entryAt endAt batchAt isBatch wordAt Holds HasOperations HasOpcode isOpOpcode controlOpcodes controls isOneOf withLoop loopStarts
-starts = refl
+starts : (u : Bool) → loopStarts (cyclesOf (queued u) fragments (begin .at)) ≡ 1 ∷ 1 ∷ []
+unfolding forestA second queued begin storeOf cycleOf calls fragments cyclesOf cyclesIn didStored didBy startOf operationAt finishOf nothingStored stored leftBy usedBy positionsAfter leftAfter inForceAfterAll inForceAfter nodeAt nodeOf isSlot opcodeAt blockOf startedAt entryAt endAt batchAt isBatch wordAt Holds HasOperations HasOpcode isOpOpcode controlOpcodes controls isOneOf withLoop loopStarts cellAt reduced readSystem readStack readState readCaptured
+starts false = refl
+starts true = refl
 
-passes : FinisherPasses profile queued 13 fragments begin [] (replicate 16 0) 13
-unfolding forestA queued begin storeOf cycleOf calls fragments AllAccepted Accepted numberOf after afterAll finalState cycle cycleWith scanOf lentBig forestTooLarge anyLongBlock anyLargeBatch cycleBig cycleCells stateCells tracerCells fixedCells registerCells systemCells stackCells anyFrom profileWrong opcodes twoEqual isOneOf lacksBits fragmentWrong made startNode startKind startBlock startTwo startOne finished repeated finishLoop bodyOf blockKind entryKind operationMade resumed nodeAt nodeOf isSlot digestAt opcodeAt blockOf startedAt entryAt endAt batchAt isBatch bigGroup beyond startsAt batchFlags flagsUpTo8 contextAtOp groupOf falling groupFrom placeIn contextInGroup consumed counts doubled roundUp groupsOf sumGroups anyAbove8 groupSum pushes opContext tooLarge helpersAnswer allBelow u32Values helpersOf tracerAfter leftAfter storedIn fragmentAfter putRow rowCells decoderCells fresh builtSystem builtStack noSystem noStack lastSystem lastStack controlFlow basicBlockBatch operation wordAt finalStates countsOf builtCells cellsOf refusalAll firstOf rowsBig sumOf fragmentsWrong bufferWrong fewerRows anyAbove heightWrong notFull loopWithoutBody anyWithoutBody bodyEnds rowsOf opcodeOf lowBits flaggedEnd
-passes = refl
+passes : (u : Bool) → FinisherPasses profile (queued u) 13 fragments begin [] (replicate 16 0) 13
+unfolding forestA second queued begin storeOf cycleOf calls fragments AllAccepted Accepted numberOf after afterAll finalState cycle cycleWith scanOf anyBigOpcode forestTooLarge anyLongBlock anyLargeBatch readRegisters helpersOfCells systemCells stackCells anyFrom profileWrong opcodes twoEqual isOneOf lacksBits fragmentWrong made startNode startKind startBlock startTwo startOne finished repeated finishLoop bodyOf blockKind entryKind operationMade resumed nodeAt nodeOf isSlot digestAt opcodeAt blockOf startedAt entryAt endAt batchAt isBatch startsAt batchFlags flagsUpTo8 contextAtOp groupOf falling groupFrom placeIn contextInGroup consumed counts doubled roundUp groupsOf sumGroups anyAbove8 groupSum pushes opContext tooLarge helpersAnswer allBelow u32Values helpersOf tracerAfter leftAfter storedIn fragmentAfter putRow rowCells decoderCells fresh builtSystem builtStack noSystem noStack lastSystem lastStack controlFlow basicBlockBatch operation wordAt finalStates countsOf builtCells cellsOf refusalAll firstOf sumOf fragmentsWrong bufferWrong fewerRows anyAbove heightWrong notFull loopWithoutBody anyWithoutBody bodyEnds rowsOf opcodeOf lowBits flaggedEnd cellAt reduced readSystem readStack readState readCaptured
+passes false = refl
+passes true = refl
 
 -- row 1 is refused: its count is 2
-answered : answer profile (writtenByFinisher profile queued 13 fragments begin [] (replicate 16 0) 13) 13 ≡ refused 13 1
-unfolding forestA queued begin storeOf cycleOf calls fragments AllAccepted Accepted numberOf after afterAll finalState cycle cycleWith scanOf lentBig forestTooLarge anyLongBlock anyLargeBatch cycleBig cycleCells stateCells tracerCells fixedCells registerCells systemCells stackCells anyFrom profileWrong opcodes twoEqual isOneOf lacksBits fragmentWrong made startNode startKind startBlock startTwo startOne finished repeated finishLoop bodyOf blockKind entryKind operationMade resumed nodeAt nodeOf isSlot digestAt opcodeAt blockOf startedAt entryAt endAt batchAt isBatch bigGroup beyond startsAt batchFlags flagsUpTo8 contextAtOp groupOf falling groupFrom placeIn contextInGroup consumed counts doubled roundUp groupsOf sumGroups anyAbove8 groupSum pushes opContext tooLarge helpersAnswer allBelow u32Values helpersOf tracerAfter leftAfter storedIn fragmentAfter putRow rowCells decoderCells fresh builtSystem builtStack noSystem noStack lastSystem lastStack controlFlow basicBlockBatch operation wordAt finalStates countsOf builtCells cellsOf refusalAll firstOf rowsBig sumOf fragmentsWrong bufferWrong fewerRows anyAbove heightWrong notFull loopWithoutBody anyWithoutBody bodyEnds rowsOf opcodeOf lowBits flaggedEnd finisherBuffer allPasses onRows flat fixedUp firstRow withSides laterRows builtOf multiplied withCounts inverted inverseOf euclid lastBuilt halted lastRow haltRow haltDecoder haltStack padded paddingRows paddingRow allRows answer unlessBadInput answerOfWord answerOfCells firstWrong isMet asks asksOf passesIn endRowOf rowAsked readWord wordAnswer afterBlock afterHalt ifHalt parse step give close opsWith passesWith opening enter atRepeat numbered tokensOf tokenOf allBits controlToken opToken isOpOpcode controlOpcodes controls tokenBeside readerRefusal
-answered = refl
+answered : (u : Bool) → answer profile (writtenByFinisher profile (queued u) 13 fragments begin [] (replicate 16 0) 13) 13 ≡ refused 13 1
+unfolding forestA second queued begin storeOf cycleOf calls fragments AllAccepted Accepted numberOf after afterAll finalState cycle cycleWith scanOf anyBigOpcode forestTooLarge anyLongBlock anyLargeBatch readRegisters helpersOfCells systemCells stackCells anyFrom profileWrong opcodes twoEqual isOneOf lacksBits fragmentWrong made startNode startKind startBlock startTwo startOne finished repeated finishLoop bodyOf blockKind entryKind operationMade resumed nodeAt nodeOf isSlot digestAt opcodeAt blockOf startedAt entryAt endAt batchAt isBatch startsAt batchFlags flagsUpTo8 contextAtOp groupOf falling groupFrom placeIn contextInGroup consumed counts doubled roundUp groupsOf sumGroups anyAbove8 groupSum pushes opContext tooLarge helpersAnswer allBelow u32Values helpersOf tracerAfter leftAfter storedIn fragmentAfter putRow rowCells decoderCells fresh builtSystem builtStack noSystem noStack lastSystem lastStack controlFlow basicBlockBatch operation wordAt finalStates countsOf builtCells cellsOf refusalAll firstOf sumOf fragmentsWrong bufferWrong fewerRows anyAbove heightWrong notFull loopWithoutBody anyWithoutBody bodyEnds rowsOf opcodeOf lowBits flaggedEnd finisherBuffer allPasses onRows flat fixedUp firstRow withSides laterRows builtOf multiplied withCounts inverted inverseOf euclid lastBuilt halted lastRow haltRow haltDecoder haltStack padded paddingRows paddingRow allRows answer unlessBadInput answerOfWord answerOfCells firstWrong isMet asks asksOf passesIn endRowOf rowAsked readWord wordAnswer afterBlock afterHalt ifHalt parse step give close opsWith passesWith opening enter atRepeat numbered tokensOf tokenOf allBits controlToken opToken isOpOpcode controlOpcodes controls tokenBeside readerRefusal cellAt reduced readSystem readStack readState readCaptured
+answered false = refl
+answered true = refl
 
-no-trace : (b : Block) → ¬ Trace profile (writtenByFinisher profile queued 13 fragments begin [] (replicate 16 0) 13) b
-no-trace b t =
-    let cells : List ℕ = writtenByFinisher profile queued 13 fragments begin [] (replicate 16 0) 13 in
-    let few = short 13 (finisherBuffer profile 13 (runCounts profile queued 13 fragments begin [] (replicate 16 0) 13) (runBuilt profile queued 13 fragments begin [] (replicate 16 0) 13) (replicate 16 0) 13 (runBuffer profile queued 13 fragments begin [] (replicate 16 0) 13)) in
+no-trace : (u : Bool) (b : Block) → ¬ Trace profile (writtenByFinisher profile (queued u) 13 fragments begin [] (replicate 16 0) 13) b
+no-trace u b t =
+    let cells : List ℕ = writtenByFinisher profile (queued u) 13 fragments begin [] (replicate 16 0) 13 in
+    let few = short 13 (finisherBuffer profile 13 (runCounts profile (queued u) 13 fragments begin [] (replicate 16 0) 13) (runBuilt profile (queued u) 13 fragments begin [] (replicate 16 0) 13) (replicate 16 0) 13 (runBuffer profile (queued u) 13 fragments begin [] (replicate 16 0) 13)) in
     let e = accepts-traces profile cells 13 b few .1 t in
-    let f = answered in
+    let f = answered u in
     let z : _≡_ {A = ℕ} 0 1 = cc in
     omega arith

@@ -8,13 +8,14 @@ use Prim.Native.Nat.{ℕ}
 use native.Mathlib.Omega.{arith}
 use lib.ListN.{replicate}
 use Rattle.field.specs.Inverse.{euclid, inverseOf}
-use Rattle.groups.specs.Words.{wordAt, beyond}
-use Rattle.groups.specs.Batches.{isBatch, batchAt, bigGroup, startsAt, lentBatches}
+use Rattle.field.specs.Cells.{cellAt, reduced}
+use Rattle.groups.specs.Words.{wordAt}
+use Rattle.groups.specs.Batches.{isBatch, batchAt, startsAt, lentBatches}
 use Rattle.groups.specs.Flags.{flagsUpTo8, batchFlags}
 use Rattle.groups.specs.GroupOfOperation.{falling, placeIn, groupFrom, groupOf}
 use Rattle.groups.specs.GroupsLeft.{counts, doubled, roundUp, groupsOf, sumGroups, anyAbove8, groupSum, pushes}
 use Rattle.groups.specs.Contexts.{tooLarge, consumed, opContext, contextInGroup, contextAtOp, contextAtBatchStart}
-use Rattle.groups.specs.Helpers.{allBelow, registerCells, u32Values, helpersOf, helpersAnswer}
+use Rattle.groups.specs.Helpers.{allBelow, readRegisters, u32Values, helpersOf, helpersOfCells, helpersAnswer}
 use Rattle.groups.specs.declared.helpers.OperationHelperRegisters.{OperationHelperRegisters}
 use Rattle.records.specs.declared.continuation.Continuation.{Continuation}
 use Rattle.records.specs.declared.continuation.LoopCondition.{LoopCondition}
@@ -23,16 +24,17 @@ use Rattle.records.specs.declared.continuation.ContextInfo.{ContextInfo}
 use Rattle.field.specs.Bounds.{anyFrom}
 use Rattle.records.specs.Profiles.{opcodes, isOneOf, twoEqual, lacksBits, profileWrong}
 use Rattle.records.specs.Forests.{Forest, isSlot, nodeId, slotBlock, nodeOf, nodeAt, digestAt, opcodeAt, blockOf}
-use Rattle.records.specs.Addresses.{Queues, entryAt, startedAt, endAt, respanStep}
+use Rattle.records.specs.Addresses.{Queues, entryAt, startedAt, endAt, respanStep, readState}
+use Rattle.records.specs.Captured.{readCaptured}
 use Rattle.records.specs.DecoderRows.{controlFlow, basicBlockBatch, operation, decoderCells}
-use Rattle.records.specs.Built.{builtSystem, builtStack, noSystem, noStack, systemCells, stackCells}
+use Rattle.records.specs.Built.{builtSystem, builtStack, noSystem, noStack, systemCells, stackCells, readSystem, readStack}
 use Rattle.rows.specs.Made.{Place, startBlock, startTwo, startOne, startDyn, startDyncall, startKind, startNode, callKind, dynKind, blockKind, entryKind, finished, bodyOf, repeated, finishLoop, operationMade, resumed, respanned, made}
 use Rattle.records.specs.Cells.{rowCells, putRow}
-use Rattle.rows.specs.Scans.{lentBig, anyLongBlock, anyLargeBatch, forestTooLarge, scanOf, stateCells, tracerCells, fixedCells, cycleCells, cycleBig}
+use Rattle.rows.specs.Scans.{anyBigOpcode, anyLongBlock, anyLargeBatch, forestTooLarge, scanOf}
 use Rattle.records.specs.Cells.{fragmentWrong}
 use Rattle.rows.specs.Cycles.{fresh, storedIn, cycleWith, cycle, leftAfter, tracerAfter, lastSystem, lastStack, fragmentAfter, finalState}
 use Rattle.passes.specs.Buffers.{rowsOf, flat, onRows, lastRow, addrOf}
-use Rattle.passes.specs.Passes.{withSides, firstRow, laterRows, fixedUp, builtOf, lowBits, opcodeOf, flaggedEnd, bodyEnds, withCounts, anyWithoutBody, multiplied, loopWithoutBody, inverted, haltDecoder, haltStack, haltRow, halted, paddingRow, paddingRows, padded, rowsBig, bufferWrong, fewerRows, sumOf, anyAbove, notFull, firstOf, fragmentsWrong, heightWrong, refusalAll, lastBuilt, allPasses}
+use Rattle.passes.specs.Passes.{withSides, firstRow, laterRows, fixedUp, builtOf, lowBits, opcodeOf, flaggedEnd, bodyEnds, withCounts, anyWithoutBody, multiplied, loopWithoutBody, inverted, haltDecoder, haltStack, haltRow, halted, paddingRow, paddingRows, padded, bufferWrong, fewerRows, sumOf, anyAbove, notFull, firstOf, fragmentsWrong, heightWrong, refusalAll, lastBuilt, allPasses}
 use Rattle.readings.specs.Tokens.{OneChild, controls, controlOpcodes, isOpOpcode, countOf}
 use Rattle.readings.specs.Readings.{Ops, Block, Passes, depthOf, allRows, Trace}
 use Rattle.readings.proofs.Examples.{profile}
@@ -180,11 +182,11 @@ fragments =
     ∷ record { calls = part7; cells = replicate 245 9 } ∷ []
 
 free : AllAccepted profile queued fragments begin
-unfolding forestA forestB queued begin storeOf cycleOf part1 part2 part3 part4 part5 part6 part7 fragments AllAccepted Accepted numberOf after afterAll finalState cycle cycleWith scanOf lentBig forestTooLarge anyLongBlock anyLargeBatch cycleBig cycleCells stateCells tracerCells fixedCells registerCells systemCells stackCells anyFrom profileWrong opcodes twoEqual isOneOf lacksBits fragmentWrong made startNode startKind startBlock startTwo startOne startDyn startDyncall finished repeated finishLoop bodyOf callKind dynKind blockKind entryKind operationMade resumed respanned respanStep nodeAt nodeOf isSlot digestAt opcodeAt blockOf startedAt entryAt endAt batchAt isBatch bigGroup beyond startsAt batchFlags flagsUpTo8 contextAtOp contextAtBatchStart lentBatches groupOf falling groupFrom placeIn contextInGroup consumed counts doubled roundUp groupsOf sumGroups anyAbove8 groupSum pushes opContext tooLarge helpersAnswer allBelow u32Values helpersOf tracerAfter leftAfter storedIn fragmentAfter putRow rowCells decoderCells fresh builtSystem builtStack noSystem noStack lastSystem lastStack controlFlow basicBlockBatch operation wordAt
+unfolding forestA forestB queued begin storeOf cycleOf part1 part2 part3 part4 part5 part6 part7 fragments AllAccepted Accepted numberOf after afterAll finalState cycle cycleWith scanOf anyBigOpcode forestTooLarge anyLongBlock anyLargeBatch readRegisters helpersOfCells systemCells stackCells anyFrom profileWrong opcodes twoEqual isOneOf lacksBits fragmentWrong made startNode startKind startBlock startTwo startOne startDyn startDyncall finished repeated finishLoop bodyOf callKind dynKind blockKind entryKind operationMade resumed respanned respanStep nodeAt nodeOf isSlot digestAt opcodeAt blockOf startedAt entryAt endAt batchAt isBatch startsAt batchFlags flagsUpTo8 contextAtOp contextAtBatchStart lentBatches groupOf falling groupFrom placeIn contextInGroup consumed counts doubled roundUp groupsOf sumGroups anyAbove8 groupSum pushes opContext tooLarge helpersAnswer allBelow u32Values helpersOf tracerAfter leftAfter storedIn fragmentAfter putRow rowCells decoderCells fresh builtSystem builtStack noSystem noStack lastSystem lastStack controlFlow basicBlockBatch operation wordAt cellAt reduced readSystem readStack readState readCaptured
 free = ((refl, (refl, (refl, (refl, (refl, (refl, (refl, (refl, (refl, (refl, refl)))))))))), ((refl, (refl, (refl, (refl, (refl, (refl, (refl, (refl, (refl, (refl, refl)))))))))), ((refl, (refl, (refl, (refl, (refl, (refl, (refl, (refl, (refl, (refl, refl)))))))))), ((refl, (refl, (refl, (refl, (refl, (refl, (refl, (refl, (refl, (refl, refl)))))))))), ((refl, (refl, (refl, (refl, (refl, (refl, (refl, (refl, (refl, (refl, refl)))))))))), ((refl, (refl, (refl, (refl, (refl, (refl, (refl, (refl, (refl, (refl, refl)))))))))), ((refl, (refl, (refl, (refl, refl)))), tt)))))))
 
 run : Run profile forestA 0 false 0 1 99 (cyclesOf queued fragments (begin .at)) []
-unfolding forestA forestB queued begin storeOf cycleOf part1 part2 part3 part4 part5 part6 part7 fragments cyclesOf cyclesIn didStored didBy startOf operationAt finishOf nothingStored stored leftBy usedBy positionsAfter leftAfter inForceAfterAll inForceAfter nodeAt nodeOf isSlot opcodeAt blockOf startedAt entryAt endAt batchAt isBatch wordAt Holds HasOperations HasOpcode isOpOpcode controlOpcodes controls isOneOf Child endingOf
+unfolding forestA forestB queued begin storeOf cycleOf part1 part2 part3 part4 part5 part6 part7 fragments cyclesOf cyclesIn didStored didBy startOf operationAt finishOf nothingStored stored leftBy usedBy positionsAfter leftAfter inForceAfterAll inForceAfter nodeAt nodeOf isSlot opcodeAt blockOf startedAt entryAt endAt batchAt isBatch wordAt Holds HasOperations HasOpcode isOpOpcode controlOpcodes controls isOneOf Child endingOf cellAt reduced readSystem readStack readState readCaptured
 run =
     Run.join (_, refl)
     (Run.one OneChild.split (nodeId 3, nodeId 7, (_, refl), refl, inl refl) (Run.one OneChild.call (nodeId 4, (_, refl), refl, refl)
@@ -198,7 +200,7 @@ run =
     (Run.block (_, refl) (InBlock.operation 91 (_, refl, refl) refl (InBlock.ended (_, refl, refl) refl)))))))))
 
 runs : Runs profile queued 5 fragments begin
-unfolding forestA forestB queued begin storeOf cycleOf part1 part2 part3 part4 part5 part6 part7 fragments AllAccepted Accepted numberOf after afterAll finalState cycle cycleWith scanOf lentBig forestTooLarge anyLongBlock anyLargeBatch cycleBig cycleCells stateCells tracerCells fixedCells registerCells systemCells stackCells anyFrom profileWrong opcodes twoEqual isOneOf lacksBits fragmentWrong made startNode startKind startBlock startTwo startOne startDyn startDyncall finished repeated finishLoop bodyOf callKind dynKind blockKind entryKind operationMade resumed respanned respanStep nodeAt nodeOf isSlot digestAt opcodeAt blockOf startedAt entryAt endAt batchAt isBatch bigGroup beyond startsAt batchFlags flagsUpTo8 contextAtOp contextAtBatchStart lentBatches groupOf falling groupFrom placeIn contextInGroup consumed counts doubled roundUp groupsOf sumGroups anyAbove8 groupSum pushes opContext tooLarge helpersAnswer allBelow u32Values helpersOf tracerAfter leftAfter storedIn fragmentAfter putRow rowCells decoderCells fresh builtSystem builtStack noSystem noStack lastSystem lastStack controlFlow basicBlockBatch operation wordAt finalStates countsOf OneSize cyclesOf cyclesIn didStored didBy startOf operationAt finishOf nothingStored stored leftBy usedBy positionsAfter inForceAfterAll inForceAfter withLoop loopStarts run treeFrom depthOf
+unfolding forestA forestB queued begin storeOf cycleOf part1 part2 part3 part4 part5 part6 part7 fragments AllAccepted Accepted numberOf after afterAll finalState cycle cycleWith scanOf anyBigOpcode forestTooLarge anyLongBlock anyLargeBatch readRegisters helpersOfCells systemCells stackCells anyFrom profileWrong opcodes twoEqual isOneOf lacksBits fragmentWrong made startNode startKind startBlock startTwo startOne startDyn startDyncall finished repeated finishLoop bodyOf callKind dynKind blockKind entryKind operationMade resumed respanned respanStep nodeAt nodeOf isSlot digestAt opcodeAt blockOf startedAt entryAt endAt batchAt isBatch startsAt batchFlags flagsUpTo8 contextAtOp contextAtBatchStart lentBatches groupOf falling groupFrom placeIn contextInGroup consumed counts doubled roundUp groupsOf sumGroups anyAbove8 groupSum pushes opContext tooLarge helpersAnswer allBelow u32Values helpersOf tracerAfter leftAfter storedIn fragmentAfter putRow rowCells decoderCells fresh builtSystem builtStack noSystem noStack lastSystem lastStack controlFlow basicBlockBatch operation wordAt finalStates countsOf OneSize cyclesOf cyclesIn didStored didBy startOf operationAt finishOf nothingStored stored leftBy usedBy positionsAfter inForceAfterAll inForceAfter withLoop loopStarts run treeFrom depthOf cellAt reduced readSystem readStack readState readCaptured
 runs = record {
   forest = forestA;
   root = 0;
@@ -225,7 +227,7 @@ tree = refl
 
 -- the finisher, with height 34, does not refuse
 passes : FinisherPasses profile queued 5 fragments begin [] (replicate 16 0) 34
-unfolding forestA forestB queued begin storeOf cycleOf part1 part2 part3 part4 part5 part6 part7 fragments AllAccepted Accepted numberOf after afterAll finalState cycle cycleWith scanOf lentBig forestTooLarge anyLongBlock anyLargeBatch cycleBig cycleCells stateCells tracerCells fixedCells registerCells systemCells stackCells anyFrom profileWrong opcodes twoEqual isOneOf lacksBits fragmentWrong made startNode startKind startBlock startTwo startOne startDyn startDyncall finished repeated finishLoop bodyOf callKind dynKind blockKind entryKind operationMade resumed respanned respanStep nodeAt nodeOf isSlot digestAt opcodeAt blockOf startedAt entryAt endAt batchAt isBatch bigGroup beyond startsAt batchFlags flagsUpTo8 contextAtOp contextAtBatchStart lentBatches groupOf falling groupFrom placeIn contextInGroup consumed counts doubled roundUp groupsOf sumGroups anyAbove8 groupSum pushes opContext tooLarge helpersAnswer allBelow u32Values helpersOf tracerAfter leftAfter storedIn fragmentAfter putRow rowCells decoderCells fresh builtSystem builtStack noSystem noStack lastSystem lastStack controlFlow basicBlockBatch operation wordAt finalStates countsOf builtCells cellsOf refusalAll firstOf rowsBig sumOf fragmentsWrong bufferWrong fewerRows anyAbove heightWrong notFull loopWithoutBody anyWithoutBody bodyEnds rowsOf opcodeOf lowBits flaggedEnd
+unfolding forestA forestB queued begin storeOf cycleOf part1 part2 part3 part4 part5 part6 part7 fragments AllAccepted Accepted numberOf after afterAll finalState cycle cycleWith scanOf anyBigOpcode forestTooLarge anyLongBlock anyLargeBatch readRegisters helpersOfCells systemCells stackCells anyFrom profileWrong opcodes twoEqual isOneOf lacksBits fragmentWrong made startNode startKind startBlock startTwo startOne startDyn startDyncall finished repeated finishLoop bodyOf callKind dynKind blockKind entryKind operationMade resumed respanned respanStep nodeAt nodeOf isSlot digestAt opcodeAt blockOf startedAt entryAt endAt batchAt isBatch startsAt batchFlags flagsUpTo8 contextAtOp contextAtBatchStart lentBatches groupOf falling groupFrom placeIn contextInGroup consumed counts doubled roundUp groupsOf sumGroups anyAbove8 groupSum pushes opContext tooLarge helpersAnswer allBelow u32Values helpersOf tracerAfter leftAfter storedIn fragmentAfter putRow rowCells decoderCells fresh builtSystem builtStack noSystem noStack lastSystem lastStack controlFlow basicBlockBatch operation wordAt finalStates countsOf builtCells cellsOf refusalAll firstOf sumOf fragmentsWrong bufferWrong fewerRows anyAbove heightWrong notFull loopWithoutBody anyWithoutBody bodyEnds rowsOf opcodeOf lowBits flaggedEnd cellAt reduced readSystem readStack readState readCaptured
 passes = refl
 
 trace : Trace profile (writtenByFinisher profile queued 5 fragments begin [] (replicate 16 0) 34) (nesting runs)
@@ -241,5 +243,5 @@ listing : fields (allRows (writtenByFinisher profile queued 5 fragments begin []
     ∷ (85, 1, 2) ∷ (104, 11, 0) ∷ (88, 13, 0) ∷ (92, 15, 0) ∷ (86, 17, 2) ∷ (91, 19, 1) ∷ (112, 19, 0) ∷ (112, 17, 0) ∷ (112, 15, 0) ∷ (112, 13, 0)
     ∷ (116, 11, 0) ∷ (104, 11, 0) ∷ (88, 21, 0) ∷ (92, 23, 0) ∷ (86, 25, 2) ∷ (91, 27, 1) ∷ (112, 27, 0) ∷ (112, 25, 0) ∷ (112, 23, 0) ∷ (112, 21, 0)
     ∷ (112, 11, 0) ∷ (112, 1, 0) ∷ (124, 0, 0) ∷ (124, 0, 0) ∷ []
-unfolding forestA forestB queued begin storeOf cycleOf part1 part2 part3 part4 part5 part6 part7 fragments AllAccepted Accepted numberOf after afterAll finalState cycle cycleWith scanOf lentBig forestTooLarge anyLongBlock anyLargeBatch cycleBig cycleCells stateCells tracerCells fixedCells registerCells systemCells stackCells anyFrom profileWrong opcodes twoEqual isOneOf lacksBits fragmentWrong made startNode startKind startBlock startTwo startOne startDyn startDyncall finished repeated finishLoop bodyOf callKind dynKind blockKind entryKind operationMade resumed respanned respanStep nodeAt nodeOf isSlot digestAt opcodeAt blockOf startedAt entryAt endAt batchAt isBatch bigGroup beyond startsAt batchFlags flagsUpTo8 contextAtOp contextAtBatchStart lentBatches groupOf falling groupFrom placeIn contextInGroup consumed counts doubled roundUp groupsOf sumGroups anyAbove8 groupSum pushes opContext tooLarge helpersAnswer allBelow u32Values helpersOf tracerAfter leftAfter storedIn fragmentAfter putRow rowCells decoderCells fresh builtSystem builtStack noSystem noStack lastSystem lastStack controlFlow basicBlockBatch operation wordAt finalStates countsOf builtCells cellsOf refusalAll firstOf rowsBig sumOf fragmentsWrong bufferWrong fewerRows anyAbove heightWrong notFull loopWithoutBody anyWithoutBody bodyEnds rowsOf opcodeOf lowBits flaggedEnd finisherBuffer allPasses onRows flat fixedUp firstRow withSides laterRows builtOf multiplied withCounts inverted inverseOf euclid lastBuilt halted lastRow haltRow haltDecoder haltStack padded paddingRows paddingRow allRows fields
+unfolding forestA forestB queued begin storeOf cycleOf part1 part2 part3 part4 part5 part6 part7 fragments AllAccepted Accepted numberOf after afterAll finalState cycle cycleWith scanOf anyBigOpcode forestTooLarge anyLongBlock anyLargeBatch readRegisters helpersOfCells systemCells stackCells anyFrom profileWrong opcodes twoEqual isOneOf lacksBits fragmentWrong made startNode startKind startBlock startTwo startOne startDyn startDyncall finished repeated finishLoop bodyOf callKind dynKind blockKind entryKind operationMade resumed respanned respanStep nodeAt nodeOf isSlot digestAt opcodeAt blockOf startedAt entryAt endAt batchAt isBatch startsAt batchFlags flagsUpTo8 contextAtOp contextAtBatchStart lentBatches groupOf falling groupFrom placeIn contextInGroup consumed counts doubled roundUp groupsOf sumGroups anyAbove8 groupSum pushes opContext tooLarge helpersAnswer allBelow u32Values helpersOf tracerAfter leftAfter storedIn fragmentAfter putRow rowCells decoderCells fresh builtSystem builtStack noSystem noStack lastSystem lastStack controlFlow basicBlockBatch operation wordAt finalStates countsOf builtCells cellsOf refusalAll firstOf sumOf fragmentsWrong bufferWrong fewerRows anyAbove heightWrong notFull loopWithoutBody anyWithoutBody bodyEnds rowsOf opcodeOf lowBits flaggedEnd finisherBuffer allPasses onRows flat fixedUp firstRow withSides laterRows builtOf multiplied withCounts inverted inverseOf euclid lastBuilt halted lastRow haltRow haltDecoder haltStack padded paddingRows paddingRow allRows fields cellAt reduced readSystem readStack readState readCaptured
 listing = refl

@@ -6,13 +6,14 @@ use Prim.Native.Nat.{ℕ}
 use native.Mathlib.Omega.{arith}
 use lib.ListN.{replicate}
 use Rattle.field.specs.Inverse.{euclid, inverseOf}
-use Rattle.groups.specs.Words.{wordAt, beyond}
-use Rattle.groups.specs.Batches.{isBatch, batchAt, bigGroup, startsAt}
+use Rattle.field.specs.Cells.{cellAt, reduced}
+use Rattle.groups.specs.Words.{wordAt}
+use Rattle.groups.specs.Batches.{isBatch, batchAt, startsAt}
 use Rattle.groups.specs.Flags.{flagsUpTo8, batchFlags}
 use Rattle.groups.specs.GroupOfOperation.{falling, placeIn, groupFrom, groupOf}
 use Rattle.groups.specs.GroupsLeft.{counts, doubled, roundUp, groupsOf, sumGroups, anyAbove8, groupSum, pushes}
 use Rattle.groups.specs.Contexts.{tooLarge, consumed, opContext, contextInGroup, contextAtOp}
-use Rattle.groups.specs.Helpers.{allBelow, registerCells, u32Values, helpersOf, helpersAnswer}
+use Rattle.groups.specs.Helpers.{allBelow, readRegisters, u32Values, helpersOf, helpersOfCells, helpersAnswer}
 use Rattle.groups.specs.declared.helpers.OperationHelperRegisters.{OperationHelperRegisters}
 use Rattle.records.specs.declared.continuation.Continuation.{Continuation}
 use Rattle.records.specs.declared.continuation.LoopCondition.{LoopCondition}
@@ -21,16 +22,17 @@ use Rattle.records.specs.declared.continuation.ContextInfo.{ContextInfo}
 use Rattle.field.specs.Bounds.{anyFrom}
 use Rattle.records.specs.Profiles.{opcodes, isOneOf, twoEqual, lacksBits, profileWrong}
 use Rattle.records.specs.Forests.{Forest, isSlot, nodeId, nodeOf, nodeAt, digestAt, opcodeAt, blockOf}
-use Rattle.records.specs.Addresses.{Queues, entryAt, startedAt, endAt}
+use Rattle.records.specs.Addresses.{Queues, entryAt, startedAt, endAt, readState}
+use Rattle.records.specs.Captured.{readCaptured}
 use Rattle.records.specs.DecoderRows.{controlFlow, basicBlockBatch, operation, decoderCells}
-use Rattle.records.specs.Built.{builtSystem, builtStack, noSystem, noStack, systemCells, stackCells}
+use Rattle.records.specs.Built.{builtSystem, builtStack, noSystem, noStack, systemCells, stackCells, readSystem, readStack}
 use Rattle.rows.specs.Made.{Place, startBlock, startOne, startKind, startNode, blockKind, entryKind, finished, bodyOf, repeated, finishLoop, operationMade, resumed, made}
 use Rattle.records.specs.Cells.{rowCells, putRow}
-use Rattle.rows.specs.Scans.{lentBig, anyLongBlock, anyLargeBatch, forestTooLarge, scanOf, stateCells, tracerCells, fixedCells, cycleCells, cycleBig}
+use Rattle.rows.specs.Scans.{anyBigOpcode, anyLongBlock, anyLargeBatch, forestTooLarge, scanOf}
 use Rattle.records.specs.Cells.{fragmentWrong}
 use Rattle.rows.specs.Cycles.{fresh, storedIn, cycleWith, cycle, leftAfter, tracerAfter, lastSystem, lastStack, fragmentAfter, finalState}
 use Rattle.passes.specs.Buffers.{rowsOf, flat, onRows, lastRow, addrOf}
-use Rattle.passes.specs.Passes.{withSides, firstRow, laterRows, fixedUp, builtOf, lowBits, opcodeOf, flaggedEnd, bodyEnds, withCounts, anyWithoutBody, multiplied, loopWithoutBody, inverted, haltDecoder, haltStack, haltRow, halted, paddingRow, paddingRows, padded, rowsBig, bufferWrong, fewerRows, sumOf, anyAbove, notFull, firstOf, fragmentsWrong, heightWrong, refusal1, refusal2, refusal3, refusal4, refusal5, refusalAll, lastBuilt, allPasses}
+use Rattle.passes.specs.Passes.{withSides, firstRow, laterRows, fixedUp, builtOf, lowBits, opcodeOf, flaggedEnd, bodyEnds, withCounts, anyWithoutBody, multiplied, loopWithoutBody, inverted, haltDecoder, haltStack, haltRow, halted, paddingRow, paddingRows, padded, bufferWrong, fewerRows, sumOf, anyAbove, notFull, firstOf, fragmentsWrong, heightWrong, refusal1, refusal2, refusal3, refusal4, refusal5, refusalAll, lastBuilt, allPasses}
 use Rattle.readings.specs.Tokens.{controls, controlOpcodes, isOpOpcode, countOf}
 use Rattle.readings.specs.Readings.{Ops, Block, Passes, depthOf, allRows, Trace}
 use Rattle.readings.proofs.Examples.{profile}
@@ -93,21 +95,21 @@ fragments =
     ∷ record { calls = calls3; cells = replicate 196 9 } ∷ []
 
 free : AllAccepted profile queued fragments begin
-unfolding forestA queued begin storeOf cycleOf calls1 calls2 calls3 fragments AllAccepted Accepted numberOf after afterAll finalState cycle cycleWith scanOf lentBig forestTooLarge anyLongBlock anyLargeBatch cycleBig cycleCells stateCells tracerCells fixedCells registerCells systemCells stackCells anyFrom profileWrong opcodes twoEqual isOneOf lacksBits fragmentWrong made startNode startKind startBlock startOne finished repeated finishLoop bodyOf blockKind entryKind operationMade resumed nodeAt nodeOf isSlot digestAt opcodeAt blockOf startedAt entryAt endAt batchAt isBatch bigGroup beyond startsAt batchFlags flagsUpTo8 contextAtOp groupOf falling groupFrom placeIn contextInGroup consumed counts doubled roundUp groupsOf sumGroups anyAbove8 groupSum pushes opContext tooLarge helpersAnswer allBelow u32Values helpersOf tracerAfter leftAfter storedIn fragmentAfter putRow rowCells decoderCells fresh builtSystem builtStack noSystem noStack lastSystem lastStack controlFlow basicBlockBatch operation wordAt
+unfolding forestA queued begin storeOf cycleOf calls1 calls2 calls3 fragments AllAccepted Accepted numberOf after afterAll finalState cycle cycleWith scanOf anyBigOpcode forestTooLarge anyLongBlock anyLargeBatch readRegisters helpersOfCells systemCells stackCells anyFrom profileWrong opcodes twoEqual isOneOf lacksBits fragmentWrong made startNode startKind startBlock startOne finished repeated finishLoop bodyOf blockKind entryKind operationMade resumed nodeAt nodeOf isSlot digestAt opcodeAt blockOf startedAt entryAt endAt batchAt isBatch startsAt batchFlags flagsUpTo8 contextAtOp groupOf falling groupFrom placeIn contextInGroup consumed counts doubled roundUp groupsOf sumGroups anyAbove8 groupSum pushes opContext tooLarge helpersAnswer allBelow u32Values helpersOf tracerAfter leftAfter storedIn fragmentAfter putRow rowCells decoderCells fresh builtSystem builtStack noSystem noStack lastSystem lastStack controlFlow basicBlockBatch operation wordAt cellAt reduced readSystem readStack readState readCaptured
 free = (
   (refl, (refl, (refl, (refl, (refl, (refl, (refl, (refl, refl)))))))),
   ((refl, (refl, (refl, (refl, (refl, (refl, (refl, (refl, refl)))))))), ((refl, (refl, refl)), tt)),
 )
 
 run : Run profile forestA 0 false 0 1 77 (cyclesOf queued fragments (begin .at)) []
-unfolding forestA queued begin storeOf cycleOf calls1 calls2 calls3 fragments cyclesOf cyclesIn didStored didBy startOf operationAt finishOf nothingStored stored leftBy usedBy positionsAfter leftAfter inForceAfterAll inForceAfter nodeAt nodeOf isSlot opcodeAt blockOf startedAt entryAt endAt batchAt isBatch wordAt Holds HasOperations HasOpcode isOpOpcode controlOpcodes controls isOneOf
+unfolding forestA queued begin storeOf cycleOf calls1 calls2 calls3 fragments cyclesOf cyclesIn didStored didBy startOf operationAt finishOf nothingStored stored leftBy usedBy positionsAfter leftAfter inForceAfterAll inForceAfter nodeAt nodeOf isSlot opcodeAt blockOf startedAt entryAt endAt batchAt isBatch wordAt Holds HasOperations HasOpcode isOpOpcode controlOpcodes controls isOneOf cellAt reduced readSystem readStack readState readCaptured
 run =
     Run.loop (_, refl)
     (RunPasses.again (Run.block (_, refl) (InBlock.operation 5 (_, refl, refl) refl (InBlock.ended (_, refl, refl) refl)))
     (RunPasses.ended (Run.block (_, refl) (InBlock.operation 5 (_, refl, refl) refl (InBlock.ended (_, refl, refl) refl)))))
 
 runs : Runs profile queued 4 fragments begin
-unfolding forestA queued begin storeOf cycleOf calls1 calls2 calls3 fragments AllAccepted Accepted numberOf after afterAll finalState cycle cycleWith scanOf lentBig forestTooLarge anyLongBlock anyLargeBatch cycleBig cycleCells stateCells tracerCells fixedCells registerCells systemCells stackCells anyFrom profileWrong opcodes twoEqual isOneOf lacksBits fragmentWrong made startNode startKind startBlock startOne finished repeated finishLoop bodyOf blockKind entryKind operationMade resumed nodeAt nodeOf isSlot digestAt opcodeAt blockOf startedAt entryAt endAt batchAt isBatch bigGroup beyond startsAt batchFlags flagsUpTo8 contextAtOp groupOf falling groupFrom placeIn contextInGroup consumed counts doubled roundUp groupsOf sumGroups anyAbove8 groupSum pushes opContext tooLarge helpersAnswer allBelow u32Values helpersOf tracerAfter leftAfter storedIn fragmentAfter putRow rowCells decoderCells fresh builtSystem builtStack noSystem noStack lastSystem lastStack controlFlow basicBlockBatch operation wordAt finalStates countsOf OneSize cyclesOf cyclesIn didStored didBy startOf operationAt finishOf nothingStored stored leftBy usedBy positionsAfter inForceAfterAll inForceAfter withLoop loopStarts run treeFrom depthOf
+unfolding forestA queued begin storeOf cycleOf calls1 calls2 calls3 fragments AllAccepted Accepted numberOf after afterAll finalState cycle cycleWith scanOf anyBigOpcode forestTooLarge anyLongBlock anyLargeBatch readRegisters helpersOfCells systemCells stackCells anyFrom profileWrong opcodes twoEqual isOneOf lacksBits fragmentWrong made startNode startKind startBlock startOne finished repeated finishLoop bodyOf blockKind entryKind operationMade resumed nodeAt nodeOf isSlot digestAt opcodeAt blockOf startedAt entryAt endAt batchAt isBatch startsAt batchFlags flagsUpTo8 contextAtOp groupOf falling groupFrom placeIn contextInGroup consumed counts doubled roundUp groupsOf sumGroups anyAbove8 groupSum pushes opContext tooLarge helpersAnswer allBelow u32Values helpersOf tracerAfter leftAfter storedIn fragmentAfter putRow rowCells decoderCells fresh builtSystem builtStack noSystem noStack lastSystem lastStack controlFlow basicBlockBatch operation wordAt finalStates countsOf OneSize cyclesOf cyclesIn didStored didBy startOf operationAt finishOf nothingStored stored leftBy usedBy positionsAfter inForceAfterAll inForceAfter withLoop loopStarts run treeFrom depthOf cellAt reduced readSystem readStack readState readCaptured
 runs = record {
   forest = forestA;
   root = 0;
@@ -128,7 +130,7 @@ tree = refl
 
 -- the finisher and the five calls, with height 10, do not refuse
 passes : FinisherPasses profile queued 4 fragments begin [] (replicate 16 0) 10
-unfolding forestA queued begin storeOf cycleOf calls1 calls2 calls3 fragments AllAccepted Accepted numberOf after afterAll finalState cycle cycleWith scanOf lentBig forestTooLarge anyLongBlock anyLargeBatch cycleBig cycleCells stateCells tracerCells fixedCells registerCells systemCells stackCells anyFrom profileWrong opcodes twoEqual isOneOf lacksBits fragmentWrong made startNode startKind startBlock startOne finished repeated finishLoop bodyOf blockKind entryKind operationMade resumed nodeAt nodeOf isSlot digestAt opcodeAt blockOf startedAt entryAt endAt batchAt isBatch bigGroup beyond startsAt batchFlags flagsUpTo8 contextAtOp groupOf falling groupFrom placeIn contextInGroup consumed counts doubled roundUp groupsOf sumGroups anyAbove8 groupSum pushes opContext tooLarge helpersAnswer allBelow u32Values helpersOf tracerAfter leftAfter storedIn fragmentAfter putRow rowCells decoderCells fresh builtSystem builtStack noSystem noStack lastSystem lastStack controlFlow basicBlockBatch operation wordAt finalStates countsOf builtCells cellsOf refusalAll firstOf rowsBig sumOf fragmentsWrong bufferWrong fewerRows anyAbove heightWrong notFull loopWithoutBody anyWithoutBody bodyEnds rowsOf opcodeOf lowBits flaggedEnd
+unfolding forestA queued begin storeOf cycleOf calls1 calls2 calls3 fragments AllAccepted Accepted numberOf after afterAll finalState cycle cycleWith scanOf anyBigOpcode forestTooLarge anyLongBlock anyLargeBatch readRegisters helpersOfCells systemCells stackCells anyFrom profileWrong opcodes twoEqual isOneOf lacksBits fragmentWrong made startNode startKind startBlock startOne finished repeated finishLoop bodyOf blockKind entryKind operationMade resumed nodeAt nodeOf isSlot digestAt opcodeAt blockOf startedAt entryAt endAt batchAt isBatch startsAt batchFlags flagsUpTo8 contextAtOp groupOf falling groupFrom placeIn contextInGroup consumed counts doubled roundUp groupsOf sumGroups anyAbove8 groupSum pushes opContext tooLarge helpersAnswer allBelow u32Values helpersOf tracerAfter leftAfter storedIn fragmentAfter putRow rowCells decoderCells fresh builtSystem builtStack noSystem noStack lastSystem lastStack controlFlow basicBlockBatch operation wordAt finalStates countsOf builtCells cellsOf refusalAll firstOf sumOf fragmentsWrong bufferWrong fewerRows anyAbove heightWrong notFull loopWithoutBody anyWithoutBody bodyEnds rowsOf opcodeOf lowBits flaggedEnd cellAt reduced readSystem readStack readState readCaptured
 passes = refl
 
 trace : Trace profile (writtenByFinisher profile queued 4 fragments begin [] (replicate 16 0) 10) (nesting runs)
@@ -136,7 +138,7 @@ trace = finisher-trace profile queued 4 fragments begin runs [] (replicate 16 0)
 
 -- nor do the five calls
 five : FivePass profile queued 4 fragments begin [] (replicate 16 0) 10
-unfolding forestA queued begin storeOf cycleOf calls1 calls2 calls3 fragments AllAccepted Accepted numberOf after afterAll finalState cycle cycleWith scanOf lentBig forestTooLarge anyLongBlock anyLargeBatch cycleBig cycleCells stateCells tracerCells fixedCells registerCells systemCells stackCells anyFrom profileWrong opcodes twoEqual isOneOf lacksBits fragmentWrong made startNode startKind startBlock startOne finished repeated finishLoop bodyOf blockKind entryKind operationMade resumed nodeAt nodeOf isSlot digestAt opcodeAt blockOf startedAt entryAt endAt batchAt isBatch bigGroup beyond startsAt batchFlags flagsUpTo8 contextAtOp groupOf falling groupFrom placeIn contextInGroup consumed counts doubled roundUp groupsOf sumGroups anyAbove8 groupSum pushes opContext tooLarge helpersAnswer allBelow u32Values helpersOf tracerAfter leftAfter storedIn fragmentAfter putRow rowCells decoderCells fresh builtSystem builtStack noSystem noStack lastSystem lastStack controlFlow basicBlockBatch operation wordAt finalStates countsOf builtCells cellsOf refusalAll firstOf rowsBig sumOf fragmentsWrong bufferWrong fewerRows anyAbove heightWrong notFull loopWithoutBody anyWithoutBody bodyEnds rowsOf opcodeOf lowBits flaggedEnd buffer1 buffer2 buffer3 buffer4 refusal1 refusal2 refusal3 refusal4 refusal5 onRows flat fixedUp firstRow withSides laterRows builtOf multiplied withCounts inverted inverseOf euclid lastBuilt halted lastRow haltRow haltDecoder haltStack padded paddingRows paddingRow
+unfolding forestA queued begin storeOf cycleOf calls1 calls2 calls3 fragments AllAccepted Accepted numberOf after afterAll finalState cycle cycleWith scanOf anyBigOpcode forestTooLarge anyLongBlock anyLargeBatch readRegisters helpersOfCells systemCells stackCells anyFrom profileWrong opcodes twoEqual isOneOf lacksBits fragmentWrong made startNode startKind startBlock startOne finished repeated finishLoop bodyOf blockKind entryKind operationMade resumed nodeAt nodeOf isSlot digestAt opcodeAt blockOf startedAt entryAt endAt batchAt isBatch startsAt batchFlags flagsUpTo8 contextAtOp groupOf falling groupFrom placeIn contextInGroup consumed counts doubled roundUp groupsOf sumGroups anyAbove8 groupSum pushes opContext tooLarge helpersAnswer allBelow u32Values helpersOf tracerAfter leftAfter storedIn fragmentAfter putRow rowCells decoderCells fresh builtSystem builtStack noSystem noStack lastSystem lastStack controlFlow basicBlockBatch operation wordAt finalStates countsOf builtCells cellsOf refusalAll firstOf sumOf fragmentsWrong bufferWrong fewerRows anyAbove heightWrong notFull loopWithoutBody anyWithoutBody bodyEnds rowsOf opcodeOf lowBits flaggedEnd buffer1 buffer2 buffer3 buffer4 refusal1 refusal2 refusal3 refusal4 refusal5 onRows flat fixedUp firstRow withSides laterRows builtOf multiplied withCounts inverted inverseOf euclid lastBuilt halted lastRow haltRow haltDecoder haltStack padded paddingRows paddingRow cellAt reduced readSystem readStack readState readCaptured
 five = record { first = refl; second = refl; third = refl; fourth = refl; fifth = refl }
 
 trace-five : Trace profile (writtenByFive profile queued 4 fragments begin [] (replicate 16 0) 10) (nesting runs)
@@ -149,5 +151,5 @@ fields (row ∷ rows) = (opcodeOf row, addrOf row, countOf row) ∷ fields rows
 
 listing : fields (allRows (writtenByFinisher profile queued 4 fragments begin [] (replicate 16 0) 10)) ≡
     (85, 0, 2) ∷ (86, 1, 1) ∷ (5, 3, 0) ∷ (112, 3, 0) ∷ (116, 1, 0) ∷ (86, 1, 1) ∷ (5, 5, 0) ∷ (112, 5, 0) ∷ (112, 1, 0) ∷ (124, 0, 0) ∷ []
-unfolding forestA queued begin storeOf cycleOf calls1 calls2 calls3 fragments AllAccepted Accepted numberOf after afterAll finalState cycle cycleWith scanOf lentBig forestTooLarge anyLongBlock anyLargeBatch cycleBig cycleCells stateCells tracerCells fixedCells registerCells systemCells stackCells anyFrom profileWrong opcodes twoEqual isOneOf lacksBits fragmentWrong made startNode startKind startBlock startOne finished repeated finishLoop bodyOf blockKind entryKind operationMade resumed nodeAt nodeOf isSlot digestAt opcodeAt blockOf startedAt entryAt endAt batchAt isBatch bigGroup beyond startsAt batchFlags flagsUpTo8 contextAtOp groupOf falling groupFrom placeIn contextInGroup consumed counts doubled roundUp groupsOf sumGroups anyAbove8 groupSum pushes opContext tooLarge helpersAnswer allBelow u32Values helpersOf tracerAfter leftAfter storedIn fragmentAfter putRow rowCells decoderCells fresh builtSystem builtStack noSystem noStack lastSystem lastStack controlFlow basicBlockBatch operation wordAt finalStates countsOf builtCells cellsOf refusalAll firstOf rowsBig sumOf fragmentsWrong bufferWrong fewerRows anyAbove heightWrong notFull loopWithoutBody anyWithoutBody bodyEnds rowsOf opcodeOf lowBits flaggedEnd finisherBuffer allPasses onRows flat fixedUp firstRow withSides laterRows builtOf multiplied withCounts inverted inverseOf euclid lastBuilt halted lastRow haltRow haltDecoder haltStack padded paddingRows paddingRow allRows fields
+unfolding forestA queued begin storeOf cycleOf calls1 calls2 calls3 fragments AllAccepted Accepted numberOf after afterAll finalState cycle cycleWith scanOf anyBigOpcode forestTooLarge anyLongBlock anyLargeBatch readRegisters helpersOfCells systemCells stackCells anyFrom profileWrong opcodes twoEqual isOneOf lacksBits fragmentWrong made startNode startKind startBlock startOne finished repeated finishLoop bodyOf blockKind entryKind operationMade resumed nodeAt nodeOf isSlot digestAt opcodeAt blockOf startedAt entryAt endAt batchAt isBatch startsAt batchFlags flagsUpTo8 contextAtOp groupOf falling groupFrom placeIn contextInGroup consumed counts doubled roundUp groupsOf sumGroups anyAbove8 groupSum pushes opContext tooLarge helpersAnswer allBelow u32Values helpersOf tracerAfter leftAfter storedIn fragmentAfter putRow rowCells decoderCells fresh builtSystem builtStack noSystem noStack lastSystem lastStack controlFlow basicBlockBatch operation wordAt finalStates countsOf builtCells cellsOf refusalAll firstOf sumOf fragmentsWrong bufferWrong fewerRows anyAbove heightWrong notFull loopWithoutBody anyWithoutBody bodyEnds rowsOf opcodeOf lowBits flaggedEnd finisherBuffer allPasses onRows flat fixedUp firstRow withSides laterRows builtOf multiplied withCounts inverted inverseOf euclid lastBuilt halted lastRow haltRow haltDecoder haltStack padded paddingRows paddingRow allRows fields cellAt reduced readSystem readStack readState readCaptured
 listing = refl

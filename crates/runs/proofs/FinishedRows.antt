@@ -7,6 +7,8 @@ use Prim.Native.Nat.{ℕ, suc, _+_, _-_, _≤_, _<_}
 use native.Mathlib.Omega.{arith}
 use lib.Dec.{eqb}
 use lib.ListN.{length, getD, length-append}
+use Rattle.field.specs.Modulus.{P}
+use Rattle.field.specs.Cells.{reduced}
 use Rattle.groups.specs.Answer.{pick}
 use Rattle.records.specs.declared.profile.Profile.{Profile}
 use Rattle.records.specs.declared.replay.DecoderState.{DecoderState}
@@ -148,7 +150,7 @@ module _ (p : Profile) (right : profileWrong p ≡ false) (size : ℕ) (top : Li
       ap (λ (l : List (List ℕ)). length l) all-split ∙ length-append counted-rows halt-rows
       ∙ omega (arith, three-length, halted-length, length-paddings p (height - length (halted p built counted-rows)) (length (halted p built counted-rows)) halt-row)
 
-  module _ (cycles : List Cycle) (state : DecoderState) (shows-laid : looks p rows ≡ laid p cycles state) where
+  module _ (cycles : List Cycle) (state : DecoderState) (shows-laid : looks p rows ≡ laid p cycles state) (few : length rows < P) where
     abbrev counts : ℕ → ℕ
     counts x = hits x (laid p cycles state)
 
@@ -156,13 +158,13 @@ module _ (p : Profile) (right : profileWrong p ≡ false) (size : ℕ) (top : Li
     three-looks =
         let fixed : List (List ℕ) = fixedUp size top lasts rows in
         let same = fixed-looks p rows lasts size top lasts-wide rows-wide ∙ shows-laid in
-        inverted-looks p (multiplied p fixed) ∙ multiplied-looks p right fixed (fixed-wide rows lasts size top lasts-wide rows-wide)
+        inverted-looks p (multiplied p fixed) ∙ multiplied-looks p right fixed (omega (arith, few, fixed-length rows lasts size top)) (fixed-wide rows lasts size top lasts-wide rows-wide)
         ∙ ap (λ (l : List Seen). counted (λ x. hits x l) l) same
 
     all-looks : looks p all-rows ≡ counted counts (laid p cycles state) ++ looks p halt-rows
     all-looks = ap (looks p) all-split ∙ looks-app p counted-rows halt-rows ∙ ap (λ y. y ++ looks p halt-rows) three-looks
 
-    module _ {forest : Forest} {id a b g : ℕ} (d : Run p forest id false a b g cycles []) (apart : twoEqual (loopStarts cycles) ≡ false) (shallow : depthOf (treeFrom p 0 d .0) ≤ 64) where
+    module _ {forest : Forest} {id a b g : ℕ} (d : Run p forest id false a b g cycles []) (apart : twoEqual (reduced (loopStarts cycles)) ≡ false) (shallow : depthOf (treeFrom p 0 d .0) ≤ 64) where
       word : Word (tokensOf p all-rows) (treeFrom p 0 d .0)
       unfolding Word laid looks
       word = (

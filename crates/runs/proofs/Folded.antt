@@ -20,9 +20,10 @@ use Rattle.rows.specs.declared.made.MadeRow.{MadeRow}
 use Rattle.rows.specs.declared.tracer.StoredContinuation.{StoredContinuation}
 use Rattle.rows.specs.declared.tracer.CoreTraceGenerationTracer.{CoreTraceGenerationTracer}
 use Rattle.records.specs.Forests.{Forest, nodeAt, opcodeAt, blockOf}
-use Rattle.records.specs.Addresses.{Queues, startedAt, endAt}
+use Rattle.records.specs.Addresses.{Queues, startedAt, endAt, readState}
 use Rattle.field.specs.Bounds.{anyFrom}
-use Rattle.rows.specs.Scans.{lentBig, cycleBig}
+use Rattle.field.specs.Cells.{reduced}
+use Rattle.rows.specs.Scans.{anyBigOpcode}
 use Rattle.rows.specs.Made.{Place, conditionOf}
 use Rattle.records.specs.DecoderRows.{decoderCells}
 use Rattle.records.specs.Built.{systemCells, stackCells}
@@ -36,6 +37,7 @@ use Rattle.runs.specs.Calls.{Handed, Call, store, finish, Fragment, Held
 use Rattle.runs.specs.Happened.{Ending, Did, Cycle, InForce, nothingStored, orNothing, startOf, operationAt, finishOf, didBy, didStored, did, stored, leftBy, inForceAfter, inForceAfterAll, cyclesIn, cyclesOf}
 use Rattle.runs.specs.Written.{rowMade, rowsIn, rowsRun}
 use Rattle.runs.proofs.Answers.{then-accepted, pick-accepted, Came, came}
+use Rattle.reductions.proofs.StatesRead.{IsRead, read-is, cycle-read}
 use Rattle.runs.proofs.CycleLaws.{stateAfter, Law, made-law}
 use Rattle.runs.proofs.Opcodes.{below-at}
 use Rattle.runs.proofs.Looks.{look, looks, looks-app, laidRow, laid, Fine, Small, row-look}
@@ -74,16 +76,12 @@ opcode-small ops batch op opcode small e =
     both true b e = e
     both false b e = let z : _≡_ {A = ℕ} 0 1 = cc in absurd (omega arith)
 
-lent-ops : (f : Forest) (q : Queues) → lentBig f q ≡ false → anyFrom 128 (f .ops) ≡ false
-unfolding lentBig
-lent-ops f q e = neither (anyFrom 128 (f .ops)) _ (neither (anyFrom P (f .groups)) _ (neither (anyFrom P (f .digests)) _ e .1) .1) .0
-
 finish-small : (q : Queues) (v : InForce) (ending : Ending) (id : ℕ) → Small (finishOf q v ending id)
 unfolding finishOf Small
 finish-small q v ending id = or-small (endAt (q .ends) (v .at .ends)) _ (λ x e. tt)
 
-did-small : (q : Queues) (f : Forest) (v : InForce) → lentBig f q ≡ false → (continuation : Continuation) → Small (didBy q f v continuation)
-unfolding didBy operationAt Small
+did-small : (q : Queues) (f : Forest) (v : InForce) → anyBigOpcode (f .ops) ≡ false → (continuation : Continuation) → Small (didBy q f v continuation)
+unfolding didBy operationAt Small anyBigOpcode
 did-small q f v e (Continuation.StartNode id) =
     or-small (startedAt (q .addresses) (q .parents) (v .at)) _ (λ s h. or-small (nodeAt (f .nodes) (f .digests) (id .0)) _ (λ entry k. start-small (entry .node) (id .0) (s .«current_addr») (s .«parent_addr»)))
 did-small q f v e (Continuation.FinishJoin id) = finish-small q v _ (id .0)
@@ -97,7 +95,7 @@ did-small q f v e (Continuation.ResumeBasicBlock id index op) =
     let (entry, e1, e2) = then-accepted (nodeAt (f .nodes) (f .digests) (id .0)) _ opcode h in
     let (block, e3, e4) = then-accepted (blockOf (entry .node)) _ opcode e2 in
     let (batch, e5, e6) = then-accepted (batchAt (f .batches) (f .groups) block index) _ opcode e4 in
-    opcode-small (f .ops) batch op opcode (lent-ops f q e) e6)
+    opcode-small (f .ops) batch op opcode e e6)
 did-small q f v e (Continuation.Respan id index) = tt
 did-small q f v e (Continuation.FinishBasicBlock id) = finish-small q v _ (id .0)
 did-small q f v e Continuation.EnterForest = tt
@@ -109,7 +107,7 @@ unfoldable pub inForce : CoreTraceGenerationTracer → InForce
 inForce t = record { stored = t .stored; isLoopBody = t .«is_loop_body»; captured = t .captured; at = t .at }
 
 pub row-wide : (t : CoreTraceGenerationTracer) (m : MadeRow) → length (rowCells (lastSystem t) (m .row) (lastStack t)) ≡ 49
-unfolding rowCells systemCells decoderCells stackCells
+unfolding rowCells reduced systemCells decoderCells stackCells
 row-wide t m = refl
 
 pub stored-same : (t : CoreTraceGenerationTracer) (values : StoredValues) → t .refusal ≡ 0 → storedIn t values ≡ storing t values
@@ -123,7 +121,7 @@ module _ (p : Profile) (q : Queues) where
     pub answer : answered p q z i ≡ accepted m
     pub law : Law p (did q (i .forest) (inForce (z .tracer))) (z .tracer .state) (z .tracer .at) m
     pub small : Small (did q (i .forest) (inForce (z .tracer)))
-    pub came-from : Came p (i .forest) q (i .system) (i .stack) (i .registers) (length (z .cells)) (z .tracer) m
+    pub came-from : Came p (i .forest) q (i .stack) (i .registers) (length (z .cells)) (z .tracer) m
 
   did-is : (f : Forest) (v : InForce) (continuation : Continuation) → v .stored ≡ StoredContinuation.Is continuation → did q f v ≡ didBy q f v continuation
   unfolding didStored
@@ -132,13 +130,13 @@ module _ (p : Profile) (q : Queues) where
   pub stepped : (z : Held) (i : Handed) → numberOf p q z (finish i) ≡ 0 → Stepped z i
   unfolding numberOf inForce
   stepped z i e =
-      let (m, c) = came p (i .forest) q (i .system) (i .stack) (i .registers) (length (z .cells)) (z .tracer) e in
+      let (m, c) = came p (i .forest) q (i .stack) (i .registers) (length (z .cells)) (z .tracer) e in
       let same = did-is (i .forest) (inForce (z .tracer)) (c .continuation) (c .stored-is) in
       record {
         m = m;
         answer = c .answer;
         law = rw same (made-law (i .forest) q p (i .registers) (inForce (z .tracer)) (z .tracer .state) m (c .continuation) (c .made-is));
-        small = rw same (did-small q (i .forest) (inForce (z .tracer)) (neither (lentBig (i .forest) q) (cycleBig (i .system) (i .stack) (i .registers) (z .tracer)) (c .small) .0) (c .continuation));
+        small = rw same (did-small q (i .forest) (inForce (z .tracer)) (c .small) (c .continuation));
         came-from = c;
       }
 
@@ -322,13 +320,29 @@ module _ (p : Profile) (q : Queues) where
   force-at here fragment a = ap (λ (v : InForce). v .at) (force-all (fragment .calls) (opened p q here fragment) a)
 
   first-laid : (here : Place) (fragment : Fragment) (more : List Cycle) → Accepted p q (fragment .calls) (opened p q here fragment) → AllFine (cyclesIn q (fragment .calls) (nothingStored (here .at))) →
-      laid p (cyclesIn q (fragment .calls) (nothingStored (here .at)) ++ more) (here .state) ≡ looks p (rowsIn p q (fragment .calls) (opened p q here fragment)) ++ laid p more (closed p q here fragment .tracer .state)
+      laid p (cyclesIn q (fragment .calls) (nothingStored (here .at)) ++ more) (readState (here .state)) ≡ looks p (rowsIn p q (fragment .calls) (opened p q here fragment)) ++ laid p more (closed p q here fragment .tracer .state)
   unfolding inForce fresh nothingStored
   first-laid here fragment more a o = calls-laid (fragment .calls) (opened p q here fragment) more a o
 
+  -- THE ADDRESS STATE
+
+  -- cycles leave addresses that are cells
+  calls-read : (calls : List Call) (z : Held) → Accepted p q calls z → IsRead (z .tracer .state) → IsRead (afterAll p q calls z .tracer .state)
+  unfolding Accepted numberOf after afterAll
+  calls-read [] z a e = e
+  calls-read (store values ∷ calls) z a e = calls-read calls (after p q z (store values)) (a .1) (rw (stored-same (z .tracer) values (a .0)) e)
+  calls-read (finish i ∷ calls) z a e = calls-read calls (after p q z (finish i)) (a .1) (cycle-read p (i .forest) q (i .system) (i .stack) (i .registers) (length (z .cells)) (z .tracer) e)
+
+  -- so the next fragment's tracer begins where this one's ended
+  pub closed-read : (here : Place) (fragment : Fragment) → Accepted p q (fragment .calls) (opened p q here fragment) → IsRead (closed p q here fragment .tracer .state)
+  unfolding fresh
+  closed-read here fragment a = calls-read (fragment .calls) (opened p q here fragment) a (read-is (here .state))
+
+  -- WHAT THE ROWS OF A RUN SHOW
+
   -- the rows of a run show what its cycles did
   pub rows-laid : (fragments : List Fragment) (here : Place) → AllAccepted p q fragments here → AllFine (cyclesOf q fragments (here .at)) →
-      looks p (rowsRun p q fragments here) ≡ laid p (cyclesOf q fragments (here .at)) (here .state)
+      looks p (rowsRun p q fragments here) ≡ laid p (cyclesOf q fragments (here .at)) (readState (here .state))
   unfolding rowsRun cyclesOf AllAccepted looks laid
   rows-laid [] here a o = refl
   rows-laid (fragment ∷ fragments) here a o =
@@ -338,6 +352,6 @@ module _ (p : Profile) (q : Queues) where
       let more : List Cycle = cyclesOf q fragments (there .at) in
       let e : cyclesOf q fragments (inForceAfterAll q (fragment .calls) (nothingStored (here .at)) .at) ≡ more = ap (cyclesOf q fragments) (sym k) in
       looks-app p (rowsIn p q (fragment .calls) (opened p q here fragment)) (rowsRun p q fragments there)
-      ∙ ap (λ x. looks p (rowsIn p q (fragment .calls) (opened p q here fragment)) ++ x) (rows-laid fragments there (a .1) (rw e at (y .1)))
+      ∙ ap (λ x. looks p (rowsIn p q (fragment .calls) (opened p q here fragment)) ++ x) (rows-laid fragments there (a .1) (rw e at (y .1)) ∙ ap (laid p more) (closed-read here fragment (a .0)))
       ∙ sym (first-laid here fragment more (a .0) (y .0))
-      ∙ ap (λ x. laid p (cyclesIn q (fragment .calls) (nothingStored (here .at)) ++ x) (here .state)) (sym e)
+      ∙ ap (λ x. laid p (cyclesIn q (fragment .calls) (nothingStored (here .at)) ++ x) (readState (here .state))) (sym e)

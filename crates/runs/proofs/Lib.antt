@@ -5,11 +5,12 @@ pub mod Looks
 pub mod Tallied
 pub mod Spelled
 pub mod Counted
+pub mod StartsReduced
 pub mod Folded
 pub mod PassLooks
-pub mod CellsBelow
 pub mod FinishedRows
 pub mod TraceOfRun
+pub mod WrittenReduced
 pub mod OneNesting
 pub mod Decoders
 pub mod Unfragmented

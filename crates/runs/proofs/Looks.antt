@@ -1,13 +1,16 @@
 -- What a row shows of what a trace is read by: its token, its address, and by its opcode the flag of an END or the count of a LOOP. The rows
 -- of cycles show what the cycles did.
 use mathlib.Core.Path.{_≡_, refl, ap}
-use mathlib.Core.Bool.{true, false}
+use mathlib.Core.Bool.{Bool, true, false}
 use mathlib.Core.List.{List, [], _∷_, _++_}
 use Prim.Native.Nat.{ℕ, _+_, _*_, _/_, _%_, _<_}
 use native.Mathlib.Omega.{arith}
 use borrow.Author.Tests.{lt-ltb, eq-eqb}
 use lib.Dec.{eqb}
 use lib.ListN.{getD}
+use Rattle.field.specs.Modulus.{P}
+use Rattle.field.specs.Cells.{cellAt, reduced}
+use Rattle.field.proofs.CellLaws.{read-twice, read-small}
 use Rattle.groups.specs.Answer.{pick}
 use Rattle.records.specs.declared.profile.Profile.{Profile}
 use Rattle.records.specs.declared.replay.DecoderState.{DecoderState}
@@ -16,7 +19,7 @@ use Rattle.records.specs.declared.state.SystemCols.{SystemCols}
 use Rattle.records.specs.declared.state.StackCols.{StackCols}
 use Rattle.records.specs.Profiles.{opcodes, profileWrong}
 use Rattle.records.specs.DecoderRows.{bit, opBits, decoderCells}
-use Rattle.records.specs.Built.{systemCells}
+use Rattle.records.specs.Built.{systemCells, stackCells}
 use Rattle.records.specs.Cells.{rowCells}
 use Rattle.passes.specs.Buffers.{addrOf, h4Of}
 use Rattle.passes.specs.Passes.{lowBits, opcodeOf}
@@ -49,7 +52,7 @@ unfolding looks
 looks-app p [] m = refl
 looks-app p (row ∷ l) m = ap (λ y. look p row ∷ y) (looks-app p l m)
 
--- what the cycles show
+-- what the cycles show; an address is shown as the cell that it is
 unfoldable pub startMark : Kind → Mark
 startMark Kind.span = none
 startMark Kind.join = none
@@ -57,12 +60,12 @@ startMark Kind.loop = count 0
 startMark (Kind.one kind) = none
 
 unfoldable pub laidRow : Did → DecoderState → Seen
-laidRow (Did.started kind id b a) state = seen (Token.start kind) a (startMark kind)
-laidRow (Did.operated id i j opcode) state = seen (Token.op opcode) (state .«current_addr») none
-laidRow (Did.respanned id i) state = seen Token.respan (state .«current_addr») none
-laidRow (Did.repeated id) state = seen Token.repeat (state .«current_addr») none
-laidRow (Did.finished ending id body b a g) state = seen Token.end b (flag (bit body))
-laidRow Did.nothing state = seen Token.nothing (state .«current_addr») none
+laidRow (Did.started kind id b a) state = seen (Token.start kind) (a % P) (startMark kind)
+laidRow (Did.operated id i j opcode) state = seen (Token.op opcode) (state .«current_addr» % P) none
+laidRow (Did.respanned id i) state = seen Token.respan (state .«current_addr» % P) none
+laidRow (Did.repeated id) state = seen Token.repeat (state .«current_addr» % P) none
+laidRow (Did.finished ending id body b a g) state = seen Token.end (b % P) (flag (bit body))
+laidRow Did.nothing state = seen Token.nothing (state .«current_addr» % P) none
 
 unfoldable pub laid : Profile → List Cycle → DecoderState → List Seen
 laid p [] state = []
@@ -86,9 +89,16 @@ Small (Did.repeated id) = Unit {0}
 Small (Did.finished ending id body b a g) = Unit {0}
 Small Did.nothing = Unit {0}
 
--- seven bits make their number
-bits-number : (o : ℕ) → o < 128 → lowBits (opBits o) ≡ o
-unfolding lowBits
+bit-two : (b : Bool) → bit b < 2
+bit-two true = omega arith
+bit-two false = omega arith
+
+bit-cell : (x : ℕ) → x < 2 → x % P % P ≡ x
+bit-cell x h = omega arith
+
+-- seven bits make their number; written and read as cells they stay as they are
+bits-number : (o : ℕ) → o < 128 → lowBits (reduced (reduced (opBits o))) ≡ o
+unfolding lowBits reduced
 bits-number o h =
     let s6 : o / 64 % 2 % 2 + 2 * 0 ≡ o / 64 = omega arith in
     let s5 : o / 32 % 2 % 2 + 2 * (o / 64) ≡ o / 32 = omega arith in
@@ -97,64 +107,65 @@ bits-number o h =
     let s2 : o / 4 % 2 % 2 + 2 * (o / 8) ≡ o / 4 = omega arith in
     let s1 : o / 2 % 2 % 2 + 2 * (o / 4) ≡ o / 2 = omega arith in
     let s0 : o % 2 % 2 + 2 * (o / 2) ≡ o = omega arith in
-    rw (s6, s5, s4, s3, s2, s1, s0)
+    rw (bit-cell (o % 2) (omega arith), bit-cell (o / 2 % 2) (omega arith), bit-cell (o / 4 % 2) (omega arith), bit-cell (o / 8 % 2) (omega arith), bit-cell (o / 16 % 2) (omega arith), bit-cell (o / 32 % 2) (omega arith), bit-cell (o / 64 % 2) (omega arith), s6, s5, s4, s3, s2, s1, s0)
 
-bits-all : (s o : ℕ) → s < 2 → allBits (s ∷ opBits o) ≡ true
-unfolding allBits
+bits-all : (s o : ℕ) → s < 2 → allBits (s % P % P ∷ reduced (reduced (opBits o))) ≡ true
+unfolding allBits reduced
 bits-all s o h =
-    rw (lt-ltb s 2 h, lt-ltb (o % 2) 2 (omega arith), lt-ltb (o / 2 % 2) 2 (omega arith), lt-ltb (o / 4 % 2) 2 (omega arith), lt-ltb (o / 8 % 2) 2 (omega arith), lt-ltb (o / 16 % 2) 2 (omega arith), lt-ltb (o / 32 % 2) 2 (omega arith), lt-ltb (o / 64 % 2) 2 (omega arith))
+    let small : (x : ℕ) → x < 2 → x % P % P < 2 = λ x k. omega arith in
+    rw (lt-ltb (s % P % P) 2 (small s h), lt-ltb (o % 2 % P % P) 2 (small (o % 2) (omega arith)), lt-ltb (o / 2 % 2 % P % P) 2 (small (o / 2 % 2) (omega arith)), lt-ltb (o / 4 % 2 % P % P) 2 (small (o / 4 % 2) (omega arith)), lt-ltb (o / 8 % 2 % P % P) 2 (small (o / 8 % 2) (omega arith)), lt-ltb (o / 16 % 2 % P % P) 2 (small (o / 16 % 2) (omega arith)), lt-ltb (o / 32 % 2 % P % P) 2 (small (o / 32 % 2) (omega arith)), lt-ltb (o / 64 % 2 % P % P) 2 (small (o / 64 % 2) (omega arith)))
 
 module _ (p : Profile) (system : SystemCols) (row : DecoderRow) (stack : StackCols) where
   abbrev cells : List ℕ
   cells = rowCells system row stack
 
   cells-opcode : (o : ℕ) → row .opcode ≡ o → o < 128 → opcodeOf cells ≡ o
-  unfolding opcodeOf rowCells systemCells decoderCells
-  cells-opcode o e h = rw (← e) (bits-number (row .opcode) (omega arith))
+  unfolding opcodeOf rowCells reduced systemCells decoderCells stackCells
+  cells-opcode o e h = rw (← e) (unfold reduced in bits-number (row .opcode) (omega arith))
 
   cells-token : (s o : ℕ) → row .«in_basic_block» ≡ s → row .opcode ≡ o → s < 2 → o < 128 → tokenOf p cells ≡ pick (eqb s 0) (controlToken p o) (opToken p o)
-  unfolding tokenOf rowCells systemCells decoderCells
+  unfolding tokenOf cellAt rowCells reduced systemCells decoderCells stackCells
   cells-token s o e f h k =
-      rw (bits-all (row .«in_basic_block») (row .opcode) (omega arith), ← e)
+      rw (bits-all (row .«in_basic_block») (row .opcode) (omega arith), bit-cell (row .«in_basic_block») (omega arith), ← e)
       (ap (λ x. pick (eqb (row .«in_basic_block») 0) (controlToken p x) (opToken p x)) (cells-opcode o f k))
 
-  cells-addr : addrOf cells ≡ row .addr
-  unfolding rowCells systemCells decoderCells
-  cells-addr = refl
+  cells-addr : addrOf cells ≡ row .addr % P
+  unfolding cellAt rowCells reduced systemCells decoderCells stackCells
+  cells-addr = read-twice (row .addr)
 
-  cells-h4 : h4Of cells ≡ row .second .0
-  unfolding rowCells systemCells decoderCells
-  cells-h4 = refl
+  cells-h4 : h4Of cells ≡ row .second .0 % P
+  unfolding cellAt rowCells reduced systemCells decoderCells stackCells
+  cells-h4 = read-twice (row .second .0)
 
-  cells-count : countOf cells ≡ row .«group_count»
-  unfolding rowCells systemCells decoderCells
-  cells-count = refl
+  cells-count : countOf cells ≡ row .«group_count» % P
+  unfolding cellAt rowCells reduced systemCells decoderCells stackCells
+  cells-count = read-twice (row .«group_count»)
 
   -- a row's look, by its opcode
   module _ (right : profileWrong p ≡ false) where
     other-look : (addr opcode inside : ℕ) (token : Token) → Part row addr opcode inside → opcode < 128 → inside < 2 → pick (eqb inside 0) (controlToken p opcode) (opToken p opcode) ≡ token →
-        eqb opcode (p .end) ≡ false → eqb opcode (p .«loop_op») ≡ false → look p cells ≡ seen token addr none
+        eqb opcode (p .end) ≡ false → eqb opcode (p .«loop_op») ≡ false → look p cells ≡ seen token (addr % P) none
     unfolding look markOf
     other-look addr opcode inside token part small two t e f =
         rw (cells-token inside opcode (part .inside-is) (part .opcode-is) two small, cells-opcode opcode (part .opcode-is) small, cells-addr, part .addr-is, t, e, f)
 
-    end-look : (addr flag′ : ℕ) → Part row addr (p .end) 0 → row .second .0 ≡ flag′ → look p cells ≡ seen Token.end addr (flag flag′)
+    end-look : (addr flag′ : ℕ) → Part row addr (p .end) 0 → row .second .0 ≡ flag′ → flag′ < 2 → look p cells ≡ seen Token.end (addr % P) (flag flag′)
     unfolding look markOf opcodes
-    end-look addr flag′ part h =
-        rw (cells-token 0 (p .end) (part .inside-is) (part .opcode-is) (omega arith) (small-at p right 11 (omega arith)), cells-opcode (p .end) (part .opcode-is) (small-at p right 11 (omega arith)), cells-addr, cells-h4, part .addr-is, h, end-token p right, eq-eqb (p .end) (p .end) refl)
+    end-look addr flag′ part h small =
+        rw (cells-token 0 (p .end) (part .inside-is) (part .opcode-is) (omega arith) (small-at p right 11 (omega arith)), cells-opcode (p .end) (part .opcode-is) (small-at p right 11 (omega arith)), cells-addr, cells-h4, part .addr-is, h, read-small flag′ (omega arith), end-token p right, eq-eqb (p .end) (p .end) refl)
 
-    loop-look : (addr : ℕ) → Part row addr (p .«loop_op») 0 → row .«group_count» ≡ 0 → look p cells ≡ seen (Token.start Kind.loop) addr (count 0)
+    loop-look : (addr : ℕ) → Part row addr (p .«loop_op») 0 → row .«group_count» ≡ 0 → look p cells ≡ seen (Token.start Kind.loop) (addr % P) (count 0)
     unfolding look markOf opcodes opcodeOfKind
     loop-look addr part h =
         rw (cells-token 0 (p .«loop_op») (part .inside-is) (part .opcode-is) (omega arith) (small-at p right 4 (omega arith)), cells-opcode (p .«loop_op») (part .opcode-is) (small-at p right 4 (omega arith)), cells-addr, cells-count, part .addr-is, h, kind-token p Kind.loop right, apart-at p right 4 11 (omega arith) (omega arith) (λ e. omega arith), eq-eqb (p .«loop_op») (p .«loop_op») refl)
 
     -- a control row that is neither END nor LOOP, by its opcode's place
-    control-look : (i addr opcode : ℕ) (token : Token) → i < 13 → opcode ≡ getD (opcodes p) i 0 → ¬ (i ≡ 11) → ¬ (i ≡ 4) → Part row addr opcode 0 → controlToken p opcode ≡ token → look p cells ≡ seen token addr none
+    control-look : (i addr opcode : ℕ) (token : Token) → i < 13 → opcode ≡ getD (opcodes p) i 0 → ¬ (i ≡ 11) → ¬ (i ≡ 4) → Part row addr opcode 0 → controlToken p opcode ≡ token → look p cells ≡ seen token (addr % P) none
     unfolding opcodes
     control-look i addr opcode token h e n m part t =
         other-look addr opcode 0 token part (rw e (small-at p right i h)) (omega arith) t (rw e (apart-at p right i 11 h (omega arith) n)) (rw e (apart-at p right i 4 h (omega arith) m))
 
-    start-look : (kind : Kind) (addr : ℕ) → Part row addr (opcodeOfKind p kind) 0 → NoCount kind row → look p cells ≡ seen (Token.start kind) addr (startMark kind)
+    start-look : (kind : Kind) (addr : ℕ) → Part row addr (opcodeOfKind p kind) 0 → NoCount kind row → look p cells ≡ seen (Token.start kind) (addr % P) (startMark kind)
     unfolding opcodeOfKind startMark NoCount opcodes
     start-look Kind.span addr part h = control-look 0 addr (p .span) (Token.start Kind.span) (omega arith) refl (λ e. omega arith) (λ e. omega arith) part (kind-token p Kind.span right)
     start-look Kind.join addr part h = control-look 2 addr (p .join) (Token.start Kind.join) (omega arith) refl (λ e. omega arith) (λ e. omega arith) part (kind-token p Kind.join right)
@@ -179,5 +190,5 @@ module _ (p : Profile) (system : SystemCols) (row : DecoderRow) (stack : StackCo
         control-look 1 (state .«current_addr») (p .respan) Token.respan (omega arith) refl (λ e. omega arith) (λ e. omega arith) r (respan-token p right)
     row-look (Did.repeated id) state o s r =
         control-look 5 (state .«current_addr») (p .repeat) Token.repeat (omega arith) refl (λ e. omega arith) (λ e. omega arith) r (repeat-token p right)
-    row-look (Did.finished ending id body b a g) state o s r = end-look b (bit body) (r .0) (r .1)
+    row-look (Did.finished ending id body b a g) state o s r = end-look b (bit body) (r .0) (r .1) (bit-two body)
     row-look Did.nothing state o s r = absurd o

@@ -2,25 +2,29 @@
 use mathlib.Core.Path.{_≡_, _∙_, refl, sym, ap, ap₂, fun-ext}
 use mathlib.Core.Bool.{Bool, true, false, _&&_}
 use mathlib.Core.List.{List, [], _∷_, _++_, append-assoc}
-use Prim.Native.Nat.{ℕ, zero, suc, pred, _+_, _<_}
+use Prim.Native.Nat.{ℕ, zero, suc, pred, _+_, _%_, _<_}
 use native.Mathlib.Nat.{zero-add, suc-add}
 use native.Mathlib.Omega.{arith}
 use borrow.Author.Tests.{eqb-true}
 use lib.Dec.{eqb}
 use lib.ListN.{length, take, drop, getD, set, length-append, length-take, length-drop, length-set}
-use lib.Seq.{take-at, drop-at, take-take, drop-drop, take-set-le, take-set-lt, drop-set-add, getD-take, getD-drop, getD-set-same, getD-set-other, take-nil, drop-nil}
+use lib.Seq.{take-at, drop-at, take-take, drop-drop, take-set-le, take-set-lt, drop-set-add, getD-set-same, getD-set-other, take-nil, drop-nil}
+use Rattle.field.specs.Modulus.{P}
+use Rattle.field.specs.Cells.{cellAt, reduced}
 use Rattle.field.specs.Inverse.{inverseOf}
+use Rattle.field.proofs.CellLaws.{read-small, length-reduced, reduced-take, reduced-drop, cell-take, cell-drop}
 use Rattle.groups.specs.Answer.{pick}
 use Rattle.records.specs.declared.profile.Profile.{Profile}
 use Rattle.records.specs.Profiles.{opcodes, profileWrong}
 use Rattle.records.specs.DecoderRows.{noWord, controlFlow, decoderCells}
-use Rattle.records.specs.Built.{reversed16, noSystem, noStack, systemCells}
+use Rattle.records.specs.Built.{reversed16, noSystem, noStack, systemCells, stackCells}
 use Rattle.records.specs.Cells.{rowCells}
 use Rattle.passes.specs.Buffers.{addrOf, h4Of}
 use Rattle.passes.specs.Passes.{withSides, firstRow, laterRows, fixedUp, lowBits, opcodeOf, flaggedEnd, bodyEnds, withCounts, multiplied, inverted, firstHalf, haltDecoder, haltStack, haltRow, paddingRow, paddingRows}
 use Rattle.passes.proofs.RowLists.{Wide}
 use Rattle.passes.proofs.FirstRows.{Cells25}
 use Rattle.readings.specs.Tokens.{Token, controlToken, opToken, countOf, allBits, tokenOf}
+use Rattle.reductions.proofs.CellsBelow.{ends-most}
 use Rattle.runs.proofs.Opcodes.{apart-at}
 use Rattle.runs.proofs.Looks.{Mark, none, flag, count, Seen, seen, markOf, look, looks, halt-look}
 use Rattle.runs.proofs.Tallied.{heads, ifFlag, hits, behind, recount, counted}
@@ -33,17 +37,17 @@ decoderOf row = take 24 (drop 6 row)
 unfoldable lookBy : Profile → List ℕ → Seen
 lookBy p cells =
     seen
-    (pick (allBits (getD cells 16 0 ∷ take 7 (drop 1 cells))) (pick (eqb (getD cells 16 0) 0) (controlToken p (lowBits (take 7 (drop 1 cells)))) (opToken p (lowBits (take 7 (drop 1 cells))))) Token.nothing)
-    (getD cells 0 0)
-    (pick (eqb (lowBits (take 7 (drop 1 cells))) (p .end)) (flag (getD cells 12 0)) (pick (eqb (lowBits (take 7 (drop 1 cells))) (p .«loop_op»)) (count (getD cells 17 0)) none))
+    (pick (allBits (cellAt cells 16 ∷ reduced (take 7 (drop 1 cells)))) (pick (eqb (cellAt cells 16) 0) (controlToken p (lowBits (reduced (take 7 (drop 1 cells))))) (opToken p (lowBits (reduced (take 7 (drop 1 cells)))))) Token.nothing)
+    (cellAt cells 0)
+    (pick (eqb (lowBits (reduced (take 7 (drop 1 cells)))) (p .end)) (flag (cellAt cells 12)) (pick (eqb (lowBits (reduced (take 7 (drop 1 cells)))) (p .«loop_op»)) (count (cellAt cells 17)) none))
 
 drop-take : (i n : ℕ) (l : List ℕ) → drop i (take (i + n) l) ≡ take n (drop i l)
 drop-take zero n l = ap (λ k. take k l) (zero-add n)
 drop-take (suc i) n [] = rw (take-nil, drop-nil, take-nil)
 drop-take (suc i) n (x ∷ l) = rw suc-add (drop-take i n l)
 
-cell-by : (row : List ℕ) (k : ℕ) → k < 24 → getD row (6 + k) 0 ≡ getD (decoderOf row) k 0
-cell-by row k h = sym (getD-take 24 (drop 6 row) k 0 h ∙ getD-drop 6 row k 0)
+cell-by : (row : List ℕ) (k : ℕ) → k < 24 → cellAt row (6 + k) ≡ cellAt (decoderOf row) k
+cell-by row k h = sym (cell-take 24 (drop 6 row) k h ∙ cell-drop 6 row k)
 
 bits-by : (row : List ℕ) → take 7 (drop 7 row) ≡ take 7 (drop 1 (decoderOf row))
 bits-by row = sym (ap (take 7) (drop-take 1 23 (drop 6 row)) ∙ take-take 7 23 (drop 1 (drop 6 row)) (omega arith) ∙ ap (take 7) (drop-drop 1 6 row))
@@ -105,14 +109,14 @@ pub fixed-looks : (p : Profile) (rows lasts : List (List ℕ)) (size : ℕ) (top
 unfolding looks fixedUp firstRow Wide
 fixed-looks p [] lasts size top c w = refl
 fixed-looks p (row ∷ rows) lasts size top c w =
-    ap₂ (λ x y. x ∷ y) (same-look p (withSides (take 6 row) (reversed16 top ++ (16 ∷ 0 ∷ 0 ∷ [])) row) row (with-decoder (take 6 row) (reversed16 top ++ (16 ∷ 0 ∷ 0 ∷ [])) row (six row (w .0)) (w .0)))
+    ap₂ (λ x y. x ∷ y) (same-look p (withSides (take 6 row) (reduced (reversed16 top ++ (16 ∷ 0 ∷ 0 ∷ []))) row) row (with-decoder (take 6 row) (reduced (reversed16 top ++ (16 ∷ 0 ∷ 0 ∷ []))) row (six row (w .0)) (w .0)))
     (later-looks p rows lasts size (pred size) c (w .1))
 
 pub fixed-wide : (rows lasts : List (List ℕ)) (size : ℕ) (top : List ℕ) → Cells25 lasts → Wide rows → Wide (fixedUp size top lasts rows)
-unfolding fixedUp firstRow Wide
+unfolding fixedUp firstRow Wide reduced
 fixed-wide [] lasts size top c w = tt
 fixed-wide (row ∷ rows) lasts size top c w =
-    (with-wide (take 6 row) (reversed16 top ++ (16 ∷ 0 ∷ 0 ∷ [])) row (six row (w .0)) refl (w .0), later-wide rows lasts size (pred size) c (w .1))
+    (with-wide (take 6 row) (reduced (reversed16 top ++ (16 ∷ 0 ∷ 0 ∷ []))) row (six row (w .0)) refl (w .0), later-wide rows lasts size (pred size) c (w .1))
 
 pub fixed-length : (rows lasts : List (List ℕ)) (size : ℕ) (top : List ℕ) → length (fixedUp size top lasts rows) ≡ length rows
 unfolding fixedUp
@@ -153,12 +157,20 @@ count-decoder row v = ap (take 24) (drop-set-add 6 row 17 v) ∙ take-set-lt 24 
 count-bits : (cells : List ℕ) (v : ℕ) → take 7 (drop 1 (set cells 17 v)) ≡ take 7 (drop 1 cells)
 count-bits cells v = ap (take 7) (drop-set-add 1 cells 16 v) ∙ take-set-le 7 (drop 1 cells) 16 v (omega arith)
 
-count-look : (p : Profile) (row : List ℕ) (v : ℕ) → length row ≡ 49 → eqb (opcodeOf row) (p .end) ≡ false → eqb (opcodeOf row) (p .«loop_op») ≡ true → look p (set row 23 v) ≡ seen (tokenOf p row) (addrOf row) (count v)
+cell-other : (cells : List ℕ) (i k v : ℕ) → ¬ (k ≡ i) → cellAt (set cells i v) k ≡ cellAt cells k
+unfolding cellAt
+cell-other cells i k v n = ap (λ (x : ℕ). x % P) (getD-set-other cells i k v 0 n)
+
+cell-set : (cells : List ℕ) (i v : ℕ) → i < length cells → v < P → cellAt (set cells i v) i ≡ v
+unfolding cellAt
+cell-set cells i v h l = ap (λ (x : ℕ). x % P) (getD-set-same cells i v 0 h) ∙ read-small v l
+
+count-look : (p : Profile) (row : List ℕ) (v : ℕ) → length row ≡ 49 → v < P → eqb (opcodeOf row) (p .end) ≡ false → eqb (opcodeOf row) (p .«loop_op») ≡ true → look p (set row 23 v) ≡ seen (tokenOf p row) (addrOf row) (count v)
 unfolding lookBy tokenOf opcodeOf
-count-look p row v w e f =
+count-look p row v w l e f =
     let d : List ℕ = decoderOf row in
     look-by p (set row 23 v) ∙ ap (lookBy p) (count-decoder row v)
-    ∙ rw (count-bits d v, getD-set-other d 17 0 v 0 (λ z. omega arith), getD-set-other d 17 12 v 0 (λ z. omega arith), getD-set-other d 17 16 v 0 (λ z. omega arith), getD-set-same d 17 v 0 (omega (arith, decoder-length row w)), ← (bits-by row), ← (cell-by row 0 (omega arith)), ← (cell-by row 16 (omega arith)), e, f)
+    ∙ rw (count-bits d v, cell-other d 17 0 v (λ z. omega arith), cell-other d 17 12 v (λ z. omega arith), cell-other d 17 16 v (λ z. omega arith), cell-set d 17 v (omega (arith, decoder-length row w)) l, ← (bits-by row), ← (cell-by row 0 (omega arith)), ← (cell-by row 16 (omega arith)), e, f)
 
 last-count : (m : ℕ → ℕ) (mark : Mark) → recount m mark [] ≡ mark
 unfolding recount behind
@@ -166,7 +178,7 @@ last-count m none = refl
 last-count m (flag h) = refl
 last-count m (count c) = refl
 
-module _ (p : Profile) (right : profileWrong p ≡ false) (m : ℕ → ℕ) where
+module _ (p : Profile) (right : profileWrong p ≡ false) (m : ℕ → ℕ) (low : (x : ℕ) → m x < P) where
   loop-no-end : (o : ℕ) → o ≡ p .«loop_op» → eqb o (p .end) ≡ false
   unfolding opcodes
   loop-no-end o e = rw e (apart-at p right 4 11 (omega arith) (omega arith) (λ z. omega arith))
@@ -175,7 +187,7 @@ module _ (p : Profile) (right : profileWrong p ≡ false) (m : ℕ → ℕ) wher
       look p (pick f (set row 23 (m (addrOf next))) row) ≡ seen (tokenOf p row) (addrOf row) (recount m (pick e (flag (h4Of row)) (pick f (count (countOf row)) none)) (look p next ∷ l))
   unfolding look markOf recount behind
   row-count row next l true true w i j = let z : true ≡ false = sym i ∙ loop-no-end (opcodeOf row) (eqb-true (opcodeOf row) (p .«loop_op») j) in let z′ : _≡_ {A = ℕ} 0 1 = cc in absurd (omega arith)
-  row-count row next l false true w i j = count-look p row (m (addrOf next)) w i j
+  row-count row next l false true w i j = count-look p row (m (addrOf next)) w (low (addrOf next)) i j
   row-count row next l true false w i j = rw i
   row-count row next l false false w i j = rw (i, j)
 
@@ -202,9 +214,9 @@ counts-length p m [] = refl
 counts-length p m (row ∷ []) = refl
 counts-length p m (row ∷ next ∷ rows) = ap suc (counts-length p m (next ∷ rows))
 
-pub multiplied-looks : (p : Profile) → profileWrong p ≡ false → (rows : List (List ℕ)) → Wide rows → looks p (multiplied p rows) ≡ counted (λ x. hits x (looks p rows)) (looks p rows)
+pub multiplied-looks : (p : Profile) → profileWrong p ≡ false → (rows : List (List ℕ)) → length rows < P → Wide rows → looks p (multiplied p rows) ≡ counted (λ x. hits x (looks p rows)) (looks p rows)
 unfolding multiplied
-multiplied-looks p right rows w = counts-looks p right (λ x. bodyEnds p x rows) rows w ∙ ap (λ m. counted m (looks p rows)) (fun-ext (λ x. ends-hits p x rows))
+multiplied-looks p right rows few w = counts-looks p right (λ x. bodyEnds p x rows) (λ x. omega (arith, ends-most p x rows)) rows w ∙ ap (λ m. counted m (looks p rows)) (fun-ext (λ x. ends-hits p x rows))
 
 pub multiplied-wide : (p : Profile) (rows : List (List ℕ)) → Wide rows → Wide (multiplied p rows)
 unfolding multiplied
@@ -250,12 +262,16 @@ halt-decoder-length : (p : Profile) (before : List ℕ) → length (haltDecoder 
 unfolding haltDecoder decoderCells
 halt-decoder-length p before = refl
 
-halting-row : (p : Profile) → profileWrong p ≡ false → (system before stack : List ℕ) → length system ≡ 6 → length stack ≡ 19 → Halting p (system ++ haltDecoder p before ++ stack)
+reduced-decoder : (row : List ℕ) → decoderOf (reduced row) ≡ reduced (decoderOf row)
+reduced-decoder row = sym (reduced-take 24 (drop 6 row) ∙ ap (take 24) (reduced-drop 6 row))
+
+halting-row : (p : Profile) → profileWrong p ≡ false → (system before stack : List ℕ) → length system ≡ 6 → length stack ≡ 19 → Halting p (reduced (system ++ haltDecoder p before ++ stack))
 unfolding haltDecoder controlFlow rowCells systemCells decoderCells noSystem
 halting-row p right system before stack e f = record {
-  wide = rw (length-append, length-append) (omega (arith, halt-decoder-length p before));
+  wide = length-reduced (system ++ haltDecoder p before ++ stack) ∙ rw (length-append, length-append) (omega (arith, halt-decoder-length p before));
   shows-halt =
-      same-look p (system ++ haltDecoder p before ++ stack) (rowCells noSystem (controlFlow (p .halt) (firstHalf before) noWord 0) noStack) (sides-decoder system (haltDecoder p before) stack e refl)
+      same-look p (reduced (system ++ haltDecoder p before ++ stack)) (rowCells noSystem (controlFlow (p .halt) (firstHalf before) noWord 0) noStack)
+      (reduced-decoder (system ++ haltDecoder p before ++ stack) ∙ ap reduced (sides-decoder system (haltDecoder p before) stack e refl) ∙ unfold reduced stackCells in refl)
       ∙ halt-look p noSystem (controlFlow (p .halt) (firstHalf before) noWord 0) noStack right (record { addr-is = refl; opcode-is = refl; inside-is = refl });
 }
 

@@ -8,16 +8,15 @@ use borrow.Author.Tests.{ltb-false, leb-false, le-ltb}
 use lib.Dec.{leb, ltb, eqb}
 use lib.ListN.{length, take, drop, length-take, length-drop}
 use lib.Seq.{take-at}
-use Rattle.field.specs.Modulus.{P}
 use Rattle.groups.specs.declared.batch.Block.{Block}
 use Rattle.records.specs.declared.profile.Profile.{Profile}
 use Rattle.records.specs.Forests.{Forest}
-use Rattle.records.specs.Addresses.{Queues}
-use Rattle.field.specs.Bounds.{anyFrom}
+use Rattle.records.specs.Addresses.{Queues, readState}
+use Rattle.field.proofs.CellLaws.{length-reduced}
 use Rattle.records.specs.Profiles.{profileWrong}
 use Rattle.rows.specs.Made.{Place}
 use Rattle.passes.specs.Buffers.{rowsOf, flat, onRows}
-use Rattle.passes.specs.Passes.{fixedUp, builtOf, multiplied, inverted, halted, padded, sumOf, anyAbove, rowsBig, bufferWrong, fewerRows, noFragment, fragmentsWrong, heightWrong, firstOf, lastBuilt, refusal1, refusal2, refusal5, unlessRefused, refusalAll, allPasses}
+use Rattle.passes.specs.Passes.{fixedUp, builtOf, multiplied, inverted, halted, padded, sumOf, anyAbove, bufferWrong, fewerRows, noFragment, fragmentsWrong, heightWrong, firstOf, lastBuilt, refusal1, refusal2, refusal5, unlessRefused, refusalAll, allPasses}
 use Rattle.passes.proofs.Checks.{neither, none-first}
 use Rattle.passes.proofs.RowLists.{Wide, length-flat, rows-flat}
 use Rattle.passes.proofs.FirstRows.{Cells25}
@@ -29,7 +28,9 @@ use Rattle.runs.specs.Written.{rowsRun}
 use Rattle.runs.specs.Finished.{Runs, nesting, buffer1, buffer2, buffer3, buffer4, buffer5, FiveAccepted, finisherBuffer, runCounts, runBuilt, runBuffer, writtenByFive, writtenByFinisher, FivePass, FinisherPasses}
 use Rattle.runs.proofs.Looks.{Fine}
 use Rattle.runs.proofs.Folded.{AllFine, rows-wide, sum-rows, cells-rows, rows-laid}
-use Rattle.runs.proofs.CellsBelow.{Below, BelowAll, below-of, of-below, below-take, below-drop, below-flat, flat-below, below-fixed, below-multiplied, below-inverted, below-halted, below-padded}
+use Rattle.reductions.specs.Below.{BelowAll}
+use Rattle.reductions.proofs.CellsBelow.{below-reduced, below-fixed, below-multiplied, below-inverted, below-halted, below-padded}
+use Rattle.runs.proofs.StartsReduced.{starts-reduced}
 use Rattle.runs.proofs.PassLooks.{fixed-wide, fixed-length, multiplied-wide, multiplied-length, inverted-wide, inverted-length}
 use Rattle.runs.proofs.FinishedRows.{all-rows, halted-wide, halted-length, all-wide, all-length, all-reading}
 
@@ -68,12 +69,12 @@ on-front n f buffer rest rows e k w =
 built-25 : (n : ℕ) (built : List ℕ) → 25 * n ≤ length built → Cells25 (builtOf n built)
 unfolding builtOf Cells25
 built-25 zero built h = tt
-built-25 (suc n) built h = (length-take 25 built ∙ omega arith, built-25 n (drop 25 built) (omega (arith, length-drop 25 built)))
+built-25 (suc n) built h = (length-reduced (take 25 built) ∙ length-take 25 built ∙ omega arith, built-25 n (drop 25 built) (omega (arith, length-drop 25 built)))
 
-built-below : (n : ℕ) (built : List ℕ) → Below built → BelowAll (builtOf n built)
+built-below : (n : ℕ) (built : List ℕ) → BelowAll (builtOf n built)
 unfolding builtOf BelowAll
-built-below zero built h = tt
-built-below (suc n) built h = (below-take 25 built h, built-below n (drop 25 built) (below-drop 25 built h))
+built-below zero built = tt
+built-below (suc n) built = (below-reduced (take 25 built), built-below n (drop 25 built))
 
 -- all rows of a buffer that is rows alone
 all-flat : (rows : List (List ℕ)) → Wide rows → allRows (flat rows) ≡ rows
@@ -86,23 +87,23 @@ all-flat rows w =
 module _ (p : Profile) (size : ℕ) (counts built top : List ℕ) (height : ℕ) (buffer rest : List ℕ) (rows : List (List ℕ))
     (holds : buffer ≡ flat rows ++ rest) (sum : sumOf counts ≡ length rows) (wide : Wide rows) (right : profileWrong p ≡ false)
     (in-built : 25 * length counts ≤ length built) (some : 0 < length counts) (room : length rows < height) where
-  abbrev lasts : List (List ℕ)
+  abbrev pub lasts : List (List ℕ)
   lasts = builtOf (length counts - 1) built
 
-  abbrev last-built : List ℕ
+  abbrev pub last-built : List ℕ
   last-built = lastBuilt counts built
 
-  lasts-25 : Cells25 lasts
+  pub lasts-25 : Cells25 lasts
   lasts-25 = built-25 (length counts - 1) built (omega arith)
 
-  last-25 : length last-built ≡ 25
+  pub last-25 : length last-built ≡ 25
   unfolding lastBuilt
   last-25 = simp (length-take, length-drop) (omega arith)
 
-  abbrev finished : List (List ℕ)
+  abbrev pub finished : List (List ℕ)
   finished = all-rows p right size top lasts last-built height rows lasts-25 last-25 wide room
 
-  passes-rows : take (49 * height) (allPasses p size counts built top height buffer) ≡ flat finished
+  pub passes-rows : take (49 * height) (allPasses p size counts built top height buffer) ≡ flat finished
   unfolding allPasses
   passes-rows =
       let rows1 : List (List ℕ) = fixedUp size top lasts rows in
@@ -130,56 +131,42 @@ module _ (p : Profile) (size : ℕ) (counts built top : List ℕ) (height : ℕ)
       let l5 = all-length p right size top lasts last-built height rows lasts-25 last-25 wide room in
       ap (take (49 * height)) e5 ∙ take-at (flat finished) (drop (49 * length finished) b4) (49 * height) (length-flat finished w5 ∙ ap (λ (n : ℕ). 49 * n) l5)
 
-  module _ (few : height ≤ 16777216) (rows-below : BelowAll rows) (built-low : Below built) (top-low : Below top) where
-    finished-below : BelowAll finished
+  module _ (few : height ≤ 16777216) (rows-below : BelowAll rows) where
+    pub finished-below : BelowAll finished
     finished-below =
         let rows1 : List (List ℕ) = fixedUp size top lasts rows in
         let rows2 : List (List ℕ) = multiplied p rows1 in
         let rows3 : List (List ℕ) = inverted rows2 in
         let rows4 : List (List ℕ) = halted p last-built rows3 in
-        let h1 = below-fixed rows lasts size top top-low (built-below (length counts - 1) built built-low) rows-below in
+        let h1 = below-fixed rows lasts size top (built-below (length counts - 1) built) rows-below in
         let h2 = below-multiplied p rows1 (omega (arith, fixed-length rows lasts size top)) h1 in
         let h3 = below-inverted rows2 h2 in
-        let low : Below last-built = last-low in
-        let h4 = below-halted p last-built rows3 low h3 in
-        below-padded p height rows4 (omega (arith, halted-length p right size top lasts last-built height rows lasts-25 last-25 wide room)) (omega arith) h4
-      where
-        last-low : Below last-built
-        last-low = unfold lastBuilt in below-take 25 (drop (25 * (length counts - 1)) built) (below-drop (25 * (length counts - 1)) built built-low)
+        let h4 = below-halted p last-built rows3 h3 in
+        below-padded p height rows4 h4
 
-    -- 1, 2 and 11 pass
+  module _ (few : height ≤ 16777216) where
+    -- 2 and 11 pass
     buffer-passes : bufferRefusal p (flat finished) ≡ 0
     unfolding bufferRefusal firstOf bufferWrong
     buffer-passes =
         let w5 = all-wide p right size top lasts last-built height rows lasts-25 last-25 wide room in
         let l5 = all-length p right size top lasts last-built height rows lasts-25 last-25 wide room in
         let long : length (flat finished) ≡ 49 * height = length-flat finished w5 ∙ ap (λ (n : ℕ). 49 * n) l5 in
-        rw (of-below (flat finished) (below-flat finished finished-below), right, long, le-ltb 0 (49 * height % 49) (omega arith), le-ltb 16777216 (49 * height / 49) (omega arith))
+        rw (right, long, le-ltb 0 (49 * height % 49) (omega arith), le-ltb 16777216 (49 * height / 49) (omega arith))
 
 -- WHAT THE PASSES REFUSE
 
 -- what is known where none of the checks holds
-record Checked (p : Profile) (counts built top : List ℕ) (height : ℕ) (buffer : List ℕ) : Type 0 where
-  right : profileWrong p ≡ false
-  rows-low : anyFrom P (take (49 * sumOf counts) buffer) ≡ false
-  built-low : anyFrom P built ≡ false
-  top-low : anyFrom P top ≡ false
-  some : 0 < length counts
-  in-built : 25 * length counts ≤ length built
-  room : sumOf counts < height
-  few : height ≤ 16777216
+pub record Checked (p : Profile) (counts built top : List ℕ) (height : ℕ) (buffer : List ℕ) : Type 0 where
+  pub right : profileWrong p ≡ false
+  pub some : 0 < length counts
+  pub in-built : 25 * length counts ≤ length built
+  pub room : sumOf counts < height
+  pub few : height ≤ 16777216
 
 some-counts : (counts : List ℕ) → noFragment counts ≡ false → 0 < length counts
 some-counts [] e = let z : _≡_ {A = ℕ} 0 1 = cc in absurd (omega arith)
 some-counts (count ∷ counts) e = omega arith
-
-first-checks : (counts built top buffer : List ℕ) → (rowsBig (sumOf counts) buffer || (anyFrom P built || anyFrom P top)) ≡ false →
-    (anyFrom P (take (49 * sumOf counts) buffer) ≡ false) × (anyFrom P built ≡ false) × (anyFrom P top ≡ false)
-unfolding rowsBig
-first-checks counts built top buffer e =
-    let (a, b) = neither (anyFrom P (take (49 * sumOf counts) buffer)) (anyFrom P built || anyFrom P top) e in
-    let (c, d) = neither (anyFrom P built) (anyFrom P top) b in
-    (a, c, d)
 
 few-rows : (cells : ℕ) → bufferWrong cells ≡ false → cells / 49 ≤ 16777216
 unfolding bufferWrong
@@ -200,18 +187,16 @@ height-fits cells rows height e =
     let (a, b) = neither (leb height rows) (ltb (cells / 49) height) e in
     (leb-false height rows a, ltb-false (cells / 49) height b)
 
-checked-finisher : (p : Profile) (size : ℕ) (counts built top : List ℕ) (height : ℕ) (buffer : List ℕ) → refusalAll p buffer size counts built top height ≡ 0 → Checked p counts built top height buffer
+pub checked-finisher : (p : Profile) (size : ℕ) (counts built top : List ℕ) (height : ℕ) (buffer : List ℕ) → refusalAll p buffer size counts built height ≡ 0 → Checked p counts built top height buffer
 unfolding refusalAll
 checked-finisher p size counts built top height buffer e =
-    let (a, b) = none-first _ _ _ e in
-    let (c, d) = none-first _ _ _ b in
+    let (c, d) = none-first _ _ _ e in
     let (f, g) = none-first _ _ _ d in
     let (h, i) = none-first _ _ _ g in
     let (j, k) = neither (fragmentsWrong (length buffer) size counts built) (heightWrong (length buffer) (sumOf counts) height) f in
-    let (l, m, n) = first-checks counts built top buffer a in
     let (o, r) = built-fits (length buffer) size counts built j in
     let (s, t) = height-fits (length buffer) (sumOf counts) height k in
-    record { right = c; rows-low = l; built-low = m; top-low = n; some = some-counts counts h; in-built = r; room = s; few = omega (arith, few-rows (length buffer) o) }
+    record { right = c; some = some-counts counts h; in-built = r; room = s; few = omega (arith, few-rows (length buffer) o) }
 
 height-fits-5 : (cells rows height : ℕ) → (bufferWrong cells || (eqb (rows + 1) 0 || (ltb height (rows + 1) || fewerRows cells height))) ≡ false → (rows < height) × (height ≤ 16777216)
 unfolding fewerRows
@@ -225,18 +210,16 @@ not-refused : (number : ℕ) (before after : List ℕ) → number ≡ 0 → unle
 not-refused number before after e = rw e
 
 module _ (p : Profile) (size : ℕ) (counts built top : List ℕ) (height : ℕ) (buffer : List ℕ) (five : FiveAccepted p size counts built top height buffer) where
-  checked-five : Checked p counts built top height buffer
+  pub checked-five : Checked p counts built top height buffer
   unfolding refusal1 refusal2 refusal5
   checked-five =
-      let (a, b) = none-first _ _ _ (five .first) in
-      let (c, d) = none-first _ _ _ b in
+      let (c, d) = none-first _ _ _ (five .first) in
       let (f, g) = none-first _ _ _ d in
-      let (l, m, n) = first-checks counts built top buffer a in
       let (o, r) = built-fits (length buffer) size counts built c in
-      let right = none-first _ _ _ (none-first _ _ _ (five .second) .1) .0 in
-      let cells = none-first _ _ _ (none-first _ _ _ (none-first _ _ _ (five .fifth) .1) .1) .0 in
+      let right = none-first _ _ _ (five .second) .0 in
+      let cells = none-first _ _ _ (none-first _ _ _ (five .fifth) .1) .0 in
       let (s, t) = height-fits-5 (length (buffer4 p size counts built top height buffer)) (sumOf counts) height cells in
-      record { right = right; rows-low = l; built-low = m; top-low = n; some = some-counts counts f; in-built = r; room = s; few = t }
+      record { right = right; some = some-counts counts f; in-built = r; room = s; few = t }
 
   -- the five calls do what the finisher does
   pub five-all : buffer5 p size counts built top height buffer ≡ allPasses p size counts built top height buffer
@@ -271,14 +254,12 @@ module _ (p : Profile) (q : Queues) (size : ℕ) (fragments : List Fragment) (he
       let (rest, cells) = cells-rows p q size fragments here (runs .accepted) (runs .one-size) in
       let holds : buffer ≡ flat rows ++ (rest ++ others) = ap (λ y. y ++ others) cells ∙ append-assoc (flat rows) rest others in
       let room : length rows < height = omega (arith, sum, c .room) in
-      let front : take (49 * sumOf counts) buffer ≡ flat rows = ap (take (49 * sumOf counts)) holds ∙ take-at (flat rows) (rest ++ others) (49 * sumOf counts) (length-flat rows wide ∙ ap (λ (n : ℕ). 49 * n) (sym sum)) in
-      let low : BelowAll rows = flat-below rows (below-of (flat rows) (rw front at (c .rows-low))) in
       let laid-rows = rows-laid p q fragments here (runs .accepted) (run-fine p q (runs .proper) tt) in
       let lasts = lasts-25 p size counts built top height buffer (rest ++ others) rows holds sum wide (c .right) (c .in-built) (c .some) room in
       let last = last-25 p size counts built top height buffer (rest ++ others) rows holds sum wide (c .right) (c .in-built) (c .some) room in
       let final = all-rows p (c .right) size top (builtOf (length counts - 1) built) (lastBuilt counts built) height rows lasts last wide room in
-      let reading = all-reading p (c .right) size top (builtOf (length counts - 1) built) (lastBuilt counts built) height rows lasts last wide room (cyclesOf q fragments (here .at)) (here .state) laid-rows (runs .proper) (runs .loops-apart) (runs .shallow) in
-      let passes = buffer-passes p size counts built top height buffer (rest ++ others) rows holds sum wide (c .right) (c .in-built) (c .some) room (c .few) low (below-of built (c .built-low)) (below-of top (c .top-low)) in
+      let reading = all-reading p (c .right) size top (builtOf (length counts - 1) built) (lastBuilt counts built) height rows lasts last wide room (cyclesOf q fragments (here .at)) (readState (here .state)) laid-rows (omega (arith, c .few, room)) (runs .proper) (rw (starts-reduced q fragments (here .at)) (runs .loops-apart)) (runs .shallow) in
+      let passes = buffer-passes p size counts built top height buffer (rest ++ others) rows holds sum wide (c .right) (c .in-built) (c .some) room (c .few) in
       let written = passes-rows p size counts built top height buffer (rest ++ others) rows holds sum wide (c .right) (c .in-built) (c .some) room in
       let all-wide′ = all-wide p (c .right) size top (builtOf (length counts - 1) built) (lastBuilt counts built) height rows lasts last wide room in
       rw (written, all-flat final all-wide′) (passes, reading)

@@ -8,6 +8,8 @@ use native.Mathlib.Omega.{arith}
 use borrow.Author.Tests.{ne-eqb, eq-eqb}
 use lib.Dec.{eqb}
 use lib.ListN.{length, take, drop}
+use Rattle.field.specs.Cells.{cellAt, reduced}
+use Rattle.field.proofs.CellLaws.{reduced-twice}
 use Rattle.groups.specs.Answer.{Answer, accepted, refused}
 use Rattle.records.specs.declared.profile.Profile.{Profile}
 use Rattle.records.specs.declared.decoder_row.DecoderRow.{DecoderRow}
@@ -19,10 +21,10 @@ use Rattle.rows.specs.declared.made.MadeRow.{MadeRow}
 use Rattle.rows.specs.declared.tracer.StoredContinuation.{StoredContinuation}
 use Rattle.rows.specs.declared.tracer.CoreTraceGenerationTracer.{CoreTraceGenerationTracer}
 use Rattle.rows.specs.declared.tracer.TracerFinalState.{TracerFinalState}
-use Rattle.records.specs.Addresses.{Queues}
+use Rattle.records.specs.Addresses.{Queues, readState}
 use Rattle.rows.specs.Made.{Place}
 use Rattle.records.specs.DecoderRows.{decoderCells}
-use Rattle.records.specs.Built.{builtSystem, builtStack, noSystem, noStack, systemCells, stackCells}
+use Rattle.records.specs.Built.{builtSystem, builtStack, noSystem, noStack, readSystem, readStack, systemCells, stackCells}
 use Rattle.records.specs.Cells.{rowCells}
 use Rattle.rows.specs.Cycles.{fresh, tracerAfter, finalState, lastSystem, lastStack}
 use Rattle.passes.specs.Passes.{withSides, firstRow, laterRows, fixedUp, builtOf}
@@ -31,7 +33,7 @@ use Rattle.runs.specs.SameCalls.{allCalls, inOne}
 use Rattle.runs.specs.Happened.{InForce, did, stored, leftBy}
 use Rattle.runs.specs.Written.{rowsIn, rowsRun}
 use Rattle.runs.proofs.Decoders.{same-row}
-use Rattle.runs.proofs.Folded.{inForce, stored-same, count-rows, Stepped, stepped, after-state, after-kept, after-force, row-made, force-stored, state-stored}
+use Rattle.runs.proofs.Folded.{inForce, stored-same, count-rows, Stepped, stepped, after-state, after-kept, after-force, row-made, force-stored, state-stored, closed-read}
 
 -- ROWS FROM THEIR PARTS
 
@@ -71,8 +73,8 @@ abbrev pub cells25 : SystemCols → StackCols → List ℕ
 cells25 s k = systemCells s ++ stackCells k
 
 -- "each later fragment's first row gets the previous fragment's last built cells"
-joined : (s s′ : SystemCols) (k k′ : StackCols) (row : DecoderRow) → withSides (take 6 (cells25 s k)) (drop 6 (cells25 s k)) (rowCells s′ row k′) ≡ rowCells s row k
-unfolding withSides rowCells systemCells decoderCells stackCells
+joined : (s s′ : SystemCols) (k k′ : StackCols) (row : DecoderRow) → withSides (take 6 (reduced (cells25 s k))) (drop 6 (reduced (cells25 s k))) (rowCells s′ row k′) ≡ rowCells s row k
+unfolding withSides reduced rowCells systemCells decoderCells stackCells
 joined s s′ k k′ row = refl
 
 later-none : (rows : List (List ℕ)) (size left : ℕ) → laterRows size left [] rows ≡ rows
@@ -96,10 +98,10 @@ unfoldable together : List (List Item) → List Item
 together [] = []
 together (l ∷ ls) = l ++ together ls
 
--- the cells built last before each of the fragments, the first of which follow s and k
+-- the cells built last before each of the fragments, as they are read; the first of the fragments follows s and k
 unfoldable lastsFrom : SystemCols → StackCols → List (List Item) → List (List ℕ)
 lastsFrom s k [] = []
-lastsFrom s k (l ∷ ls) = cells25 s k ∷ lastsFrom (lastS noSystem l) (lastK noStack l) ls
+lastsFrom s k (l ∷ ls) = reduced (cells25 s k) ∷ lastsFrom (lastS noSystem l) (lastK noStack l) ls
 
 -- each but the last has so many
 unfoldable Full : ℕ → List (List Item) → Type 0
@@ -271,7 +273,7 @@ module _ (p : Profile) (q : Queues) where
 
   pub same-finish : (z w : Held) (i : Handed) → Stepped p q z i → Stepped p q w i → (inForce (z .tracer) ≡ inForce (w .tracer)) → z .tracer .state ≡ w .tracer .state → Alike z w i
   same-finish z w i s r f e =
-      let m : s .m ≡ r .m = same-row p (i .forest) q (i .registers) (i .system) (i .system) (i .stack) (i .stack) (length (z .cells)) (length (w .cells)) (z .tracer) (w .tracer) (s .m) (r .m) f e (s .answer) (r .answer) in
+      let m : s .m ≡ r .m = same-row p (i .forest) q (i .registers) (i .stack) (i .stack) (length (z .cells)) (length (w .cells)) (z .tracer) (w .tracer) (s .m) (r .m) f e (s .answer) (r .answer) in
       let g = after-force p q z i (s .m) (s .answer) (did q (i .forest) (inForce (z .tracer))) (z .tracer .state) (s .law)
       ∙ ap (λ v. leftBy v (did q (i .forest) v)) f
       ∙ sym (after-force p q w i (r .m) (r .answer) (did q (i .forest) (inForce (w .tracer))) (w .tracer .state) (r .law)) in
@@ -318,7 +320,7 @@ module _ (p : Profile) (q : Queues) where
 
   -- the whole's rows
   together-items : (fragments : List Fragment) (here : Place) (w : Held) → AllAccepted p q fragments here → Accepted p q (allCalls fragments) w → w .tracer .refusal ≡ 0 →
-      here .state ≡ w .tracer .state → here .at ≡ w .tracer .at → itemsIn (allCalls fragments) w ≡ together (itemsEach fragments here)
+      readState (here .state) ≡ w .tracer .state → here .at ≡ w .tracer .at → itemsIn (allCalls fragments) w ≡ together (itemsEach fragments here)
   unfolding AllAccepted allCalls together itemsEach
   together-items [] here w a b k e f = unfold itemsIn in refl
   together-items (fragment ∷ fragments) here w a b k e f =
@@ -326,25 +328,30 @@ module _ (p : Profile) (q : Queues) where
       let split = accepted-app (fragment .calls) (allCalls fragments) w k b in
       let same : Same (opened p q here fragment .tracer) (w .tracer) = unfold fresh in record { state-same = e; at-same = f; force-same = inr refl } in
       let x = all-alike (fragment .calls) (opened p q here fragment) w (a .0) (split .0) same in
-      let y = together-items fragments there (afterAll p q (fragment .calls) w) (a .1) (split .1) (kept-all (fragment .calls) w k (split .0)) (x .last-same .state-same) (x .last-same .at-same) in
+      let y = together-items fragments there (afterAll p q (fragment .calls) w) (a .1) (split .1) (kept-all (fragment .calls) w k (split .0)) (closed-read p q here fragment (a .0) ∙ x .last-same .state-same) (x .last-same .at-same) in
       items-app (fragment .calls) (allCalls fragments) w ∙ ap₂ (λ c d. c ++ d) (sym (x .rows-alike)) y
 
   -- the built cells that the first pass is given
   final-cells : (here : Place) (fragment : Fragment) → Accepted p q (fragment .calls) (opened p q here fragment) →
-      (finalState (closed p q here fragment .tracer) .«last_system_cols» ≡ lastS noSystem (itemsIn (fragment .calls) (opened p q here fragment)))
-      × (finalState (closed p q here fragment .tracer) .«last_stack_cols» ≡ lastK noStack (itemsIn (fragment .calls) (opened p q here fragment)))
+      (finalState (closed p q here fragment .tracer) .«last_system_cols» ≡ readSystem (lastS noSystem (itemsIn (fragment .calls) (opened p q here fragment))))
+      × (finalState (closed p q here fragment .tracer) .«last_stack_cols» ≡ readStack (lastK noStack (itemsIn (fragment .calls) (opened p q here fragment))))
   unfolding finalState fresh lastSystem lastStack
   final-cells here fragment a =
       let k = kept-all (fragment .calls) (opened p q here fragment) refl a in
       let (g, h) = last-items (fragment .calls) (opened p q here fragment) a in
-      (rw (eq-eqb (closed p q here fragment .tracer .refusal) 0 k) g, rw (eq-eqb (closed p q here fragment .tracer .refusal) 0 k) h)
+      (rw (eq-eqb (closed p q here fragment .tracer .refusal) 0 k) (ap readSystem g), rw (eq-eqb (closed p q here fragment .tracer .refusal) 0 k) (ap readStack h))
+
+  -- built cells that are read are the reduced built cells
+  read-cells : (s : SystemCols) (k : StackCols) → cells25 (readSystem s) (readStack k) ≡ reduced (cells25 s k)
+  unfolding readSystem readStack systemCells stackCells reduced cellAt
+  read-cells s k = refl
 
   chunk : (s : SystemCols) (k : StackCols) (rest : List ℕ) → (take 25 (cells25 s k ++ rest) ≡ cells25 s k) × (drop 25 (cells25 s k ++ rest) ≡ rest)
   unfolding systemCells stackCells
   chunk s k rest = (refl, refl)
 
   built-lasts : (fragments : List Fragment) (here : Place) (s : SystemCols) (k : StackCols) → AllAccepted p q fragments here →
-      builtOf (length fragments) (cells25 s k ++ builtCells (finalStates p q fragments here)) ≡ lastsFrom s k (itemsEach fragments here)
+      builtOf (length fragments) (cells25 (readSystem s) (readStack k) ++ builtCells (finalStates p q fragments here)) ≡ lastsFrom s k (itemsEach fragments here)
   unfolding AllAccepted builtOf builtCells finalStates lastsFrom itemsEach
   built-lasts [] here s k a = refl
   built-lasts (fragment ∷ fragments) here s k a =
@@ -353,10 +360,10 @@ module _ (p : Profile) (q : Queues) where
       let (e, f) = final-cells here fragment (a .0) in
       let final : TracerFinalState = finalState (closed p q here fragment .tracer) in
       let more : List ℕ = builtCells (finalStates p q fragments there) in
-      let (g, h) = chunk s k (cells25 (final .«last_system_cols») (final .«last_stack_cols») ++ more) in
-      ap₂ (λ x y. x ∷ builtOf (length fragments) y) g h
-      ∙ ap₂ (λ x y. cells25 s k ∷ builtOf (length fragments) (cells25 x y ++ more)) e f
-      ∙ ap (λ x. cells25 s k ∷ x) (built-lasts fragments there (lastS noSystem l) (lastK noStack l) (a .1))
+      let (g, h) = chunk (readSystem s) (readStack k) (cells25 (final .«last_system_cols») (final .«last_stack_cols») ++ more) in
+      ap₂ (λ x y. reduced x ∷ builtOf (length fragments) y) (g ∙ read-cells s k) h
+      ∙ ap₂ (λ x y. reduced (reduced (cells25 s k)) ∷ builtOf (length fragments) (cells25 x y ++ more)) e f
+      ∙ ap₂ (λ x y. x ∷ y) (reduced-twice (cells25 s k)) (built-lasts fragments there (lastS noSystem l) (lastK noStack l) (a .1))
 
   counts-length : (fragments : List Fragment) (here : Place) → length (countsOf (finalStates p q fragments here)) ≡ length fragments
   unfolding countsOf finalStates

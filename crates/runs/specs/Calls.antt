@@ -45,7 +45,7 @@ pub record Held : Type 0 where
 module _ (p : Profile) (q : Queues) where
   -- what a cycle answers
   abbrev pub answered : Held → Handed → Answer MadeRow
-  answered z i = cycle p (i .forest) q (i .system) (i .stack) (i .registers) (length (z .cells)) (z .tracer)
+  answered z i = cycle p (i .forest) q (i .stack) (i .registers) (length (z .cells)) (z .tracer)
 
   -- what a call leaves
   unfoldable pub after : Held → Call → Held

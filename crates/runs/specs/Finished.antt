@@ -40,7 +40,7 @@ nesting {p} runs = treeFrom p 0 (runs .proper) .0
 -- what each of the five calls leaves in the buffer, refused or not
 module _ (p : Profile) (size : ℕ) (counts built top : List ℕ) (height : ℕ) (buffer : List ℕ) where
   unfoldable pub buffer1 : List ℕ
-  buffer1 = unlessRefused (refusal1 buffer size counts built top) buffer (onRows (sumOf counts) (fixedUp size top (builtOf (length counts - 1) built)) buffer)
+  buffer1 = unlessRefused (refusal1 buffer size counts built) buffer (onRows (sumOf counts) (fixedUp size top (builtOf (length counts - 1) built)) buffer)
 
   unfoldable pub buffer2 : List ℕ
   buffer2 = unlessRefused (refusal2 p buffer1 (sumOf counts)) buffer1 (onRows (sumOf counts) (multiplied p) buffer1)
@@ -50,22 +50,22 @@ module _ (p : Profile) (size : ℕ) (counts built top : List ℕ) (height : ℕ)
 
   unfoldable pub buffer4 : List ℕ
   buffer4 =
-      unlessRefused (refusal4 p buffer3 (sumOf counts) (lastBuilt counts built)) buffer3 (onRows (sumOf counts) (halted p (lastBuilt counts built)) buffer3)
+      unlessRefused (refusal4 p buffer3 (sumOf counts)) buffer3 (onRows (sumOf counts) (halted p (lastBuilt counts built)) buffer3)
 
   unfoldable pub buffer5 : List ℕ
   buffer5 = unlessRefused (refusal5 p buffer4 (sumOf counts + 1) height) buffer4 (onRows (sumOf counts + 1) (padded p height) buffer4)
 
   -- none of the five is refused
   pub record FiveAccepted : Type 0 where
-    pub first : refusal1 buffer size counts built top ≡ 0
+    pub first : refusal1 buffer size counts built ≡ 0
     pub second : refusal2 p buffer1 (sumOf counts) ≡ 0
     pub third : refusal3 buffer2 (sumOf counts) ≡ 0
-    pub fourth : refusal4 p buffer3 (sumOf counts) (lastBuilt counts built) ≡ 0
+    pub fourth : refusal4 p buffer3 (sumOf counts) ≡ 0
     pub fifth : refusal5 p buffer4 (sumOf counts + 1) height ≡ 0
 
   -- what the finisher leaves
   unfoldable pub finisherBuffer : List ℕ
-  finisherBuffer = unlessRefused (refusalAll p buffer size counts built top height) buffer (allPasses p size counts built top height buffer)
+  finisherBuffer = unlessRefused (refusalAll p buffer size counts built height) buffer (allPasses p size counts built top height buffer)
 
 -- the passes "with the run's profile, fragment size, and its final states' row counts and last built cells", on the buffer that holds the
 -- fragments and other cells behind them; the first stack top and the height are free
@@ -90,4 +90,4 @@ module _ (p : Profile) (q : Queues) (size : ℕ) (fragments : List Fragment) (he
   FivePass = FiveAccepted p size runCounts runBuilt top height runBuffer
 
   abbrev pub FinisherPasses : Type 0
-  FinisherPasses = refusalAll p runBuffer size runCounts runBuilt top height ≡ 0
+  FinisherPasses = refusalAll p runBuffer size runCounts runBuilt height ≡ 0

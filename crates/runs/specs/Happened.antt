@@ -17,6 +17,7 @@ use Rattle.records.specs.declared.continuation.Used.{Used}
 use Rattle.rows.specs.declared.tracer.StoredContinuation.{StoredContinuation}
 use Rattle.records.specs.Forests.{Forest, nodeAt, opcodeAt, blockOf}
 use Rattle.records.specs.Addresses.{Queues, startedAt, afterStart, endAt, afterEnd}
+use Rattle.records.specs.Captured.{readCaptured}
 use Rattle.rows.specs.Made.{conditionOf}
 use Rattle.rows.specs.Cycles.{leftAfter}
 use Rattle.readings.specs.Tokens.{split, call, syscall, dyn, dyncall, Kind}
@@ -147,12 +148,12 @@ positionsAfter (repeated id) at = at
 positionsAfter (finished ending id flag b a g) at = afterEnd at
 positionsAfter nothing at = at
 
--- "Storing replaces all of them"
+-- "Storing replaces all of them"; the cells among them are read (N2)
 unfoldable pub stored : InForce → StoredValues → InForce
 stored v values = record {
   stored = StoredContinuation.Is (values .continuation);
   isLoopBody = values .«is_loop_body»;
-  captured = values .captured;
+  captured = readCaptured (values .captured);
   at = v .at;
 }
 

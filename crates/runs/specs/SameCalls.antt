@@ -1,7 +1,7 @@
 -- Runs of the same calls: in one fragment, and with other system and stack states.
 use mathlib.Core.Path.{_≡_}
 use mathlib.Core.List.{List, [], _∷_, _++_}
-use Prim.Native.Nat.{ℕ, suc, _<_}
+use Prim.Native.Nat.{ℕ, suc}
 use Rattle.runs.specs.Calls.{Call, store, finish, Fragment}
 
 -- the calls of some fragments, one after another
@@ -12,13 +12,6 @@ allCalls (fragment ∷ fragments) = fragment .calls ++ allCalls fragments
 -- the same calls in one fragment
 abbrev pub inOne : List Fragment → (cells : List ℕ) → List Fragment
 inOne fragments cells = record { calls = allCalls fragments; cells = cells } ∷ []
-
--- "each of 32 bits, as are depths": the clock row, the context and the depth that each cycle is handed
-unfoldable pub Narrow : List Call → Type 0
-Narrow [] = Unit {0}
-Narrow (store values ∷ calls) = Narrow calls
-Narrow (finish i ∷ calls) =
-    ((i .system .clk .0 < 4294967296) × (i .system .ctx .0 < 4294967296) × (i .stack .«stack_depth» < 4294967296)) × Narrow calls
 
 -- how many cycles there are among some calls
 unfoldable pub cyclesAmong : List Call → ℕ

@@ -1,5 +1,5 @@
 // The list of the field layer: four numbers a vector, the kind (0 reduce, 1 add, 2 sub, 3 mul, 4 inverse), a, b and the result.
-use field::cell::cell;
+use field::cell::number_at;
 use field::felt;
 use field::inverse::inverse;
 use lists::text::one_if;
@@ -29,8 +29,8 @@ pub fn right(v: &[u64], all: u64) -> u64 {
         if v.len() <= at {
             return right;
         }
-        let r = computed(cell(v, at), cell(v, at + 1), cell(v, at + 2));
-        right += one_if(r == cell(v, at + 3));
+        let r = computed(number_at(v, at), number_at(v, at + 1), number_at(v, at + 2));
+        right += one_if(r == number_at(v, at + 3));
         at += 4;
         k += 1;
     }

@@ -1,5 +1,5 @@
-//! `compare [SEED [RUNS]]`: random runs by the listed Rust and by the proved library, and the finished traces read by the proved library and
-//! by the checker, as they are and changed. Writes what was compared, the differences, and how often which side refused. Exits with 1
+//! `compare [SEED [RUNS]]`: random runs by the listed Rust and by the proved library, which in half of them is given some cells with p added,
+//! and the finished traces read by the proved library and by the checker, as they are and changed. Writes what was compared, the differences, and how often which side refused. Exits with 1
 //! where there is a difference.
 
 #[cfg(not(all(listed, archive)))]
@@ -39,6 +39,7 @@ fn main() {
             "{name}: {} runs, {} of them finished, {} calls, {} rows, {} cells compared, {} differences",
             tally.runs, tally.finished, tally.calls, tally.rows, tally.cells, tally.differences
         );
+        println!("  {} runs with cells from p on; the passes were given {} of them", tally.raised, tally.raised_cells);
         for text in &tally.told {
             println!("  {text}");
         }
@@ -54,6 +55,7 @@ fn main() {
         reads.all(&reader_rng, written.cells, Some(&written.depths[..written.program_rows]));
     }
     println!("traces as written: {}; of {} the nesting is known", reads.whole, reads.nested);
+    println!("p added to cells: {}", reads.raised);
     println!("one cell of an accepted trace changed: {}", reads.damaged);
     println!("one cell of a refused trace changed: {}", reads.refused);
     println!("other changes: {}", reads.other);

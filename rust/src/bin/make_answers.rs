@@ -6,6 +6,9 @@
 //! - how many fragments, and for each its records with their length before them, then rows, built cells (25), address state (2) and queue
 //!   positions (3) after it;
 //! - the cells of the finished trace with their number before them.
+//!
+//! In the files `runs_..` all cells are below p. In the files `cells_..` p is added to some of those that come in; the answers are what the
+//! listed Rust makes of the reduced ones.
 
 #[cfg(not(listed))]
 fn main() {
@@ -35,7 +38,7 @@ mod answers {
     use core_trace::listed::whole::{self, Start};
     use core_trace::listing;
     use core_trace::profile::EXAMPLE;
-    use core_trace::random::{Rng, Run, any_calls, changed_run, proper_run};
+    use core_trace::random::{Rng, Run, any_calls, changed_run, proper_run, raised_run};
 
     /// What the program has room for: a run's cycles, slots, batch records and opcodes, a file's numbers and bytes.
     const CYCLES: usize = 24;
@@ -45,9 +48,19 @@ mod answers {
     const NUMBERS: usize = 8000;
     const BYTES: usize = 60_000;
 
-    /// The numbers of a run and its answers, where the listed Rust refuses nothing, and what it shows.
-    fn answered(run: &Run, padding: usize) -> Option<(Vec<u64>, BTreeSet<String>)> {
-        let lent = Forests::new(&run.forests);
+    /// The run with p added to some of its cells. Where no row moves it, the address state is handed on as it was given, so it is left alone
+    /// where the first row may not move it.
+    fn raised(rng: &Rng, run: &Run) -> Run {
+        let mut given = raised_run(rng, run);
+        if run.nesting.is_none() {
+            given.state = run.state;
+        }
+        given
+    }
+
+    /// The numbers of a run as it is given, and the answers to the run, where the listed Rust refuses nothing; and what it shows.
+    fn answered(run: &Run, given: &Run, padding: usize) -> Option<(Vec<u64>, BTreeSet<String>)> {
+        let lent = Forests::new(&given.forests);
         let cycles = run.fragments.iter().flatten().filter(|call| matches!(call, Call::Cycle(_))).count();
         let calls = run.fragments.iter().map(Vec::len).max()?;
         if cycles > CYCLES
@@ -62,8 +75,8 @@ mod answers {
         let height = cycles + 1 + padding;
         let mut out: Vec<u64> = EXAMPLE.opcodes().iter().map(|&op| op.into()).collect();
         out.extend([EXAMPLE.step, run.fragment_size as u64, height as u64]);
-        out.extend(run.first_stack_top);
-        out.extend([run.state.current_addr, run.state.parent_addr]);
+        out.extend(given.first_stack_top);
+        out.extend([given.state.current_addr, given.state.parent_addr]);
         let mut part = |numbers: Vec<u64>| {
             out.push(numbers.len() as u64);
             out.extend(numbers);
@@ -75,9 +88,9 @@ mod answers {
         part(lent.groups.clone());
         part(lent.ops.iter().map(|&n| n.into()).collect());
         part(wide(&lent.directory));
-        part(run.queues.addresses.clone());
-        part(run.queues.parents.clone());
-        part(run.queues.ends.clone());
+        part(given.queues.addresses.clone());
+        part(given.queues.parents.clone());
+        part(given.queues.ends.clone());
         out.push(run.fragments.len() as u64);
         let (mut state, mut at, mut contexts) = (run.state, Positions::default(), Vec::new());
         for (k, calls) in run.fragments.iter().enumerate() {
@@ -88,7 +101,7 @@ mod answers {
                 return None;
             }
             contexts.push(whole::context(run, &Start { state, from: at, to: left.at }, listed.into()));
-            let numbers = records(calls);
+            let numbers = records(&given.fragments[k]);
             out.push(numbers.len() as u64);
             out.extend(numbers);
             out.push(left.rows as u64);
@@ -143,12 +156,13 @@ mod answers {
         let rng = Rng::small(seed);
         let kinds = [proper_run as fn(&Rng, usize) -> Run, proper_run, changed_run, any_calls];
         let mut seen = BTreeSet::new();
-        let mut all = vec![answered(&listing::run(9), 0).unwrap().0, answered(&listing::run(4), 2).unwrap().0];
+        let same = |run: &Run, padding: usize| answered(run, run, padding);
+        let mut all = vec![same(&listing::run(9), 0).unwrap().0, same(&listing::run(4), 2).unwrap().0];
         let mut tried = 0;
         while all.len() < runs {
             let run = kinds[tried % kinds.len()](&rng, CYCLES);
             tried += 1;
-            let Some((numbers, shows)) = answered(&run, rng.below(3)) else {
+            let Some((numbers, shows)) = same(&run, rng.below(3)) else {
                 continue;
             };
             // First those that show something new, later any.
@@ -157,6 +171,25 @@ mod answers {
                 all.push(numbers);
             }
         }
+        write_files(folder, "runs", all);
+        println!("tried {tried}; shown: {}", seen.into_iter().collect::<Vec<_>>().join("; "));
+
+        let above = |run: &Run| answered(run, &raised(&rng, run), rng.below(3));
+        let mut seen = BTreeSet::new();
+        let mut all = vec![above(&listing::run(9)).unwrap().0, above(&listing::run(4)).unwrap().0];
+        while all.len() < runs / 3 {
+            let run = kinds[tried % kinds.len()](&rng, CYCLES);
+            tried += 1;
+            if let Some((numbers, shows)) = above(&run).filter(|(_, shows)| !shows.is_subset(&seen)) {
+                seen.extend(shows);
+                all.push(numbers);
+            }
+        }
+        write_files(folder, "cells", all);
+    }
+
+    /// The runs in files of at most so many numbers and bytes.
+    fn write_files(folder: &Path, name: &str, all: Vec<Vec<u64>>) {
         let mut files: Vec<Vec<Vec<u64>>> = vec![Vec::new()];
         let bytes = |runs: &[Vec<u64>]| runs.iter().flatten().map(|n| n.to_string().len() + 1).sum::<usize>();
         for run in all {
@@ -175,10 +208,9 @@ mod answers {
                     text += &(line.iter().map(u64::to_string).collect::<Vec<_>>().join(" ") + "\n");
                 }
             }
-            let name = format!("runs_{:02}", i + 1);
+            let name = format!("{name}_{:02}", i + 1);
             println!("{name}: {} runs, {} numbers, {} bytes", runs.len(), runs.iter().flatten().count() + 1, text.len());
             std::fs::write(folder.join(name), text).unwrap();
         }
-        println!("tried {tried}; shown: {}", seen.into_iter().collect::<Vec<_>>().join("; "));
     }
 }

@@ -1,21 +1,18 @@
 -- `cell::cell` meets its contract.
-use mathlib.Core.Path.{sym}
 use borrow.Author.Needs.{needs}
-use lib.ListN.{List·getD-eq-default}
+use Rattle.field.specs.Cells.{cellAt}
 use Rattle.field.proofs.cell.cell.Statement.{statement}
 use Rattle.field.proofs.cell.cell.Tie as tie
 
-mul-result : tie.Need-mul-result
-mul-result c = search needs
+number-at-requires : tie.Need-number-at-requires
+number-at-requires c κs = search needs
 
-shared-slice-read-result : tie.Need-shared-slice-read-result
-shared-slice-read-result c = search needs
+reduce-requires : tie.Need-reduce-requires
+reduce-requires c κs = search needs
 
 returns : tie.Need-returns
-returns c = search needs
-
-returns-2 : tie.Need-returns-2
-returns-2 c = sym (List·getD-eq-default (c .before .args .cells .now) 0 (c .if1 .left))
+unfolding cellAt
+returns c = rw (c .reduce .ensures, c .before .number-at .ensures)
 
 pub cell-spec : {M : Type 1} → statement M
-cell-spec = tie.close (tie.spec mul-result shared-slice-read-result returns returns-2)
+cell-spec = tie.close (tie.spec number-at-requires reduce-requires returns)

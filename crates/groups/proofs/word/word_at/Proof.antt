@@ -2,7 +2,7 @@
 use Prim.Native.Nat.{_+_}
 use native.Mathlib.Omega.{arith}
 use borrow.Author.Needs.{needs}
-use lib.ListN.{List·getD-eq-default}
+use Rattle.field.proofs.CellLaws.{cell-past}
 use Rattle.groups.specs.Words.{wordAt}
 use Rattle.groups.proofs.word.word_at.Statement.{statement}
 use Rattle.groups.proofs.word.word_at.Tie as tie
@@ -12,7 +12,7 @@ unfolding wordAt
 returns c =
     let s = c .before .before .args .cells .now in
     let at = c .before .before .args .at in
-    simp (List·getD-eq-default s 0 {n = at} (omega arith), List·getD-eq-default s 0 {n = at + 1} (omega arith), List·getD-eq-default s 0 {n = at + 2} (omega arith), List·getD-eq-default s 0 {n = at + 3} (omega arith))
+    rw (cell-past s at (omega arith), cell-past s (at + 1) (omega arith), cell-past s (at + 2) (omega arith), cell-past s (at + 3) (omega arith))
 
 cell-requires : tie.Need-cell-requires
 cell-requires c κs = search needs

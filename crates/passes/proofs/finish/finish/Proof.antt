@@ -1,9 +1,8 @@
 -- `finish::finish` meets its contract: all checks first, and then the five passes.
 use mathlib.Core.Path.{sym, _∙_}
 use borrow.Author.Needs.{needs}
-use lib.ListN.{length}
 use Rattle.passes.proofs.Refusals.{kept, changed}
-use Rattle.passes.proofs.Finishing.{Passed, passed-all}
+use Rattle.passes.proofs.Finishing.{passed-all}
 use Rattle.passes.proofs.finish.finish.Statement.{statement}
 use Rattle.passes.proofs.finish.finish.Tie as tie
 
@@ -14,7 +13,7 @@ finish-rows-requires : tie.Need-finish-rows-requires
 finish-rows-requires c κs =
     let i = c .before in
     let a = i .before .before .before .before .before .before .args in
-    let h = passed-all (a .profile) (a .buffer .now) (a .fragment-size) (a .counts .now) (a .built .now) (a .first-stack-top) (a .height) (sym (i .before .finish-refusal .ensures) ∙ i .if1 .left) in
+    let h = passed-all (a .profile) (a .buffer .now) (a .fragment-size) (a .counts .now) (a .built .now) (a .height) (sym (i .before .finish-refusal .ensures) ∙ i .if1 .left) in
     ((h .fragments, h .height-right), (h .fragment, h .full))
 
 returns-2 : tie.Need-returns-2

@@ -6,54 +6,27 @@ use Rattle.passes.proofs.fixup.fixup_refusal.Tie as tie
 
 returns : tie.Need-returns
 unfolding refusal1 firstOf
-returns c = rw (← (c .before .any-cell-big .ensures), c .if1 .taken)
+returns c = rw (← (c .before .fragments-wrong .ensures), c .if1 .taken)
 
 returns-2 : tie.Need-returns-2
 unfolding refusal1 firstOf
 returns-2 c =
-    let b = c .before .before in
-    rw (← (b .before .any-cell-big .ensures), b .if1 .left, ← (c .before .fragments-wrong .ensures), c .if2 .taken)
+    let f = c .before .before in
+    rw (← (f .before .fragments-wrong .ensures), f .if1 .left, ← (c .before .no-fragment .ensures), c .if2 .taken)
 
 returns-3 : tie.Need-returns-3
 unfolding refusal1 firstOf
 returns-3 c =
-    let f = c .before .before in
-    let b = f .before .before in
-    rw (← (b .before .any-cell-big .ensures), b .if1 .left, ← (f .before .fragments-wrong .ensures), f .if2 .left, ← (c .before .no-fragment .ensures), c .if3 .taken)
+    let n = c .before .before in
+    let f = n .before .before in
+    rw (← (f .before .fragments-wrong .ensures), f .if1 .left, ← (n .before .no-fragment .ensures), n .if2 .left, ← (c .before .not-full .ensures), c .if3 .taken)
 
 returns-4 : tie.Need-returns-4
 unfolding refusal1 firstOf
 returns-4 c =
     let n = c .before .before in
     let f = n .before .before in
-    let b = f .before .before in
-    rw (
-      ← (b .before .any-cell-big .ensures),
-      b .if1 .left,
-      ← (f .before .fragments-wrong .ensures),
-      f .if2 .left,
-      ← (n .before .no-fragment .ensures),
-      n .if3 .left,
-      ← (c .before .not-full .ensures),
-      c .if4 .taken,
-    )
-
-returns-5 : tie.Need-returns-5
-unfolding refusal1 firstOf
-returns-5 c =
-    let n = c .before .before in
-    let f = n .before .before in
-    let b = f .before .before in
-    rw (
-      ← (b .before .any-cell-big .ensures),
-      b .if1 .left,
-      ← (f .before .fragments-wrong .ensures),
-      f .if2 .left,
-      ← (n .before .no-fragment .ensures),
-      n .if3 .left,
-      ← (c .before .not-full .ensures),
-      c .if4 .left,
-    )
+    rw (← (f .before .fragments-wrong .ensures), f .if1 .left, ← (n .before .no-fragment .ensures), n .if2 .left, ← (c .before .not-full .ensures), c .if3 .left)
 
 pub fixup-refusal-spec : {M : Type 1} → statement M
 fixup-refusal-spec =
@@ -65,6 +38,4 @@ fixup-refusal-spec =
     returns-2
     (λ c κs. tt)
     returns-3
-    (λ c κs. tt)
-    returns-4
-    returns-5)
+    returns-4)

@@ -15,7 +15,7 @@ fixup-rows-requires : tie.Need-fixup-rows-requires
 fixup-rows-requires c κs =
     let f = c .before .before in
     let a = f .before .before .before .before .before .args in
-    passed (a .buffer .now) (a .fragment-size) (a .counts .now) (a .built .now) (a .first-stack-top) (sym (f .fixup-refusal .ensures) ∙ c .before .if1 .left)
+    passed (a .buffer .now) (a .fragment-size) (a .counts .now) (a .built .now) (sym (f .fixup-refusal .ensures) ∙ c .before .if1 .left)
 
 returns-2 : tie.Need-returns-2
 returns-2 c =

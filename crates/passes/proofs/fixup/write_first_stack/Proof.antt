@@ -1,9 +1,12 @@
 -- `fixup::write_first_stack` meets its contract.
-use mathlib.Core.Path.{refl, _∙_}
+use mathlib.Core.Path.{_∙_, sym, ap}
 use mathlib.Core.List.{List, [], _∷_, _++_}
 use Prim.Native.Nat.{ℕ}
 use native.Mathlib.Omega.{arith}
 use borrow.Author.Needs.{needs}
+use lib.Seq.{paste}
+use Rattle.field.specs.Cells.{reduced}
+use Rattle.field.proofs.CellLaws.{length-reduced}
 use Rattle.records.specs.Built.{reversed16}
 use Rattle.records.proofs.Rooms.{copy-fits}
 use Rattle.passes.specs.Passes.{firstRow}
@@ -17,7 +20,10 @@ returns c =
     let d = c .before .before in
     let a = d .before .before .before .before .args in
     let stack : List ℕ = reversed16 (a .first-stack-top) ++ (16 ∷ 0 ∷ 0 ∷ []) in
-    d .copy-in .ensures ∙ copy-fits (a .buffer .now) 30 stack (omega arith) ∙ stack-copied (a .buffer .now) stack refl
+    d .copy-in .ensures
+    ∙ copy-fits (a .buffer .now) 30 stack (omega arith)
+    ∙ ap (paste (a .buffer .now) 30 (reduced stack)) (sym (length-reduced stack))
+    ∙ stack-copied (a .buffer .now) (reduced stack) (length-reduced stack)
 
 pub write-first-stack-spec : {M : Type 1} → statement M
 write-first-stack-spec =

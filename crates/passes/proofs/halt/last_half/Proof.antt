@@ -14,8 +14,8 @@ returns c = rw (c .if1 .taken)
 returns-2 : tie.Need-returns-2
 returns-2 c =
     let a = c .before .before .before .args in
-    c .word-at .ensures ∙ sym (last-half (a .rows) (a .buffer .now) (omega arith))
+    c .word-in .ensures ∙ sym (last-half (a .rows) (a .buffer .now) (omega arith))
 
 pub last-half-spec : {M : Type 1} → statement M
 last-half-spec =
-    tie.close (tie.spec returns (λ c. search needs) (λ c. search needs) (λ c κs. tt) returns-2)
+    tie.close (tie.spec returns (λ c. search needs) (λ c. search needs) (λ c κs. search needs) returns-2)

@@ -13,8 +13,8 @@ push-halt-requires : tie.Need-push-halt-requires
 push-halt-requires c κs =
     let i = c .before .before in
     let r = i .before in
-    let a = r .before .before .before .before .args in
-    (fits4 (a .profile) (a .buffer .now) (a .rows) (a .t4) (sym (r .halt-refusal .ensures) ∙ i .if1 .left), omega (arith, r .before .before .before .before .good .1 .1 .1 .0))
+    let a = r .before .before .before .args in
+    (fits4 (a .profile) (a .buffer .now) (a .rows) (sym (r .halt-refusal .ensures) ∙ i .if1 .left), omega (arith, r .before .before .before .good .1 .1 .1 .0))
 
 returns-2 : tie.Need-returns-2
 returns-2 c =
@@ -26,7 +26,6 @@ pub push-halt-opcode-row-spec : {M : Type 1} → statement M
 push-halt-opcode-row-spec =
     tie.close
     (tie.spec
-    (λ c. search needs)
     (λ c κs. tt)
     (λ c. search needs)
     returns

@@ -2,12 +2,12 @@
 use mathlib.Core.Path.{sym, _∙_}
 use borrow.Author.Needs.{needs}
 use native.Mathlib.Omega.{arith}
-use Rattle.passes.proofs.RowCells.{row-cell}
+use Rattle.passes.proofs.RowCells.{row-read}
 use Rattle.passes.proofs.multiplicity.addr_at.Statement.{statement}
 use Rattle.passes.proofs.multiplicity.addr_at.Tie as tie
 
 returns : tie.Need-returns
-returns c = c .cell .ensures ∙ sym (row-cell _ _ 6 (omega arith))
+returns c = c .cell .ensures ∙ sym (row-read _ _ 6 (omega arith))
 
 pub addr-at-spec : {M : Type 1} → statement M
 addr-at-spec =

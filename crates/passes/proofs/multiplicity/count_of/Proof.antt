@@ -9,7 +9,7 @@ use Rattle.passes.proofs.multiplicity.count_of.Tie as tie
 returns : tie.Need-returns
 returns c =
     let a = c .before .before .before .before .args in
-    λ o s count t. c .cell .ensures ∙ count-found (now (a .keys)) (now (a .counts)) (a .x) (c .before .lower .result) o (c .before .lower .ensures .1 o) s count t
+    λ o s count t. c .number-at .ensures ∙ count-found (now (a .keys)) (now (a .counts)) (a .x) (c .before .lower .result) o (c .before .lower .ensures .1 o) s count t
 
 pub count-of-spec : {M : Type 1} → statement M
 count-of-spec =

@@ -7,19 +7,15 @@ use Rattle.reader.proofs.scan.refusal.Tie as tie
 
 returns : tie.Need-returns
 unfolding readerRefusal firstOf
-returns c = rw (← (c .before .any-big .ensures), c .if1 .taken)
+returns c = rw (← (c .before .is-wrong .ensures), c .if1 .taken)
 
 returns-2 : tie.Need-returns-2
-unfolding readerRefusal firstOf
-returns-2 c = rw (← (c .before .before .before .any-big .ensures), c .before .before .if1 .left, ← (c .before .is-wrong .ensures), c .if2 .taken)
+unfolding readerRefusal firstOf bufferWrong
+returns-2 c = rw (← (c .before .before .is-wrong .ensures), c .before .if1 .left, c .if2 .taken)
 
 returns-3 : tie.Need-returns-3
 unfolding readerRefusal firstOf bufferWrong
-returns-3 c = rw (← (c .before .before .before .before .any-big .ensures), c .before .before .before .if1 .left, ← (c .before .before .is-wrong .ensures), c .before .if2 .left, c .if3 .taken)
-
-returns-4 : tie.Need-returns-4
-unfolding readerRefusal firstOf bufferWrong
-returns-4 c = rw (← (c .before .before .before .before .any-big .ensures), c .before .before .before .if1 .left, ← (c .before .before .is-wrong .ensures), c .before .if2 .left, c .if3 .left)
+returns-3 c = rw (← (c .before .before .is-wrong .ensures), c .before .if1 .left, c .if2 .left)
 
 pub refusal-spec : {M : Type 1} → statement M
-refusal-spec = tie.close (tie.spec (λ c κs. tt) returns (λ c κs. search needs) returns-2 returns-3 returns-4)
+refusal-spec = tie.close (tie.spec (λ c κs. search needs) returns returns-2 returns-3)

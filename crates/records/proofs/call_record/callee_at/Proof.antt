@@ -6,11 +6,11 @@ use Rattle.records.proofs.call_record.callee_at.Tie as tie
 
 returns : tie.Need-returns
 unfolding calleeIn
-returns c = rw (← (c .before .before .cell .ensures), eq-eqb _ _ (c .before .if1 .taken), c .word-at .ensures)
+returns c = rw (← (c .before .before .number-at .ensures), eq-eqb _ _ (c .before .if1 .taken), c .word-at .ensures)
 
 returns-2 : tie.Need-returns-2
 unfolding calleeIn
-returns-2 c = rw (← (c .before .cell .ensures), ne-eqb _ _ (c .if1 .left))
+returns-2 c = rw (← (c .before .number-at .ensures), ne-eqb _ _ (c .if1 .left))
 
 pub callee-at-spec : {M : Type 1} → statement M
 callee-at-spec = tie.close

@@ -6,11 +6,11 @@ use Rattle.records.proofs.call_record.condition_at.Tie as tie
 
 returns : tie.Need-returns
 unfolding conditionIn
-returns c = rw (← (c .before .cell .ensures), eq-eqb _ _ (c .if1 .taken))
+returns c = rw (← (c .before .number-at .ensures), eq-eqb _ _ (c .if1 .taken))
 
 returns-2 : tie.Need-returns-2
 unfolding conditionIn
-returns-2 c = rw (← (c .before .cell .ensures), ne-eqb _ _ (c .if1 .left))
+returns-2 c = rw (← (c .before .number-at .ensures), ne-eqb _ _ (c .if1 .left))
 
 pub condition-at-spec : {M : Type 1} → statement M
 condition-at-spec = tie.close

@@ -7,15 +7,15 @@ use Rattle.records.proofs.call_record.info_at.Tie as tie
 
 returns : tie.Need-returns
 unfolding infoIn
-returns c = rw (← (c .before .cell .ensures), ne-eqb _ _ (c .if1 .taken))
+returns c = rw (← (c .before .number-at .ensures), ne-eqb _ _ (c .if1 .taken))
 
 returns-2 : tie.Need-returns-2
 unfolding infoIn
-returns-2 c = rw (← (c .before .before .before .before .before .cell .ensures), eq-eqb _ _ (c .before .before .before .before .if1 .left), ← (c .before .before .before .cell2 .ensures), ← (c .before .before .narrow .ensures 1), c .enum-told .given .1)
+returns-2 c = rw (← (c .before .before .before .before .before .number-at .ensures), eq-eqb _ _ (c .before .before .before .before .if1 .left), ← (c .before .before .before .number-at2 .ensures), ← (c .before .before .narrow .ensures 23), c .enum-told .given .1)
 
 returns-3 : tie.Need-returns-3
 unfolding infoIn
-returns-3 c = rw (← (c .before .before .before .before .before .before .before .cell .ensures), eq-eqb _ _ (c .before .before .before .before .before .before .if1 .left), ← (c .before .before .before .before .before .cell2 .ensures), ← (c .before .before .before .before .narrow .ensures 1), c .before .before .depth .given .1, c .cell3 .ensures)
+returns-3 c = rw (← (c .before .before .before .before .before .before .before .number-at .ensures), eq-eqb _ _ (c .before .before .before .before .before .before .if1 .left), ← (c .before .before .before .before .before .number-at2 .ensures), ← (c .before .before .before .before .narrow .ensures 23), c .before .before .depth .given .1, c .number-at3 .ensures)
 
 pub info-at-spec : {M : Type 1} → statement M
 info-at-spec =

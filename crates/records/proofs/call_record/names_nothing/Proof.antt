@@ -5,7 +5,7 @@ use Rattle.records.proofs.call_record.names_nothing.Tie as tie
 
 returns : tie.Need-returns
 unfolding namesNothing
-returns c = rw (← (c .before .before .before .cell .ensures), ← (c .before .before .cell2 .ensures), ← (c .before .cell3 .ensures), ← (c .cell4 .ensures))
+returns c = rw (← (c .before .before .before .number-at .ensures), ← (c .before .before .number-at2 .ensures), ← (c .before .number-at3 .ensures), ← (c .number-at4 .ensures))
 
 pub names-nothing-spec : {M : Type 1} → statement M
 names-nothing-spec =

@@ -6,11 +6,11 @@ use Rattle.records.proofs.call_record.respan_at.Tie as tie
 
 returns : tie.Need-returns
 unfolding respanIn
-returns c = rw (← (c .before .before .before .cell .ensures), ← (c .before .before .narrow .ensures 5), c .enum-told .given .1)
+returns c = rw (← (c .before .before .before .number-at .ensures), ← (c .before .before .narrow .ensures 5), c .enum-told .given .1)
 
 returns-2 : tie.Need-returns-2
 unfolding respanIn
-returns-2 c = rw (← (c .before .before .before .before .cell .ensures), ← (c .before .before .before .narrow .ensures 5), c .before .batch .given .1)
+returns-2 c = rw (← (c .before .before .before .before .number-at .ensures), ← (c .before .before .before .narrow .ensures 5), c .before .batch .given .1)
 
 pub respan-at-spec : {M : Type 1} → statement M
 respan-at-spec =

@@ -6,15 +6,15 @@ use Rattle.records.proofs.call_record.resume_at.Tie as tie
 
 returns : tie.Need-returns
 unfolding resumeIn
-returns c = rw (← (c .before .before .before .cell .ensures), ← (c .before .before .narrow .ensures 5), c .enum-told .given .1)
+returns c = rw (← (c .before .before .before .number-at .ensures), ← (c .before .before .narrow .ensures 5), c .enum-told .given .1)
 
 returns-2 : tie.Need-returns-2
 unfolding resumeIn
-returns-2 c = rw (← (c .before .before .before .before .before .before .before .before .cell .ensures), ← (c .before .before .before .before .before .before .before .narrow .ensures 5), c .before .before .before .before .before .batch .given .1, ← (c .before .before .before .cell2 .ensures), ← (c .before .before .narrow2 .ensures 6), c .enum-told2 .given .1)
+returns-2 c = rw (← (c .before .before .before .before .before .before .before .before .number-at .ensures), ← (c .before .before .before .before .before .before .before .narrow .ensures 5), c .before .before .before .before .before .batch .given .1, ← (c .before .before .before .number-at2 .ensures), ← (c .before .before .narrow2 .ensures 6), c .enum-told2 .given .1)
 
 returns-3 : tie.Need-returns-3
 unfolding resumeIn
-returns-3 c = rw (← (c .before .before .before .before .before .before .before .before .before .cell .ensures), ← (c .before .before .before .before .before .before .before .before .narrow .ensures 5), c .before .before .before .before .before .before .batch .given .1, ← (c .before .before .before .before .cell2 .ensures), ← (c .before .before .before .narrow2 .ensures 6), c .before .op .given .1)
+returns-3 c = rw (← (c .before .before .before .before .before .before .before .before .before .number-at .ensures), ← (c .before .before .before .before .before .before .before .before .narrow .ensures 5), c .before .before .before .before .before .before .batch .given .1, ← (c .before .before .before .before .number-at2 .ensures), ← (c .before .before .before .narrow2 .ensures 6), c .before .op .given .1)
 
 pub resume-at-spec : {M : Type 1} → statement M
 resume-at-spec =

@@ -6,15 +6,15 @@ use Rattle.records.proofs.call_record.system_at.Tie as tie
 
 returns : tie.Need-returns
 unfolding systemIn
-returns c = rw (← (c .before .before .before .cell .ensures), ← (c .before .before .narrow .ensures 1), c .enum-told .given .1)
+returns c = rw (← (c .before .before .before .number-at .ensures), ← (c .before .before .narrow .ensures 23), c .enum-told .given .1)
 
 returns-2 : tie.Need-returns-2
 unfolding systemIn
-returns-2 c = rw (← (c .before .before .before .before .before .before .before .before .cell .ensures), ← (c .before .before .before .before .before .before .before .narrow .ensures 1), c .before .before .before .before .before .row .given .1, ← (c .before .before .before .cell2 .ensures), ← (c .before .before .narrow2 .ensures 1), c .enum-told2 .given .1)
+returns-2 c = rw (← (c .before .before .before .before .before .before .before .before .number-at .ensures), ← (c .before .before .before .before .before .before .before .narrow .ensures 23), c .before .before .before .before .before .row .given .1, ← (c .before .before .before .number-at2 .ensures), ← (c .before .before .narrow2 .ensures 23), c .enum-told2 .given .1)
 
 returns-3 : tie.Need-returns-3
 unfolding systemIn
-returns-3 c = rw (← (c .before .before .before .before .before .before .before .before .before .before .cell .ensures), ← (c .before .before .before .before .before .before .before .before .before .narrow .ensures 1), c .before .before .before .before .before .before .before .row .given .1, ← (c .before .before .before .before .before .cell2 .ensures), ← (c .before .before .before .before .narrow2 .ensures 1), c .before .before .context .given .1, c .word-at .ensures)
+returns-3 c = rw (← (c .before .before .before .before .before .before .before .before .before .before .number-at .ensures), ← (c .before .before .before .before .before .before .before .before .before .narrow .ensures 23), c .before .before .before .before .before .before .before .row .given .1, ← (c .before .before .before .before .before .number-at2 .ensures), ← (c .before .before .before .before .narrow2 .ensures 23), c .before .before .context .given .1, c .word-at .ensures)
 
 pub system-at-spec : {M : Type 1} → statement M
 system-at-spec =

@@ -12,11 +12,11 @@ returns : tie.Need-returns
 unfolding callIn
 returns c =
     let found = storedInRecord (c .before .before .before .before .before .before .before .before .before .before .before .before .before .before .args .numbers .now) in
-    rw (← (c .before .before .cell .ensures), eq-eqb _ _ (c .before .if1 .taken), storing-done _ _ found, storing-written _ _ found) (c .store .ensures, pick-same (c .before .before .before .before .before .before .before .before .before .before .before .before .before .before .args .write) _)
+    rw (← (c .before .before .number-at .ensures), eq-eqb _ _ (c .before .if1 .taken), storing-done _ _ found, storing-written _ _ found) (c .store .ensures, pick-same (c .before .before .before .before .before .before .before .before .before .before .before .before .before .before .args .write) _)
 
 returns-2 : tie.Need-returns-2
 unfolding callIn
-returns-2 c = rw (← (c .before .before .before .before .before .cell .ensures), ne-eqb _ _ (c .before .before .before .before .if1 .left)) (c .before .before .cycle-call .ensures)
+returns-2 c = rw (← (c .before .before .before .before .before .number-at .ensures), ne-eqb _ _ (c .before .before .before .before .if1 .left)) (c .before .before .cycle-call .ensures)
 
 pub call-spec : {M : Type 1} → statement M
 call-spec =

@@ -18,8 +18,8 @@ unfolding finishIn callDone callWritten
 returns-2 c = rw (
   ← (c .before .before .before .before .before .before .before .before .system-at .ensures),
   c .before .before .before .before .before .before .system-found .given .1,
-  ← (c .before .before .before .before .cell .ensures),
-  ← (c .before .before .before .narrow .ensures 1),
+  ← (c .before .before .before .before .number-at .ensures),
+  ← (c .before .before .before .narrow .ensures 23),
   c .before .enum-told2 .given .1,
 ) (c .refuse2 .ensures, pick-same (c .before .before .before .before .before .before .before .before .before .before .before .before .before .before .before .before .before .before .before .before .args .write) _)
 
@@ -28,8 +28,8 @@ unfolding finishIn callDone callWritten
 returns-3 c = rw (
   ← (c .before .before .before .before .before .before .before .before .before .before .before .before .system-at .ensures),
   c .before .before .before .before .before .before .before .before .before .before .system-found .given .1,
-  ← (c .before .before .before .before .before .before .before .before .cell .ensures),
-  ← (c .before .before .before .before .before .before .before .narrow .ensures 1),
+  ← (c .before .before .before .before .before .before .before .before .number-at .ensures),
+  ← (c .before .before .before .before .before .before .before .narrow .ensures 23),
   c .before .before .before .before .before .depth-found .given .1,
   ← (c .before .before .before .registers-at .ensures),
   c .before .enum-told3 .given .1,
@@ -40,13 +40,13 @@ unfolding finishIn
 returns-4 c = rw (
   ← (c .before .before .before .before .before .before .before .before .before .before .before .before .before .before .before .before .before .before .system-at .ensures),
   c .before .before .before .before .before .before .before .before .before .before .before .before .before .before .before .before .system-found .given .1,
-  ← (c .before .before .before .before .before .before .before .before .before .before .before .before .before .before .cell .ensures),
-  ← (c .before .before .before .before .before .before .before .before .before .before .before .before .before .narrow .ensures 1),
+  ← (c .before .before .before .before .before .before .before .before .before .before .before .before .before .before .number-at .ensures),
+  ← (c .before .before .before .before .before .before .before .before .before .before .before .before .before .narrow .ensures 23),
   c .before .before .before .before .before .before .before .before .before .before .before .depth-found .given .1,
   ← (c .before .before .before .before .before .before .before .before .before .registers-at .ensures),
   c .before .before .before .before .before .before .before .registers-found .given .1,
   ← (c .before .before .before .before .before .stack-at .ensures),
-  ← (c .before .before .before .before .cell2 .ensures),
+  ← (c .before .before .before .before .number-at2 .ensures),
 ) (c .before .before .finish-in .ensures)
 
 pub cycle-call-spec : {M : Type 1} → statement M

@@ -15,31 +15,31 @@ returns-2 c = (rw (eq-eqb _ _ (c .before .before .if1 .left), c .enum-told .give
 
 returns-3 : tie.Need-returns-3
 unfolding cycleWith
-returns-3 c = (rw (eq-eqb _ _ (c .before .before .before .before .before .before .if1 .left), ← (c .before .before .cycle-big .ensures), c .before .before .before .before .stored .given .1, c .if2 .taken), tt)
+returns-3 c = (rw (eq-eqb _ _ (c .before .before .before .before .if1 .left), c .before .before .stored .given .1, c .if2 .taken), tt)
 
 returns-4 : tie.Need-returns-4
 unfolding cycleWith
-returns-4 c = (rw (eq-eqb _ _ (c .before .before .before .before .before .before .before .if1 .left), ← (c .before .before .before .cycle-big .ensures), c .before .before .before .before .before .stored .given .1, c .before .if2 .left, c .if3 .taken), tt)
+returns-4 c = (rw (eq-eqb _ _ (c .before .before .before .before .before .if1 .left), c .before .before .before .stored .given .1, c .before .if2 .left, c .if3 .taken), tt)
 
 returns-5 : tie.Need-returns-5
 unfolding cycleWith
-returns-5 c = (rw (eq-eqb _ _ (c .before .before .before .before .before .before .before .before .before .before .if1 .left), ← (c .before .before .before .before .before .before .cycle-big .ensures), c .before .before .before .before .before .before .before .before .stored .given .1, c .before .before .before .before .if2 .left, c .before .before .before .if3 .left, ← (c .before .before .fragment-wrong .ensures), c .if4 .taken), tt)
+returns-5 c = (rw (eq-eqb _ _ (c .before .before .before .before .before .before .before .before .if1 .left), c .before .before .before .before .before .before .stored .given .1, c .before .before .before .before .if2 .left, c .before .before .before .if3 .left, ← (c .before .before .fragment-wrong .ensures), c .if4 .taken), tt)
 
 returns-6 : tie.Need-returns-6
 unfolding cycleWith
-returns-6 c = (rw (eq-eqb _ _ (c .before .before .before .before .before .before .before .before .before .before .before .before .if1 .left), ← (c .before .before .before .before .before .before .before .before .cycle-big .ensures), c .before .before .before .before .before .before .before .before .before .before .stored .given .1, c .before .before .before .before .before .before .if2 .left, c .before .before .before .before .before .if3 .left, ← (c .before .before .before .before .fragment-wrong .ensures), c .before .before .if4 .left, lt-ltb _ _ (c .if5 .taken)), tt)
+returns-6 c = (rw (eq-eqb _ _ (c .before .before .before .before .before .before .before .before .before .before .if1 .left), c .before .before .before .before .before .before .before .before .stored .given .1, c .before .before .before .before .before .before .if2 .left, c .before .before .before .before .before .if3 .left, ← (c .before .before .before .before .fragment-wrong .ensures), c .before .before .if4 .left, lt-ltb _ _ (c .if5 .taken)), tt)
 
 returns-7 : tie.Need-returns-7
 unfolding cycleWith
-returns-7 c = (rw (eq-eqb _ _ (c .before .before .before .before .before .before .before .before .before .before .before .before .before .before .before .before .before .before .before .before .before .if1 .left), ← (c .before .before .before .before .before .before .before .before .before .before .before .before .before .before .before .before .before .cycle-big .ensures), c .before .before .before .before .before .before .before .before .before .before .before .before .before .before .before .before .before .before .before .stored .given .1, c .before .before .before .before .before .before .before .before .before .before .before .before .before .before .before .if2 .left, c .before .before .before .before .before .before .before .before .before .before .before .before .before .before .if3 .left, ← (c .before .before .before .before .before .before .before .before .before .before .before .before .before .fragment-wrong .ensures), c .before .before .before .before .before .before .before .before .before .before .before .if4 .left, le-ltb _ _ (c .before .before .before .before .before .before .before .before .before .if5 .left), ← (c .before .before .before .before .before .make .ensures), c .before .before .before .made2 .given .1, le-leb _ _ (c .if6 .taken)), tt)
+returns-7 c = (rw (eq-eqb _ _ (c .before .before .before .before .before .before .before .before .before .before .before .before .before .before .before .before .before .before .before .if1 .left), c .before .before .before .before .before .before .before .before .before .before .before .before .before .before .before .before .before .stored .given .1, c .before .before .before .before .before .before .before .before .before .before .before .before .before .before .before .if2 .left, c .before .before .before .before .before .before .before .before .before .before .before .before .before .before .if3 .left, ← (c .before .before .before .before .before .before .before .before .before .before .before .before .before .fragment-wrong .ensures), c .before .before .before .before .before .before .before .before .before .before .before .if4 .left, le-ltb _ _ (c .before .before .before .before .before .before .before .before .before .if5 .left), ← (c .before .before .before .before .before .make .ensures), c .before .before .before .made2 .given .1, le-leb _ _ (c .if6 .taken)), tt)
 
 returns-8 : tie.Need-returns-8
 unfolding cycleWith
-returns-8 c = (rw (eq-eqb _ _ (c .before .before .before .before .before .before .before .before .before .before .before .before .before .before .before .before .before .before .before .if1 .left), ← (c .before .before .before .before .before .before .before .before .before .before .before .before .before .before .before .cycle-big .ensures), c .before .before .before .before .before .before .before .before .before .before .before .before .before .before .before .before .before .stored .given .1, c .before .before .before .before .before .before .before .before .before .before .before .before .before .if2 .left, c .before .before .before .before .before .before .before .before .before .before .before .before .if3 .left, ← (c .before .before .before .before .before .before .before .before .before .before .before .fragment-wrong .ensures), c .before .before .before .before .before .before .before .before .before .if4 .left, le-ltb _ _ (c .before .before .before .before .before .before .before .if5 .left), ← (c .before .before .before .make .ensures), c .before .made .given .1), tt)
+returns-8 c = (rw (eq-eqb _ _ (c .before .before .before .before .before .before .before .before .before .before .before .before .before .before .before .before .before .if1 .left), c .before .before .before .before .before .before .before .before .before .before .before .before .before .before .before .stored .given .1, c .before .before .before .before .before .before .before .before .before .before .before .before .before .if2 .left, c .before .before .before .before .before .before .before .before .before .before .before .before .if3 .left, ← (c .before .before .before .before .before .before .before .before .before .before .before .fragment-wrong .ensures), c .before .before .before .before .before .before .before .before .before .if4 .left, le-ltb _ _ (c .before .before .before .before .before .before .before .if5 .left), ← (c .before .before .before .make .ensures), c .before .made .given .1), tt)
 
 returns-9 : tie.Need-returns-9
 unfolding cycleWith
-returns-9 c = (rw (eq-eqb _ _ (c .before .before .before .before .before .before .before .before .before .before .before .before .before .before .before .before .before .before .before .before .before .if1 .left), ← (c .before .before .before .before .before .before .before .before .before .before .before .before .before .before .before .before .before .cycle-big .ensures), c .before .before .before .before .before .before .before .before .before .before .before .before .before .before .before .before .before .before .before .stored .given .1, c .before .before .before .before .before .before .before .before .before .before .before .before .before .before .before .if2 .left, c .before .before .before .before .before .before .before .before .before .before .before .before .before .before .if3 .left, ← (c .before .before .before .before .before .before .before .before .before .before .before .before .before .fragment-wrong .ensures), c .before .before .before .before .before .before .before .before .before .before .before .if4 .left, le-ltb _ _ (c .before .before .before .before .before .before .before .before .before .if5 .left), ← (c .before .before .before .before .before .make .ensures), c .before .before .before .made2 .given .1, lt-leb _ _ (c .if6 .left)), c .if6 .left)
+returns-9 c = (rw (eq-eqb _ _ (c .before .before .before .before .before .before .before .before .before .before .before .before .before .before .before .before .before .before .before .if1 .left), c .before .before .before .before .before .before .before .before .before .before .before .before .before .before .before .before .before .stored .given .1, c .before .before .before .before .before .before .before .before .before .before .before .before .before .before .before .if2 .left, c .before .before .before .before .before .before .before .before .before .before .before .before .before .before .if3 .left, ← (c .before .before .before .before .before .before .before .before .before .before .before .before .before .fragment-wrong .ensures), c .before .before .before .before .before .before .before .before .before .before .before .if4 .left, le-ltb _ _ (c .before .before .before .before .before .before .before .before .before .if5 .left), ← (c .before .before .before .before .before .make .ensures), c .before .before .before .made2 .given .1, lt-leb _ _ (c .if6 .left)), c .if6 .left)
 
 pub checked-spec : {M : Type 1} → statement M
 checked-spec =
@@ -49,7 +49,6 @@ checked-spec =
     (λ c. search needs)
     (λ c. search needs)
     returns-2
-    (λ c κs. tt)
     returns-3
     returns-4
     (λ c κs. tt)

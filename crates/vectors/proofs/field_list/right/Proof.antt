@@ -1,7 +1,5 @@
 -- `field_list::right` is safe and ends.
-use mathlib.Core.Path.{_≡_}
-use Prim.Native.Nat.{ℕ, _+_, _*_, _-_, _≤_, _<_}
-use native.Mathlib.Omega.{arith}
+use Prim.Native.Nat.{_+_, _-_, _≤_}
 use borrow.Author.Needs.{needs}
 use lib.ListN.{length}
 use Rattle.vectors.proofs.field_list.right.Statement.{statement}
@@ -13,77 +11,26 @@ Inv-loop v all right₀ k₀ at₀ right k at = (right ≤ k) × (at ≤ length 
 abbrev μ-loop : tie.MeasureT-loop
 μ-loop v all right₀ k₀ at₀ right k at = all - k
 
-loop-holds : tie.Need-loop-holds Inv-loop μ-loop
-loop-holds c = search needs
-
-returns : tie.Need-returns Inv-loop μ-loop
-returns c = search needs
-
-cell-requires : tie.Need-cell-requires Inv-loop μ-loop
-cell-requires c κs = search needs
-
-add-cell : tie.Need-add-cell Inv-loop μ-loop
-add-cell c = search needs
-
-cell-requires-2 : tie.Need-cell-requires-2 Inv-loop μ-loop
-cell-requires-2 c κs = search needs
-
-add-cell-2 : tie.Need-add-cell-2 Inv-loop μ-loop
-add-cell-2 c = search needs
-
-cell-requires-3 : tie.Need-cell-requires-3 Inv-loop μ-loop
-cell-requires-3 c κs = search needs
-
-computed-requires : tie.Need-computed-requires Inv-loop μ-loop
-computed-requires c κs = search needs
-
-add-cell-3 : tie.Need-add-cell-3 Inv-loop μ-loop
-add-cell-3 c = search needs
-
-cell-requires-4 : tie.Need-cell-requires-4 Inv-loop μ-loop
-cell-requires-4 c κs = search needs
-
-one-if-requires : tie.Need-one-if-requires Inv-loop μ-loop
-one-if-requires c κs = search needs
-
-add-right : tie.Need-add-right Inv-loop μ-loop
-add-right c = search needs
-
-add-at : tie.Need-add-at Inv-loop μ-loop
-add-at c = search needs
-
-add-k : tie.Need-add-k Inv-loop μ-loop
-add-k c = search needs
-
-loop-less : tie.Need-loop-less Inv-loop μ-loop
-loop-less c = search needs
-
-loop-again : tie.Need-loop-again Inv-loop μ-loop
-loop-again c = search needs
-
-returns-2 : tie.Need-returns-2 Inv-loop μ-loop
-returns-2 c = search needs
-
 pub right-spec : {M : Type 1} → statement M
 right-spec =
     tie.close
     (tie.spec
     Inv-loop
     μ-loop
-    loop-holds
-    returns
-    cell-requires
-    add-cell
-    cell-requires-2
-    add-cell-2
-    cell-requires-3
-    computed-requires
-    add-cell-3
-    cell-requires-4
-    one-if-requires
-    add-right
-    add-at
-    add-k
-    loop-less
-    loop-again
-    returns-2)
+    (λ c. search needs)
+    (λ c. search needs)
+    (λ c κs. search needs)
+    (λ c. search needs)
+    (λ c κs. search needs)
+    (λ c. search needs)
+    (λ c κs. search needs)
+    (λ c κs. search needs)
+    (λ c. search needs)
+    (λ c κs. search needs)
+    (λ c κs. search needs)
+    (λ c. search needs)
+    (λ c. search needs)
+    (λ c. search needs)
+    (λ c. search needs)
+    (λ c. search needs)
+    (λ c. search needs))

@@ -17,16 +17,6 @@ returns : tie.Need-returns
 unfolding contextAtBatchStart
 returns c = rw (← (c .before .before .batch-at .ensures), c .enum-told .given .1)
 
-has-big-group-requires : tie.Need-has-big-group-requires
-has-big-group-requires c κs = search needs
-
-returns-2 : tie.Need-returns-2
-unfolding contextAtBatchStart
-returns-2 c =
-    let h = c .before in
-    let b = h .before .before in
-    rw (← (b .before .before .batch-at .ensures), b .batch .given .1, ← (h .has-big-group .ensures), c .if1 .taken)
-
 lent-batches-requires : tie.Need-lent-batches-requires
 lent-batches-requires c κs = search needs
 
@@ -42,19 +32,28 @@ enum-known-flags c = search needs
 enum-told-2 : tie.Need-enum-told-2
 enum-told-2 c = search needs
 
-returns-3 : tie.Need-returns-3
+returns-2 : tie.Need-returns-2
 unfolding contextAtBatchStart
-returns-3 c =
+returns-2 c =
     let f = c .before .before in
     let s = f .before in
     let l = s .before in
-    let i = l .before in
-    let h = i .before in
-    let b = h .before .before in
-    rw (← (b .before .before .batch-at .ensures), b .batch .given .1, ← (h .has-big-group .ensures), i .if1 .left, ← (l .lent-batches .ensures), ← (s .sum-groups .ensures .0), ← (f .batch-flags .ensures), c .enum-told2 .given .1)
+    let b = l .before .before in
+    rw (← (b .before .before .batch-at .ensures), b .batch .given .1, ← (l .lent-batches .ensures), ← (s .sum-groups .ensures .0), ← (f .batch-flags .ensures), c .enum-told2 .given .1)
 
 is-too-large-requires : tie.Need-is-too-large-requires
 is-too-large-requires c κs = search needs
+
+returns-3 : tie.Need-returns-3
+unfolding contextAtBatchStart
+returns-3 c =
+    let t = c .before in
+    let g = t .before .before in
+    let f = g .before .before in
+    let s = f .before in
+    let l = s .before in
+    let b = l .before .before in
+    rw (← (b .before .before .batch-at .ensures), b .batch .given .1, ← (l .lent-batches .ensures), ← (s .sum-groups .ensures .0), ← (f .batch-flags .ensures), g .flags .given .1, ← (t .is-too-large .ensures), c .if1 .taken)
 
 returns-4 : tie.Need-returns-4
 unfolding contextAtBatchStart
@@ -64,23 +63,8 @@ returns-4 c =
     let f = g .before .before in
     let s = f .before in
     let l = s .before in
-    let i = l .before in
-    let h = i .before in
-    let b = h .before .before in
-    rw (← (b .before .before .batch-at .ensures), b .batch .given .1, ← (h .has-big-group .ensures), i .if1 .left, ← (l .lent-batches .ensures), ← (s .sum-groups .ensures .0), ← (f .batch-flags .ensures), g .flags .given .1, ← (t .is-too-large .ensures), c .if2 .taken)
-
-returns-5 : tie.Need-returns-5
-unfolding contextAtBatchStart
-returns-5 c =
-    let t = c .before in
-    let g = t .before .before in
-    let f = g .before .before in
-    let s = f .before in
-    let l = s .before in
-    let i = l .before in
-    let h = i .before in
-    let b = h .before .before in
-    rw (← (b .before .before .batch-at .ensures), b .batch .given .1, ← (h .has-big-group .ensures), i .if1 .left, ← (l .lent-batches .ensures), ← (s .sum-groups .ensures .0), ← (f .batch-flags .ensures), g .flags .given .1, ← (t .is-too-large .ensures), c .if2 .left)
+    let b = l .before .before in
+    rw (← (b .before .before .batch-at .ensures), b .batch .given .1, ← (l .lent-batches .ensures), ← (s .sum-groups .ensures .0), ← (f .batch-flags .ensures), g .flags .given .1, ← (t .is-too-large .ensures), c .if1 .left)
 
 pub new-at-batch-start-spec : {M : Type 1} → statement M
 new-at-batch-start-spec =
@@ -90,14 +74,12 @@ new-at-batch-start-spec =
     enum-known-batch
     enum-told
     returns
-    has-big-group-requires
-    returns-2
     lent-batches-requires
     sum-groups-requires
     batch-flags-requires
     enum-known-flags
     enum-told-2
-    returns-3
+    returns-2
     is-too-large-requires
-    returns-4
-    returns-5)
+    returns-3
+    returns-4)

@@ -18,16 +18,6 @@ returns : tie.Need-returns
 unfolding contextAtOp
 returns c = rw (← (c .before .before .batch-at .ensures), c .enum-told .given .1)
 
-has-big-group-requires : tie.Need-has-big-group-requires
-has-big-group-requires c κs = search needs
-
-returns-2 : tie.Need-returns-2
-unfolding contextAtOp
-returns-2 c =
-    let h = c .before in
-    let b = h .before .before in
-    rw (← (b .before .before .batch-at .ensures), b .batch .given .1, ← (h .has-big-group .ensures), c .if1 .taken)
-
 starts-at-requires : tie.Need-starts-at-requires
 starts-at-requires c κs = search needs
 
@@ -40,35 +30,31 @@ enum-known-place c = search needs
 enum-told-2 : tie.Need-enum-told-2
 enum-told-2 c = search needs
 
-returns-3 : tie.Need-returns-3
+returns-2 : tie.Need-returns-2
 unfolding contextAtOp
-returns-3 c =
+returns-2 c =
     let o = c .before .before in
     let s = o .before in
-    let i = s .before in
-    let h = i .before in
-    let b = h .before .before in
-    rw (← (b .before .before .batch-at .ensures), b .batch .given .1, ← (h .has-big-group .ensures), i .if1 .left, ← (s .starts-at .ensures), ← (o .op-idx-in-batch-to-group .ensures), c .enum-told2 .given .1)
+    let b = s .before .before in
+    rw (← (b .before .before .batch-at .ensures), b .batch .given .1, ← (s .starts-at .ensures), ← (o .op-idx-in-batch-to-group .ensures), c .enum-told2 .given .1)
 
 in-group-requires : tie.Need-in-group-requires
 in-group-requires c κs =
     let p = c .before in
     let o = p .before .before in
     let s = o .before in
-    let b = s .before .before .before .before in
+    let b = s .before .before in
     let a = b .before .before .before .before .before .args in
     in-batch (a .batches .now) (a .block) (a .index) (b .batch .given .0 .0 .«num_ops») (a .op) (s .starts-at .result) (o .op-idx-in-batch-to-group .result) (p .place .given .0 .0) (s .starts-at .ensures) (o .op-idx-in-batch-to-group .ensures) (p .place .given .1)
 
-returns-4 : tie.Need-returns-4
+returns-3 : tie.Need-returns-3
 unfolding contextAtOp
-returns-4 c =
+returns-3 c =
     let p = c .before .before in
     let o = p .before .before in
     let s = o .before in
-    let i = s .before in
-    let h = i .before in
-    let b = h .before .before in
-    rw (← (b .before .before .batch-at .ensures), b .batch .given .1, ← (h .has-big-group .ensures), i .if1 .left, ← (s .starts-at .ensures), ← (o .op-idx-in-batch-to-group .ensures), p .place .given .1) (c .in-group .ensures)
+    let b = s .before .before in
+    rw (← (b .before .before .batch-at .ensures), b .batch .given .1, ← (s .starts-at .ensures), ← (o .op-idx-in-batch-to-group .ensures), p .place .given .1) (c .in-group .ensures)
 
 pub new-at-op-spec : {M : Type 1} → statement M
 new-at-op-spec =
@@ -78,12 +64,10 @@ new-at-op-spec =
     enum-known-batch
     enum-told
     returns
-    has-big-group-requires
-    returns-2
     starts-at-requires
     op-idx-in-batch-to-group-requires
     enum-known-place
     enum-told-2
-    returns-3
+    returns-2
     in-group-requires
-    returns-4)
+    returns-3)

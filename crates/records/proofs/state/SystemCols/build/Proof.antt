@@ -1,5 +1,4 @@
 -- `SystemCols::build` meets its contract.
-use mathlib.Core.Path.{refl}
 use borrow.Author.Needs.{needs}
 use Rattle.records.specs.Built.{builtSystem}
 use Rattle.records.proofs.state.SystemCols.build.Statement.{statement}
@@ -7,7 +6,7 @@ use Rattle.records.proofs.state.SystemCols.build.Tie as tie
 
 returns : tie.Need-returns
 unfolding builtSystem
-returns c = refl
+returns c = rw (c .read-word .ensures)
 
 pub build-spec : {M : Type 1} → statement M
-build-spec = tie.close (tie.spec (λ c. search needs) (λ c. search needs) (λ c. search needs) returns)
+build-spec = tie.close (tie.spec (λ c. search needs) (λ c. search needs) (λ c. search needs) (λ c κs. search needs) returns)

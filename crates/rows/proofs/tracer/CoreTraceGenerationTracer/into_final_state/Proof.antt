@@ -13,7 +13,9 @@ returns c = rw (ne-eqb _ _ (c .before .before .if1 .taken), c .before .zeros .en
 
 returns-2 : tie.Need-returns-2
 unfolding finalState
-returns-2 c = rw (eq-eqb _ _ (c .before .before .if1 .left), c .before .last-system .ensures, c .last-stack .ensures)
+returns-2 c =
+    let k = c .before .before in
+    rw (eq-eqb _ _ (k .before .before .if1 .left), c .before .read .ensures, c .read2 .ensures, k .before .last-system .ensures, k .last-stack .ensures)
 
 pub into-final-state-spec : {M : Type 1} → statement M
 into-final-state-spec =
@@ -24,4 +26,6 @@ into-final-state-spec =
     returns
     (λ c κs. tt)
     (λ c κs. tt)
+    (λ c κs. search needs)
+    (λ c κs. search needs)
     returns-2)

@@ -6,7 +6,7 @@ use Rattle.rows.proofs.tracer.CoreTraceGenerationTracer.new.Tie as tie
 
 returns : tie.Need-returns
 unfolding fresh
-returns c = rw (c .before .zeros .ensures, c .zeros2 .ensures)
+returns c = rw (c .before .before .zeros .ensures, c .before .zeros2 .ensures, c .read .ensures)
 
 pub new-spec : {M : Type 1} → statement M
-new-spec = tie.close (tie.spec (λ c κs. tt) (λ c κs. search needs) returns)
+new-spec = tie.close (tie.spec (λ c κs. tt) (λ c κs. search needs) (λ c κs. search needs) returns)

@@ -1,0 +1,10 @@
+pub mod CellsBelow
+pub mod CyclesReduced
+pub mod LentReduced
+pub mod MadeReduced
+pub mod PassesKept
+pub mod PassesReduced
+pub mod RecordsReduced
+pub mod ReplaysReduced
+pub mod StatesRead
+pub mod WrittenBelow
