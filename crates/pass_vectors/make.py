@@ -522,6 +522,7 @@ def unreduced():
     # all
     same("all cells", "finish", split(9, 4), put("last", built(2)))
     same("all cells, LOOP without body", "finish", split(9, 4), row(3, h4=0), row(7, h4=0))
+    random_finishes(out, random.Random(2028), True, 26)
     return out
 
 
@@ -652,6 +653,7 @@ def orders():
     out.add("no fragment and height", "finish", fragments(9), height(0), number=11)
     out.add("no fragment and height", "finish", fragments(9), height(1), number=26)
     out.add("all", "finish", fragments(9), wrong, put("top", [P]), lent("buffer", 590), height(0), no_body, number=2)
+    out.add("all but the first", "finish", fragments(9), wrong, lent("buffer", 590), height(0), no_body, number=2)
     out.add("LOOP in the last row", "finish", fragments(9, 9), row(0, "SPAN"), row(8, "LOOP"), number=0)
     out.add("opcode past the bits", "multiplicities", profile(4, 128 + 85), number=2)
     return out
@@ -720,27 +722,41 @@ def finished():
         # a row's system and stack cells are those built at the row before, across fragments too
         assert [cols[0] for cols in trace] == list(range(10)) and all(cols[46] == depth for cols in trace[1:])
         assert trace[9][48] == depth - 16 and all(cols[48] * (depth - 16) % P == int(depth > 16) for cols in trace[1:9])
-    rng = random.Random(2027)
-    odd = lambda bit: rng.choice([bit, bit, bit, bit + 2, bit + 2**33, P - 1 - (P - 1 + bit) % 2, P + bit, P + 2 + bit])
-    accepted = 0
-    while accepted < 30:
-        ops = rng.sample(range(128), 12)
-        halt = rng.choice([h for h in range(96, 128) if h not in ops])
-        codes = ops + [halt]
-        total = rng.randrange(1, 12)
-        size = rng.choice([1, 2, 3, 4, total, total + 1, 50])
-        if total > 8 * size:
-            continue
-        changes = [put("profile", codes + [rng.randrange(1, P)]), split(total, size), height(rng.choice([total + 1, 12, rng.randrange(total + 1, 13)]))]
-        for k in range(total):
-            code = rng.choice([codes[4], codes[11], codes[11], codes[11], rng.randrange(128)])
-            changes += [cells(k, ADDR, [rng.choice([1, 2, P + 1, P + 2])] + [odd(code >> b & 1) for b in range(7)]),
-                        row(k, h4=rng.choice([0, 1, 1, 1, 2, P, P + 1, P + 1])),
-                        row(k, helper=rng.choice([0, 1, 2, 1023, 1024, P - 1, P, P + 2, BIG, rng.randrange(P)]))]
+    random_finishes(out, random.Random(2027), False, 30)
+    return out
+
+
+def random_finish(rng, above):
+    """Random rows in fragments, and what they are finished with; with `above` some of their cells are from p on. None where they do not fit."""
+    odd = lambda bit: rng.choice([bit, bit, bit, bit + 2, bit + 2**33, P - 1 - (P - 1 + bit) % 2] + [P + bit, P + 2 + bit] * above)
+    ops = rng.sample(range(128), 12)
+    halt = rng.choice([h for h in range(96, 128) if h not in ops])
+    codes = ops + [halt]
+    total = rng.randrange(1, 12)
+    size = rng.choice([1, 2, 3, 4, total, total + 1, 50])
+    if total > 8 * size:
+        return None
+    changes = [put("profile", codes + [rng.randrange(1, P)]), split(total, size), height(rng.choice([total + 1, 12, rng.randrange(total + 1, 13)]))]
+    for k in range(total):
+        code = rng.choice([codes[4], codes[11], codes[11], codes[11], rng.randrange(128)])
+        changes += [cells(k, ADDR, [rng.choice([1, 2] + [P + 1, P + 2] * above)] + [odd(code >> b & 1) for b in range(7)]),
+                    row(k, h4=rng.choice([0, 1, 1, 1, 2] + [P, P + 1, P + 1] * above)),
+                    row(k, helper=rng.choice([0, 1, 2, 1023, 1024, P - 1] + [P, P + 2, BIG] * above + [rng.randrange(P)]))]
+    changes += [cells(total - 1, H, [rng.randrange(P) for _ in range(4)]), put("top", [rng.randrange(P) for _ in range(2)])]
+    if above:
         clk = [rng.randrange(P, 2**64)]
-        changes += [cells(total - 1, H, [rng.choice([rng.randrange(P), rng.randrange(P, 2**64)]) for _ in range(4)]),
-                    put("top", [rng.randrange(P), rng.randrange(P, 2**64)]), put("built", clk, 25 * ((total - 1) // size)), put("last", clk)]
-        change = merged(*changes)
+        changes += [cells(total - 1, H + 1, [rng.randrange(P, 2**64)]), put("top", [rng.randrange(P, 2**64)], rng.randrange(16)),
+                    put("built", clk, 25 * ((total - 1) // size)), put("last", clk)]
+    return merged(*changes)
+
+
+def random_finishes(out, rng, above, wanted):
+    """So many random runs that are finished, and a third of those that are refused in between."""
+    accepted = 0
+    while accepted < wanted:
+        change = random_finish(rng, above)
+        if change is None:
+            continue
         v = list(BASE)
         for place, value in change.items():
             v[place] = value
@@ -749,7 +765,6 @@ def finished():
             continue
         out.add("random rows", "finish", change, number=answer)
         accepted += answer == 0
-    return out
 
 
 def large():

@@ -1,6 +1,7 @@
 #!/usr/bin/env python3
-"""Writes data/refused: the records of the first run of data/runs_01, changed so that they are refused, and the number by docs/DECISIONS.md
-("Replay of lent call records"). src/refused.rt says how the list is laid out. The other lists are made by rust/src/bin/make_answers.rs."""
+"""Writes data/refused and data/states: the records of the first run of data/runs_01, changed so that they are refused, with the number by
+docs/DECISIONS.md ("Replay of lent call records"), and a few of them replayed from other address states, with what they leave. src/refused.rt
+and src/states.rt say how the lists are laid out. The other lists are made by rust/src/bin/make_answers.rs."""
 import os
 import re
 
@@ -44,19 +45,23 @@ CASES = [
     ("condition", at(FINISH, CONDITION=3), 23),
     ("presence of the word", at(START, WORD=2), 23),
     ("presence of the info", at(START, INFO=2), 23),
-    ("depth of the info", at(START, INFO=1, INFO_DEPTH=OVER), 1),
+    ("depth of the info", at(START, INFO=1, INFO_DEPTH=OVER), 23),
     ("case of registers", at(CYCLE, CASE=19), 23),
     ("case of registers, the last record", at(END, CASE=19), 23),
-    ("clk", at(CYCLE, CLK=OVER), 1),
-    ("ctx", at(CYCLE, CTX=OVER), 1),
-    ("depth", at(CYCLE, DEPTH=OVER), 1),
+    ("clk", at(CYCLE, CLK=OVER), 23),
+    ("ctx", at(CYCLE, CTX=OVER), 23),
+    ("depth", at(CYCLE, DEPTH=OVER), 23),
+    ("clk of the last record", at(END, CLK=OVER), 23),
     ("part of a record", lent(ALL - 1), 11),
     ("one number of a record", lent(1), 11),
     # the largest numbers of their places; numbers that are not read
     ("clk, ctx and depth of full width", at(CYCLE, CLK=LAST, CTX=LAST, DEPTH=LAST), 0),
     ("depth of the info of full width", at(START, INFO=1, INFO_DEPTH=LAST), 0),
     ("numbers of a StartNode that are not read", at(START, BATCH=OVER, OP=OVER, INFO_DEPTH=OVER), 0),
+    ("operation of a Respan", at(RESUME, KIND=8, OP=OVER), 0),
     ("EnterForest and a node", at(START, KIND=10, NODE=OVER), 4),
+    ("EnterForest, batch and operation", at(START, KIND=10, BATCH=OVER, OP=OVER), 4),
+    ("numbers of a cycle's registers that the case has not", at(CYCLE, REGISTERS=OVER), 0),
     ("forest that is not there", at(CYCLE, FOREST=OVER), 3),
     ("no records", lent(0), 0),
     # cells from p on
@@ -73,52 +78,126 @@ CASES = [
     ("condition of p more", at(FINISH, CONDITION=P + 2), 23),
     ("presence of the word, p more", at(START, WORD=P + 1), 23),
     ("presence of the info, p", at(START, INFO=P), 23),
-    ("depth of the info, p more", at(START, INFO=1, INFO_DEPTH=P + 20), 1),
+    ("depth of the info, p more", at(START, INFO=1, INFO_DEPTH=P + 20), 23),
     ("case of registers, p more", at(CYCLE, CASE=P + 18), 23),
     ("storing of p", at(START, CASE=P), 23),
-    ("clk of p", at(CYCLE, CLK=P), 1),
-    ("ctx of p", at(CYCLE, CTX=P), 1),
-    ("depth of p more", at(CYCLE, DEPTH=P + 16), 1),
+    ("clk of p", at(CYCLE, CLK=P), 23),
+    ("ctx of p", at(CYCLE, CTX=P), 23),
+    ("depth of p more", at(CYCLE, DEPTH=P + 16), 23),
     ("forest of p", at(CYCLE, FOREST=P), 3),
     # two in one record: the lowest
-    ("depth of the info and node", at(START, INFO=1, INFO_DEPTH=OVER, NODE=OVER), 1),
-    ("depth of the info and batch", at(RESUME, INFO=1, INFO_DEPTH=OVER, BATCH=OVER), 1),
-    ("depth of the info and continuation", at(START, INFO=1, INFO_DEPTH=OVER, KIND=0), 1),
-    ("depth of the info and flag", at(START, INFO=1, INFO_DEPTH=OVER, FLAG=2), 1),
+    ("depth of the info and node", at(START, INFO=1, INFO_DEPTH=OVER, NODE=OVER), 3),
+    ("depth of the info and batch", at(RESUME, INFO=1, INFO_DEPTH=OVER, BATCH=OVER), 5),
+    ("depth of the info and batch of a Respan", at(RESUME, KIND=8, INFO=1, INFO_DEPTH=OVER, BATCH=OVER), 5),
+    ("depth of the info and operation", at(RESUME, INFO=1, INFO_DEPTH=OVER, OP=OVER), 6),
+    ("depth of the info and EnterForest", at(START, INFO=1, INFO_DEPTH=OVER, KIND=10), 23),
+    ("depth of the info and flag", at(START, INFO=1, INFO_DEPTH=OVER, FLAG=2), 23),
     ("node and batch", at(RESUME, NODE=OVER, BATCH=OVER), 3),
     ("node and operation", at(RESUME, NODE=OVER, OP=OVER), 3),
-    ("node and continuation", at(START, NODE=OVER, KIND=0), 3),
+    ("node and flag", at(START, NODE=OVER, FLAG=2), 3),
     ("node and condition", at(FINISH, NODE=OVER, CONDITION=3), 3),
+    ("node and presence of the word", at(START, NODE=OVER, WORD=2), 3),
+    ("node and presence of the info", at(START, NODE=OVER, INFO=2), 3),
     ("batch and operation", at(RESUME, BATCH=OVER, OP=OVER), 5),
     ("batch and flag", at(RESUME, BATCH=OVER, FLAG=2), 5),
+    ("batch and condition", at(RESUME, BATCH=OVER, CONDITION=3), 5),
+    ("batch and presence of the word", at(RESUME, BATCH=OVER, WORD=2), 5),
+    ("batch and presence of the info", at(RESUME, BATCH=OVER, INFO=2), 5),
+    ("operation and flag", at(RESUME, OP=OVER, FLAG=2), 6),
+    ("operation and condition", at(RESUME, OP=OVER, CONDITION=3), 6),
     ("operation and presence of the word", at(RESUME, OP=OVER, WORD=2), 6),
-    ("clk and case of registers", at(CYCLE, CLK=OVER, CASE=19), 1),
-    ("ctx and case of registers", at(CYCLE, CTX=OVER, CASE=19), 1),
-    ("depth and case of registers", at(CYCLE, DEPTH=OVER, CASE=19), 1),
+    ("operation and presence of the info", at(RESUME, OP=OVER, INFO=2), 6),
+    ("all that are wrong", at(RESUME, NODE=OVER, BATCH=OVER, OP=OVER, FLAG=2, CONDITION=3, WORD=2, INFO=1, INFO_DEPTH=OVER), 3),
+    ("all but the node", at(RESUME, BATCH=OVER, OP=OVER, FLAG=2, CONDITION=3, WORD=2, INFO=1, INFO_DEPTH=OVER), 5),
+    ("all but node and batch", at(RESUME, OP=OVER, FLAG=2, CONDITION=3, WORD=2, INFO=1, INFO_DEPTH=OVER), 6),
+    ("clk and depth below the least", at(CYCLE, CLK=OVER, DEPTH=15), 23),
+    ("ctx and forest that is not there", at(CYCLE, CTX=OVER, FOREST=OVER), 23),
+    # what stands behind a number that names nothing is not read
+    ("node and continuation", at(START, NODE=OVER, KIND=0), 23),
+    ("node and continuation past the last", at(START, NODE=OVER, KIND=11), 23),
+    ("node and continuation of p more", at(START, NODE=OVER, KIND=P + 1), 23),
+    ("batch, operation and continuation past the last", at(RESUME, BATCH=OVER, OP=OVER, KIND=11), 23),
+    ("depth of the info and continuation", at(START, INFO=1, INFO_DEPTH=OVER, KIND=0), 23),
+    ("depth of the info and its presence", at(START, INFO=2, INFO_DEPTH=OVER), 23),
+    ("clk and case of registers", at(CYCLE, CLK=OVER, CASE=19), 23),
+    ("ctx and case of registers", at(CYCLE, CTX=OVER, CASE=19), 23),
+    ("depth and case of registers", at(CYCLE, DEPTH=OVER, CASE=19), 23),
+    ("forest and case of registers", at(CYCLE, FOREST=OVER, CASE=19), 23),
     # two records: the first
     ("flag, then clk", at(START, FLAG=2) | at(CYCLE, CLK=OVER), 23),
+    ("clk, then node", at(CYCLE, CLK=OVER) | at(FINISH, NODE=OVER), 23),
+    ("node, then clk", at(START, NODE=OVER) | at(CYCLE, CLK=OVER), 3),
     ("operation, then node", at(RESUME, OP=OVER) | at(FINISH, NODE=OVER), 6),
     ("continuation, then part of a record", at(START, KIND=0) | lent(ALL - 1), 23),
     ("as they are, again", {}, 0),
 ]
 
+# The run's nodes, and its step.
+BLOCK, LOOP, STEP = 0, 1, 2
+
+
+def built(record):
+    """The cells that a cycle builds, from its record."""
+    top = record[TOP:TOP + 16][::-1]
+    cells = [record[CLK] + 1, record[CTX]] + record[FN_HASH:FN_HASH + 4] + top + [record[DEPTH], record[OVERFLOW], record[DEPTH] - 16]
+    return [cell % P for cell in cells]
+
+
+def states(run):
+    """What is replayed, the address state handed to it, the numbers changed, and what is left: rows, built cells, address state, positions.
+    The state that is left is below p, also where no row moves it."""
+    none, one = [0] + [0] * 25, [1] + built(run.records[1 + 32 * CYCLE:][:32])
+    queues = run.parts[6:9]
+    started, ended = [queues[0][1], queues[1][1]], queues[2][2:4]
+    return [
+        ("no records", [P + 5, P + 7], lent(0), none + [5, 7, 0, 0, 0]),
+        ("no records, p and the largest number", [P, BIG], lent(0), none + [0, BIG - P, 0, 0, 0]),
+        ("no records, the largest cell", [P - 1, 7], lent(0), none + [P - 1, 7, 0, 0, 0]),
+        ("a storing", [P + 5, P + 7], lent(32), none + [5, 7, 0, 0, 0]),
+        ("a row that sets both addresses", [P + 5, P + 7], lent(64), one + started + [1, 1, 0]),
+        ("END", [P + 5, P + 7], at(START, KIND=3, NODE=LOOP) | lent(64), one + ended + [0, 0, 1]),
+        ("RESPAN", [P + 5, P + 7], at(START, KIND=8, NODE=BLOCK) | lent(64), one + [5 + STEP, 7, 0, 0, 0]),
+        ("RESPAN from the largest cell", [P - 1, BIG], at(START, KIND=8, NODE=BLOCK) | lent(64), one + [STEP - 1, BIG - P, 0, 0, 0]),
+        ("REPEAT", [P + 5, P + 7], at(START, KIND=4, NODE=LOOP, CONDITION=2) | lent(64), one + [5, 7, 0, 0, 0]),
+        ("operation", [P + 5, P + 7], at(START, KIND=7, NODE=BLOCK) | lent(64), one + [5, 7, 0, 0, 0]),
+        ("operation, cells of its cycle", [P, P + 1], at(START, KIND=7, NODE=BLOCK) | at(CYCLE, FN_HASH=P, TOP=BIG, OVERFLOW=P + 1) | lent(64),
+         one[:22] + [BIG - P] + one[23:24] + [1] + one[25:] + [0, 1, 0, 0, 0]),
+        ("the whole run", [P + 5, P + 7], {}, run.left),
+    ]
+
+
+class Run:
+    """The first run of a list: profile, address state, parts, records with their count before them, and what it leaves."""
+
+    def __init__(self, v):
+        self.profile, self.state = v[1:15], v[33:35]
+        self.parts, place = [], 35
+        for _ in range(9):
+            self.parts.append(v[place:place + 1 + v[place]])
+            place += len(self.parts[-1])
+        self.records = v[place + 1:place + 2 + ALL]
+        assert v[place] == 1 and self.records[0] == ALL
+        self.left = v[place + 2 + ALL:place + 33 + ALL]
+
+
+def write(name, run, lines):
+    """A list of cases over the run."""
+    assert not any(re.search(r"\d", words) for words, _ in lines)
+    head = [("cases", [len(lines)]), ("profile", run.profile), ("address state", run.state)] + [("part", part) for part in run.parts]
+    with open(os.path.join(HERE, "data", name), "w") as file:
+        for words, numbers in head + [("records", run.records)]:
+            file.write("%s %s\n" % (words, " ".join(map(str, numbers))))
+        for words, text in lines:
+            file.write("%s: %s\n" % (words, text))
+
+
+def told(number, changes):
+    return "%d, %d changed%s" % (number, len(changes), "".join("; %d %d" % change for change in changes.items()))
+
+
 if __name__ == "__main__":
     with open(os.path.join(HERE, "data", "runs_01")) as file:
-        run = list(map(int, re.findall(r"\d+", file.read())))
-    parts, place = [], 35
-    for _ in range(9):
-        parts.append(run[place:place + 1 + run[place]])
-        place += len(parts[-1])
-    records = run[place + 1:place + 2 + ALL]
-    assert run[place] == 1 and records[0] == ALL
-    with open(os.path.join(HERE, "data", "refused"), "w") as file:
-        write = lambda name, numbers: file.write("%s %s\n" % (name, " ".join(map(str, numbers))))
-        write("cases", [len(CASES)])
-        write("profile", run[1:15])
-        write("address state", run[33:35])
-        for part in parts:
-            write("part", part)
-        write("records", records)
-        for name, changes, number in CASES:
-            assert not re.search(r"\d", name)
-            file.write("%s: %d, %d changed%s\n" % (name, number, len(changes), "".join("; %d %d" % change for change in changes.items())))
+        run = Run(list(map(int, re.findall(r"\d+", file.read()))))
+    write("refused", run, [(words, told(number, changes)) for words, changes, number in CASES])
+    write("states", run, [(words, "%d %d; %s = %s" % (*state, told(0, changes), " ".join(map(str, left))))
+                          for words, state, changes, left in states(run)])

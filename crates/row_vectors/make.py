@@ -286,11 +286,11 @@ def finish(v):
         refuse_if(t.rows == len(x.fragment) // 49, 24)
     except Refused as refusal:
         return refusal.args[0], None, None
-    # what is written is reduced; the tracer keeps captured values, addresses and built cells as they were given
+    # what is written is reduced, and so is what the tracer is given anew; captured values and addresses that the row leaves stay as they were
     row = read(last[0:6] + decoder + last[6:25])
     clk, ctx, *fn_hash = x.system
     depth, overflow = x.stack[16:18]
-    t.built = [clk + 1, ctx] + fn_hash + x.stack[15::-1] + [depth, overflow, depth - 16]
+    t.built = read([clk + 1, ctx] + fn_hash + x.stack[15::-1] + [depth, overflow, depth - 16])
     t.rows += 1
     return 0, row, t.numbers()
 
@@ -301,7 +301,7 @@ def call(name, v):
     tracer = slice(AT["tracer"], AT["tracer"] + 46)
     t = Tracer(v[tracer])
     if name == "new":
-        v[tracer] = [0] * 16 + v[tracer][16:21] + [0] * 25
+        v[tracer] = [0] * 16 + read(v[tracer][16:18]) + v[tracer][18:21] + [0] * 25
         return 0, v[tracer], v
     if name == "final":
         return (t.refusal, [], v) if t.refusal else (0, (read(t.built) if t.rows else [0] * 25) + [t.rows], v)
@@ -310,7 +310,8 @@ def call(name, v):
             return t.refusal, [], v
         values = v[AT["values"]:AT["values"] + 14]
         t.stored = values[0:4]
-        t.body, t.condition, t.word, t.info = captured(values[4:14])
+        t.body, t.condition, word, info = captured(values[4:14])
+        t.word, t.info = word and read(word), info and [info[0]] + read(info[1:])
         v[tracer] = t.numbers()
         return 0, v[tracer], v
     rows = t.rows
@@ -417,9 +418,10 @@ def registers(name, *values):
 
 
 # C10: a loop of two passes of a block of one group with the operation 5.
-LOOP_RUN = {at("ops", 28): 5, at("groups", 16): 5, at("ops", 39): 5, at("system"): 0, **tracer(16, 0, 0, 0, 0, 0), **batch_at(2, 10, 1)}
+LOOP_RUN = {at("ops", 28): 5, at("groups", 16): 5, at("ops", 39): 5}
 for part, values in (("addresses", [1, 3, 5]), ("parents", [0, 1, 1]), ("ends", [3, 1, 0, 5, 1, 0, 1, 0, 0])):
     LOOP_RUN.update({at(part, k): value for k, value in enumerate(values)})
+LOOP_RUN.update({**tracer(16, 0, 0, 0, 0, 0), at("system"): 0, **batch_at(2, 10, 1)})
 for k in range(2, 10):
     LOOP_RUN.update(batch_at(2, k, 1))
 # Words, continuation, node, loop-body flag, condition.
@@ -558,15 +560,22 @@ def operations():
     return ops
 
 
+# The numbers of a tracer that are cells: word, next overflow address, the two addresses, what was built last.
+WORD_CELLS, INFO_CELL, ADDRESS_CELLS, BUILT_CELLS = [9, 10, 11, 12], 15, [16, 17], list(range(21, 46))
+TRACER_CELLS = WORD_CELLS + [INFO_CELL] + ADDRESS_CELLS + BUILT_CELLS
+# The cells of the states that a cycle builds the next row's from, and for each the number of the tracer that it becomes.
+STATE_CELLS = [("system", k, 21 + k) for k in range(2, 6)] + [("stack", k, 42 - k) for k in range(16)] + [("stack", 17, 44)]
+# The places of an input where a cell comes in.
+CELLS = [at(part, k) for part in ("digests", "groups", "addresses", "parents", "ends") for k in range(ROOM[part])]
+CELLS += [at("tracer", k) for k in TRACER_CELLS] + [at(part, k) for part, k, _ in STATE_CELLS] + [at("registers", k) for k in range(1, 7)]
+
+
 def raised(v):
     """The input with p added to each cell that stays below 2^64; the fragment is left."""
-    cells = [(part, k) for part in ("digests", "groups", "addresses", "parents", "ends") for k in range(ROOM[part])]
-    cells += [("tracer", k) for k in (9, 10, 11, 12, 15, 16, 17, *range(21, 46))]
-    cells += [("system", k) for k in range(2, 6)] + [("stack", k) for k in (*range(16), 17)] + [("registers", k) for k in range(1, 7)]
     out = list(v)
-    for part, k in cells:
-        if out[at(part, k)] + P < 2**64:
-            out[at(part, k)] += P
+    for place in CELLS:
+        if out[place] + P < 2**64:
+            out[place] += P
     return out
 
 
@@ -574,12 +583,12 @@ def unreduced():
     """Cells from p on, in each place where a cell comes in: they are read modulo p, and what is written is reduced."""
     out = List("cells")
     rng = random.Random(64)
-    tracer_cells = [k for k in (9, 10, 11, 12, 15, 16, 17, *range(21, 46))]
     fragment = range(AT["fragment"] - 1, AT["fragment"] + ROOM["fragment"])
     chained = [False]
 
     def both(words, *changes):
-        """All cells that can be are raised by p: the row is that of the plain input, and so is the tracer but for what it keeps as given."""
+        """All cells that can be are raised by p: the row and the cells built for the next are those of the plain input, and so is the tracer
+        but for what it keeps as given."""
         plain = list(BASE)
         for change in changes:
             for place, value in change.items():
@@ -587,8 +596,9 @@ def unreduced():
         number, wanted, _ = call("finish", plain)
         above = raised(plain)
         answer, made = out.add(words, {place: above[place] for place in range(INPUT) if place not in fragment}, goes_on=chained[0], number=number)
-        assert made[0:49] == wanted[0:49] and len(made) == len(wanted), words
-        assert all((a % P if k in tracer_cells else a) == b for k, (a, b) in enumerate(zip(made[49:], wanted[49:]))), words
+        assert made[0:49] == wanted[0:49] and made[70:] == wanted[70:] and len(made) == len(wanted), words
+        kept = above[at("tracer"):at("tracer") + 46]
+        assert all(a in (b, kept[k]) if k in TRACER_CELLS else a == b for k, (a, b) in enumerate(zip(made[49:], wanted[49:]))), words
         chained[0] = True
 
     both("start, Block", store("StartNode", BLOCK))
@@ -679,6 +689,75 @@ def unreduced():
         return made + [out.add("final state", call_name="final", goes_on=True, number=0)[1]]
 
     assert run_of(List("plain"), False) == run_of(out, True)
+    return out
+
+
+def handed_by_cycles(out):
+    """The cells built for the next row are reduced. Addresses that the row sets are too; those that it leaves, and captured values that it
+    does not use, are as they were given."""
+    values = itertools.cycle([P, BIG, P + 1, P + 5])
+    for part, k, becomes in STATE_CELLS:
+        value = next(values)
+        _, made = out.add("cell built for the next row", store("FinishJoin", JOIN), {at(part, k): value}, number=0)
+        assert made[49 + becomes] == value - P
+    for value in (BIG, P - 1):
+        _, made = out.add("cells built for the next row", store("FinishJoin", JOIN), {at(part, k): value for part, k, _ in STATE_CELLS}, number=0)
+        assert {made[49 + becomes] for _, _, becomes in STATE_CELLS} == {value % P}
+    above = tracer(16, P + 5, P + 7)
+    for words, change, state in (("LOOP", store("StartNode", LOOP), [203, 305]), ("END", store("FinishJoin", JOIN), [412, 413]),
+                                 ("REPEAT", {**store("FinishLoop", LOOP), **ONE}, [P + 5, P + 7]), ("RESPAN", store("Respan", BLOCK, 2), [7, P + 7]),
+                                 ("operation", store("ResumeBasicBlock", BLOCK), [P + 5, P + 7])):
+        _, made = out.add("addresses after " + words, change, above, number=0)
+        assert made[49 + 16:49 + 18] == state, words
+    given = {**WORD, **INFO, **tracer(9, P, P + 1, BIG, P - 1), **tracer(15, P + 1)}
+    for words, node, left in (("DYN", DYN, [0] * 5 + [1, 25, P + 1]), ("DYNCALL", DYNCALL, [0] * 8), ("JOIN", JOIN, [1, P, P + 1, BIG, P - 1, 1, 25, P + 1])):
+        _, made = out.add("word and info after " + words, store("StartNode", node), given, number=0)
+        assert made[49 + 8:49 + 16] == left, words
+
+
+def handed_by_others(out):
+    """A fresh tracer has reduced addresses; its positions are no cells. A storing reduces the word and the next overflow address, and leaves
+    all else of the tracer. A final state is reduced."""
+    for given in ([P + 5, P + 7], [P, BIG], [P - 1, P + 1], [5, P + 7]):
+        _, made = out.add("fresh tracer", tracer(16, *given), tracer(18, P, P + 1, BIG), call_name="new", number=0)
+        assert made == [0] * 16 + [address % P for address in given] + [P, P + 1, BIG] + [0] * 25
+    kept = {at("tracer", k): P + k for k in TRACER_CELLS}
+    values = lambda *numbers: {at("values", k): number for k, number in enumerate(numbers)}
+    for word, info in (((1, P, 0, 0, 0), (0, 0, 0)), ((0, 0, 0, 0, 0), (1, 16, P + 1)), ((1, P + 5, BIG, P - 1, P), (1, 2**32 - 1, BIG)),
+                       ((0, P, P, P, P), (0, P, P))):
+        _, made = out.add("store word and info", values(1, DYNCALL, 0, 0, 1, 2, *word, *info), kept, call_name="store", number=0)
+        assert made[8:16] == [word[0]] + [c % P * word[0] for c in word[1:]] + [info[0], info[1] * info[0], info[2] % P * info[0]]
+        assert made[16:18] + made[21:] == [P + k for k in ADDRESS_CELLS + BUILT_CELLS]
+    for rows in (1, 0):
+        _, made = out.add("final state", kept, tracer(1, rows), call_name="final", number=0)
+        assert made == [k * rows for k in BUILT_CELLS] + [rows]
+    for name, node in (("StartNode", DYN), ("StartNode", DYNCALL), ("FinishJoin", JOIN)):
+        out.add("fresh tracer", tracer(16, P + 5, P + 7), call_name="new", number=0)
+        out.add("store", values(STORED.index(name), node, 0, 0, 0, 0, 1, P, P + 1, BIG, P - 1, 1, 25, P + 1), call_name="store", goes_on=True, number=0)
+        _, made = out.add("finish", {at("system", 2): P, at("stack", 17): P}, goes_on=True, number=0)
+        assert all(made[49 + k] < P for k in TRACER_CELLS)
+        out.add("final state", call_name="final", goes_on=True, number=0)
+
+
+def handed_back():
+    """The tracer that a call hands back, given cells from p on. What a call sets is reduced; what it does not set is as it was given, and so
+    are all fields on a refusal."""
+    out = List("tracers")
+    # the smallest: fn_hash p, zero, zero, zero on a fresh tracer
+    hashed = {at("system", 2 + k): P * (k == 0) for k in range(4)}
+    out.add("fresh tracer", call_name="new", number=0)
+    out.add("store", store("StartNode", JOIN, part="values"), call_name="store", goes_on=True, number=0)
+    _, made = out.add("JOIN", hashed, goes_on=True, number=0)
+    assert made[49 + 21:49 + 27] == [91, 3, 0, 0, 0, 0]
+    handed_by_cycles(out)
+    handed_by_others(out)
+    stages, own = refusing()
+    above = {**WORD, **INFO, **{at("tracer", k): P + k for k in TRACER_CELLS}}
+    for number, change in stages + own + [(24, FULL)]:
+        no_word = tracer(8, 0, 0, 0, 0, 0) if change == store("StartNode", DYN) else {}
+        out.add("refused", above, no_word, hashed, change, number=number)
+        out.add("store after the refusal", call_name="store", goes_on=True, number=number)
+        out.add("final state after the refusal", call_name="final", goes_on=True, number=number)
     return out
 
 
@@ -836,9 +915,8 @@ def own_refusals():
     return out
 
 
-def orders():
-    """Two refusals of which the first in order is answered."""
-    out = List("orders")
+def refusing():
+    """Changes that are refused, in the order of the checks of a finish, and those of the continuations, each with its number."""
     big, profile, lengths, depth = {at("ops", 39): 128}, {at("profile", 13): 0}, lent("fragment", 195), {at("stack", 16): 15}
     stages = [(31, tracer(0, 31)), (23, store("nothing")), (1, big), (2, profile), (11, lengths), (10, depth)]
     own = [(20, tracer(18, 4)), (21, tracer(19, 4)), (3, store("StartNode", ABSENT)), (4, store("StartNode", EXTERNAL)), (5, store("StartNode", NO_BATCH)),
@@ -849,6 +927,15 @@ def orders():
            (5, store("ResumeBasicBlock", BLOCK, 3)), (6, store("ResumeBasicBlock", BLOCK, 0, 18)),
            (8, {**store("ResumeBasicBlock", BLOCK, 0, 0), **node_at(BLOCK, 3, 0)}),
            (9, {**store("ResumeBasicBlock", BLOCK, 0, 0), **registers("U32Sub", 2**32)})]
+    return stages, own
+
+
+def orders():
+    """Two refusals of which the first in order is answered."""
+    out = List("orders")
+    stages, own = refusing()
+    for first, a in stages[:2]:
+        out.add("checks", {at("groups", 31): P}, a, number=first)
     for (first, a), (_, b) in itertools.combinations(stages, 2):
         out.add("checks", b, a, number=first)
     for (first, a), (_, b) in itertools.product(stages, own):
@@ -979,76 +1066,86 @@ def runs():
     return out
 
 
-def mixed():
-    """Random continuations on randomly changed inputs: any refusal, in any order."""
-    out = List("mixed")
-    rng = random.Random(2026)
+def mixed_change(rng, cell):
+    """A random change of the base input; `cell` picks the number of a cell."""
     small = lambda top: rng.choice([0, 1, top - 1, top, rng.randrange(top + 2)])
+    kind = rng.randrange(22)
+    if kind == 0:
+        return tracer(18 + rng.randrange(3), small(4))
+    if kind == 1:
+        return node_at(rng.randrange(16), 0, rng.randrange(12))
+    if kind == 2:
+        return node_at(rng.randrange(16), 1 + rng.randrange(2), rng.randrange(17))
+    if kind == 3:
+        return node_at(rng.choice([BLOCK, ONE_GROUP, TWO_GROUPS, TWO_BATCHES]), 3, rng.choice([1, 2, 4, 8, rng.randrange(24)]))
+    if kind == 4:
+        return node_at(rng.randrange(16), 4 + rng.randrange(2), rng.choice([0, 1, 2, 3, 4, 4096, 4097]))
+    if kind in (5, 6):
+        return batch_at(rng.randrange(4), 0, rng.randrange(10))
+    if kind == 7:
+        return batch_at(rng.randrange(4), 1 + rng.randrange(9), rng.randrange(20))
+    if kind == 8:
+        return batch_at(rng.randrange(4), 10 + rng.randrange(2), rng.randrange(41))
+    if kind in (9, 10):
+        return {at("groups", rng.randrange(32)): rng.choice([digits(*[PUSH] * 8), rng.randrange(P)])}
+    if kind == 11:
+        part = rng.choice(["nodes", "digests", "batches", "groups", "ops", "addresses", "parents", "ends"])
+        return lent(part, rng.randrange(ROOM[part] // 2, ROOM[part] + 1))
+    if kind == 12:
+        return lent("fragment", rng.choice([49, 98, 147, 196, 48]))
+    if kind == 13:
+        return tracer(1, rng.randrange(5))
+    if kind == 14:
+        return {at("stack", 16): rng.choice([15, 16, 17, 18, 2**32 - 1])}
+    if kind == 15:
+        name = rng.choice(CASES)
+        return registers(name, *[rng.choice([3, 2**32 - 1, 2**32, rng.randrange(2**33)]) for _ in range(HELD[CASES.index(name)])])
+    if kind == 16:
+        return {at("profile", rng.randrange(13)): rng.choice(PROFILE[:13] + [1, 2, 3, 127, 128, 96, 97])}
+    if kind == 17:
+        return {at(*rng.choice([("digests", 9), ("groups", 30), ("stack", 3), ("system", 5), ("tracer", 30), ("ends", 4)])): cell()}
+    if kind == 18:
+        return BODY
+    if kind == 19:
+        return tracer(16, P - 1)
+    if kind == 20:
+        return {at("profile", 13): rng.choice([1, 32, P - 1, P])}
+    return {at("system"): rng.randrange(2**32), at("system", 1): rng.randrange(2**32)}
 
-    def change():
-        kind = rng.randrange(22)
-        if kind == 0:
-            return tracer(18 + rng.randrange(3), small(4))
-        if kind == 1:
-            return node_at(rng.randrange(16), 0, rng.randrange(12))
-        if kind == 2:
-            return node_at(rng.randrange(16), 1 + rng.randrange(2), rng.randrange(17))
-        if kind == 3:
-            return node_at(rng.choice([BLOCK, ONE_GROUP, TWO_GROUPS, TWO_BATCHES]), 3, rng.choice([1, 2, 4, 8, rng.randrange(24)]))
-        if kind == 4:
-            return node_at(rng.randrange(16), 4 + rng.randrange(2), rng.choice([0, 1, 2, 3, 4, 4096, 4097]))
-        if kind in (5, 6):
-            return batch_at(rng.randrange(4), 0, rng.randrange(10))
-        if kind == 7:
-            return batch_at(rng.randrange(4), 1 + rng.randrange(9), rng.randrange(20))
-        if kind == 8:
-            return batch_at(rng.randrange(4), 10 + rng.randrange(2), rng.randrange(41))
-        if kind in (9, 10):
-            return {at("groups", rng.randrange(32)): rng.choice([digits(*[PUSH] * 8), rng.randrange(P)])}
-        if kind == 11:
-            part = rng.choice(["nodes", "digests", "batches", "groups", "ops", "addresses", "parents", "ends"])
-            return lent(part, rng.randrange(ROOM[part] // 2, ROOM[part] + 1))
-        if kind == 12:
-            return lent("fragment", rng.choice([49, 98, 147, 196, 48]))
-        if kind == 13:
-            return tracer(1, rng.randrange(5))
-        if kind == 14:
-            return {at("stack", 16): rng.choice([15, 16, 17, 18, 2**32 - 1])}
-        if kind == 15:
-            name = rng.choice(CASES)
-            return registers(name, *[rng.choice([3, 2**32 - 1, 2**32, rng.randrange(2**33)]) for _ in range(HELD[CASES.index(name)])])
-        if kind == 16:
-            return {at("profile", rng.randrange(13)): rng.choice(PROFILE[:13] + [1, 2, 3, 127, 128, 96, 97])}
-        if kind == 17:
-            return {at(*rng.choice([("digests", 9), ("groups", 30), ("stack", 3), ("system", 5), ("tracer", 30), ("ends", 4)])): rng.choice([P - 1, P, P + 7, BIG])}
-        if kind == 18:
-            return BODY
-        if kind == 19:
-            return tracer(16, P - 1)
-        if kind == 20:
-            return {at("profile", 13): rng.choice([1, 32, P - 1, P])}
-        return {at("system"): rng.randrange(2**32), at("system", 1): rng.randrange(2**32)}
 
-    def continuation():
-        name = rng.choice(STORED[1:10] + ["StartNode", "ResumeBasicBlock", "ResumeBasicBlock", "Respan"])
-        fits = {"FinishLoop": [LOOP], "FinishCall": [CALL, SYSCALL], "FinishDyn": [DYN, DYNCALL]}
-        blocks = [BLOCK, BLOCK, ONE_GROUP, TWO_GROUPS, TWO_BATCHES]
-        nodes = fits.get(name, blocks if "asic" in name or name == "Respan" else list(range(9)))
-        node = rng.choice(nodes) if rng.random() < 0.85 else rng.randrange(17)
-        return store(name, node, rng.choice([0, 0, 1, 1, 2, 3]), rng.randrange(11))
+def mixed_continuation(rng):
+    name = rng.choice(STORED[1:10] + ["StartNode", "ResumeBasicBlock", "ResumeBasicBlock", "Respan"])
+    fits = {"FinishLoop": [LOOP], "FinishCall": [CALL, SYSCALL], "FinishDyn": [DYN, DYNCALL]}
+    blocks = [BLOCK, BLOCK, ONE_GROUP, TWO_GROUPS, TWO_BATCHES]
+    nodes = fits.get(name, blocks if "asic" in name or name == "Respan" else list(range(9)))
+    node = rng.choice(nodes) if rng.random() < 0.85 else rng.randrange(17)
+    return store(name, node, rng.choice([0, 0, 1, 1, 2, 3]), rng.randrange(11))
 
-    count = 0
+
+def mixed_changes(rng, cell):
+    """A random continuation on a randomly changed input: any refusal, in any order."""
+    values = [c for c in (ZERO, ONE, WORD, INFO) if rng.random() < 0.7]
+    changes = [mixed_change(rng, cell) for _ in range(1 + rng.randrange(5))]
+    return [mixed_continuation(rng), *values, *changes]
+
+
+def mixed():
+    """Random cycles: 88 that are answered with all cells below p, and 24 that are answered with eight of the input's cells from p on."""
+    out, rng, count = List("mixed"), random.Random(2026), 0
     while count < 88:
-        values = [c for c in (ZERO, ONE, WORD, INFO) if rng.random() < 0.7]
-        changes = [change() for _ in range(1 + rng.randrange(5))]
-        answer, _ = out.add("mixed", continuation(), *values, *changes)
+        changes = mixed_changes(rng, lambda: P - rng.randrange(2))
+        answer, _ = out.add("mixed", *changes)
+        count += answer == 0 and not any(P in change.values() for change in changes)
+    while count < 88 + 24:
+        above = {place: rng.choice([P, P + 7, BIG, P + rng.randrange(2**32 - 1)]) for place in rng.sample(CELLS, 8)}
+        answer, _ = out.add("mixed, cells from p on", *mixed_changes(rng, lambda: rng.choice([P, P + 7, BIG])), above)
         count += answer == 0
     return out
 
 
 if __name__ == "__main__":
     os.makedirs(os.path.join(HERE, "data"), exist_ok=True)
-    for made in (accepted_rows(), operations(), unreduced(), first_refusals(), own_refusals(), orders(), runs(), mixed()):
+    for made in (accepted_rows(), operations(), unreduced(), handed_back(), first_refusals(), own_refusals(), orders(), runs(), mixed()):
         made.write()
         print(made.name, sum(map(len, made.chains)), dict(sorted(made.numbers_of.items())))
     with open(os.path.join(HERE, "stdout"), "w") as file:

@@ -1,11 +1,12 @@
 //! The comparison: the same calls and passes by the listed Rust and by the proved library, field by field. The listed Rust is given reduced
-//! cells; the library is given the same or, in half of the runs, numbers from p on for some of them.
+//! cells; the library is given the same or, in every second run, numbers from p on for some of them. What the library writes and answers is
+//! compared as it stands.
 
 use std::collections::BTreeMap;
 use std::panic::{AssertUnwindSafe, catch_unwind};
 use std::sync::Arc;
 
-use crate::calls::{Call, DecoderState, Positions, records};
+use crate::calls::{Call, Positions, records};
 use crate::exports::{self, BUILT, Refusal, WIDTH, replay_calls};
 use crate::forest::Forests;
 use crate::listed::convert;
@@ -48,9 +49,11 @@ pub fn column(i: usize) -> String {
 #[derive(Default)]
 pub struct Tally {
     pub runs: u64,
-    /// Runs in which the library was given some cells from p on, and how many of them its passes were given.
+    /// Runs in which the library was given some cells from p on, how many of them came with the run, and how many in the rows and built cells
+    /// that the passes were handed.
     pub raised: u64,
-    pub raised_cells: u64,
+    pub run_cells: u64,
+    pub row_cells: u64,
     /// Runs that went through to the padding.
     pub finished: u64,
     pub calls: u64,
@@ -121,17 +124,24 @@ fn first_refused(calls: &[Call], refused: impl Fn(&[Call]) -> Option<Refusal>) -
     (high - 1, refused(&calls[..high]).expect("the whole list is refused").0)
 }
 
-fn reduced(state: DecoderState) -> DecoderState {
-    DecoderState { current_addr: state.current_addr % P, parent_addr: state.parent_addr % P }
+/// How many numbers of a run are cells from p on: all others that it has are of 32 bits.
+fn cells_from_p_on(run: &Run, lent: &Forests) -> u64 {
+    let queues = [&run.queues.addresses, &run.queues.parents, &run.queues.ends];
+    let calls: Vec<u64> = run.fragments.iter().flat_map(|calls| records(calls)).collect();
+    let state = [run.state.current_addr, run.state.parent_addr];
+    let numbers = queues.into_iter().chain([&lent.digests, &lent.groups, &calls]).flatten().chain(&run.first_stack_top).chain(&state);
+    numbers.filter(|&&number| number >= P).count() as u64
 }
 
 /// Carries out a run on both sides, and its passes. Answers the finished trace, where there is one; some of its cells may be from p on.
 pub fn compare_run(run: &Run, rng: &Rng, tally: &mut Tally) -> Option<Vec<u64>> {
     tally.runs += 1;
-    let is_raised = rng.one_in(2);
-    tally.raised += u64::from(is_raised);
+    let is_raised = tally.runs.is_multiple_of(2);
     let given = if is_raised { raised_run(rng, run) } else { run.clone() };
     let lent = Forests::new(&given.forests);
+    let above = cells_from_p_on(&given, &lent);
+    tally.raised += u64::from(above > 0);
+    tally.run_cells += above;
     let forests: Vec<_> = run.forests.iter().map(convert::forest).collect();
     let size = run.fragment_size;
     let cycles: usize = run.fragments.iter().flatten().filter(|call| matches!(call, Call::Cycle(_))).count();
@@ -182,8 +192,7 @@ pub fn compare_run(run: &Run, rng: &Rng, tally: &mut Tally) -> Option<Vec<u64>> 
         let (rows, positions) = (left.rows, left.at);
         tally.same("rows of a fragment", answer.rows, rows);
         tally.same("built cells", answer.built, left.built);
-        // The library hands a cell of the address state on as it was given where no row moved it.
-        tally.same("address state", reduced(answer.state), left.state);
+        tally.same("address state", answer.state, left.state);
         tally.same("queue positions", answer.at, positions);
         tally.same_rows("replay", rows, &before, &buffer[ours.start..], &data[place], |_, _| true);
         if buffer[ours.start + rows * WIDTH..ours.end] != before[rows * WIDTH..] {
@@ -211,7 +220,7 @@ pub fn compare_run(run: &Run, rng: &Rng, tally: &mut Tally) -> Option<Vec<u64>> 
         // The passes are handed rows and built cells of anybody.
         for cell in buffer[..rows * WIDTH].iter_mut().chain(&mut built) {
             *cell = raised(rng, *cell);
-            tally.raised_cells += u64::from(*cell >= P);
+            tally.row_cells += u64::from(*cell >= P);
         }
     }
     let top = given.first_stack_top;

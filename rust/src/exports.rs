@@ -170,8 +170,9 @@ mod foreign {
 /// `start_clock_cycle` and `finalize_clock_cycle` once a record, and `into_final_state` behind the last.
 ///
 /// `state` and `at` are the address state and queue positions that the fragment before left. Where a record is refused, its number is
-/// answered and no row is written. Cells of the forests, the queues and the records may be any numbers; 1 refuses an opcode of 128 or more
-/// among the forests' operations, and a record whose clk, ctx or depth is over 32 bits.
+/// answered and no row is written. Cells of the forests, the queues, the records and the address state may be any numbers; those of what is
+/// answered are below p, also where there is no record. 1 refuses an opcode of 128 or more among the forests' operations, 23 a record that
+/// encodes no call, as one whose clk, ctx or depth is over 32 bits.
 pub fn replay_calls(
     forests: &Forests,
     queues: &Queues,

@@ -312,7 +312,7 @@ mod read {
 
 /// Replay, by the listing of document 01 and by refusals of records.
 mod replayed {
-    use core_trace::calls::{Positions, RECORD, records};
+    use core_trace::calls::{DecoderState, Positions, RECORD, records};
     use core_trace::forest::Forests;
     use core_trace::listing;
     use core_trace::random::{Rng, Run, raised, raised_run};
@@ -364,43 +364,101 @@ mod replayed {
         refused(trace(&plain, &lent), 1);
     }
 
-    /// A changed number of a record, and what it is refused by; no row is written.
-    #[test]
-    fn records_refused() {
+    /// C10 with changed numbers of a record is refused, and no row is written.
+    fn refused_with(record: usize, changes: &[(usize, u64)], refusal: u32) {
         let run = listing::run(9);
-        let lent = Forests::new(&run.forests);
+        let mut calls = records(&run.fragments[0]);
+        for &(place, number) in changes {
+            calls[RECORD * record + place] = number;
+        }
+        let mut fragment = vec![7; 9 * WIDTH];
+        let (lent, at) = (Forests::new(&run.forests), Positions::default());
+        refused(replay_calls(&lent, &run.queues, EXAMPLE, run.state, at, &calls, &mut fragment), refusal);
+        assert_eq!(fragment, vec![7; 9 * WIDTH]);
+    }
+
+    /// Records of C10: storings of StartNode, ResumeBasicBlock and FinishLoop, and the first cycle.
+    const START: usize = 0;
+    const RESUME: usize = 4;
+    const FINISH: usize = 8;
+    const CYCLE: usize = 1;
+    /// A number over 32 bits.
+    const OVER: u64 = 1 << 32;
+
+    #[test]
+    fn storings_refused() {
+        refused_with(START, &[(1, 0)], 23);
+        refused_with(START, &[(1, 11)], 23);
+        refused_with(START, &[(1, 10)], 4);
+        refused_with(START, &[(2, 2)], 3);
+        refused_with(START, &[(2, OVER)], 3);
+        refused_with(START, &[(5, 2)], 23);
+        refused_with(RESUME, &[(3, 1)], 5);
+        refused_with(RESUME, &[(3, OVER)], 5);
+        refused_with(RESUME, &[(4, 1)], 6);
+        refused_with(RESUME, &[(4, OVER)], 6);
+        refused_with(FINISH, &[(6, 0)], 23);
+        refused_with(FINISH, &[(6, 3)], 23);
+    }
+
+    #[test]
+    fn cycles_refused() {
+        refused_with(CYCLE, &[(0, 19)], 23);
+        refused_with(CYCLE, &[(0, P + 18)], 23);
+        refused_with(CYCLE, &[(1, 1)], 3);
+        refused_with(CYCLE, &[(24, 15)], 10);
+    }
+
+    /// A clk, ctx or depth over 32 bits encodes no call; 3, 5 and 6 come before; behind a number that names nothing no number is read.
+    #[test]
+    fn numbers_over_32_bits() {
+        refused_with(CYCLE, &[(2, OVER)], 23);
+        refused_with(CYCLE, &[(2, P)], 23);
+        refused_with(CYCLE, &[(3, OVER)], 23);
+        refused_with(CYCLE, &[(24, OVER)], 23);
+        refused_with(START, &[(12, 1), (13, OVER)], 23);
+        refused_with(START, &[(12, 1), (13, OVER), (2, OVER)], 3);
+        refused_with(RESUME, &[(12, 1), (13, OVER), (3, OVER)], 5);
+        refused_with(RESUME, &[(12, 1), (13, OVER), (4, OVER)], 6);
+        refused_with(START, &[(1, 1), (2, OVER)], 3);
+        refused_with(START, &[(1, 11), (2, OVER)], 23);
+        refused_with(START, &[(12, 2), (13, OVER)], 23);
+        refused_with(CYCLE, &[(0, 19), (2, OVER)], 23);
+    }
+
+    #[test]
+    fn lengths_of_records() {
+        let run = listing::run(9);
+        let (lent, at) = (Forests::new(&run.forests), Positions::default());
         let good = records(&run.fragments[0]);
-        let at = Positions::default();
-        let check = |record: usize, place: usize, number: u64, refusal: u32| {
-            let mut changed = good.clone();
-            changed[RECORD * record + place] = number;
-            let mut fragment = vec![7; 9 * WIDTH];
-            refused(replay_calls(&lent, &run.queues, EXAMPLE, run.state, at, &changed, &mut fragment), refusal);
-            assert_eq!(fragment, vec![7; 9 * WIDTH]);
-        };
-        check(0, 1, 0, 23);
-        check(0, 1, 11, 23);
-        check(0, 1, 10, 4);
-        check(0, 2, 2, 3);
-        check(0, 2, 1 << 32, 3);
-        check(0, 5, 2, 23);
-        check(1, 0, 19, 23);
-        check(1, 1, 1, 3);
-        check(1, 2, 1 << 32, 1);
-        check(1, 2, P, 1);
-        check(1, 0, P + 18, 23);
-        check(1, 24, 15, 10);
-        check(1, 24, 1 << 32, 1);
-        check(4, 3, 1, 5);
-        check(4, 3, 1 << 32, 5);
-        check(4, 4, 1, 6);
-        check(8, 6, 0, 23);
-        check(8, 6, 3, 23);
         let mut short = vec![7; 8 * WIDTH];
         refused(replay_calls(&lent, &run.queues, EXAMPLE, run.state, at, &good, &mut short), 24);
         let mut fragment = vec![7; 9 * WIDTH];
         refused(replay_calls(&lent, &run.queues, EXAMPLE, run.state, at, &good[..good.len() - 1], &mut fragment), 11);
         let empty = replay_calls(&lent, &run.queues, EXAMPLE, run.state, at, &[], &mut fragment).unwrap();
         assert_eq!((empty.rows, empty.built, empty.at), (0, [0; BUILT], at));
+    }
+
+    /// The address state that is answered is below p, also where there is no record, and where no row moves it.
+    #[test]
+    fn address_states_from_p_on() {
+        let run = listing::run(9);
+        let lent = Forests::new(&run.forests);
+        let calls = records(&run.fragments[0]);
+        let at = Positions { addresses: 1, parents: 2, ends: 3 };
+        let state = |current_addr, parent_addr| DecoderState { current_addr, parent_addr };
+        let mut fragment = vec![7; 9 * WIDTH];
+        let mut left = |state, calls: &[u64]| replay_calls(&lent, &run.queues, EXAMPLE, state, at, calls, &mut fragment).unwrap();
+        for (given, wanted) in
+            [(state(P + 5, P + 7), state(5, 7)), (state(P, u64::MAX), state(0, u64::MAX - P)), (state(P - 1, 5), state(P - 1, 5))]
+        {
+            let none = left(given, &[]);
+            assert_eq!((none.rows, none.built, none.state, none.at), (0, [0; BUILT], wanted, at));
+            let stored = left(given, &calls[..RECORD]);
+            assert_eq!((stored.rows, stored.state, stored.at), (0, wanted, at));
+            let operation = left(given, &calls[RECORD * RESUME..RECORD * (RESUME + 2)]);
+            assert_eq!((operation.rows, operation.state, operation.at), (1, wanted, at));
+        }
+        assert_eq!((fragment[6], fragment[15]), (P - 1, 5));
     }
 }

@@ -25,6 +25,7 @@ fn main() {
     vectors(b"passes_b");
     vectors(b"cells_a");
     vectors(b"cells_b");
+    vectors(b"cells_c");
     vectors(b"refusals_a");
     vectors(b"refusals_b");
     vectors(b"orders");

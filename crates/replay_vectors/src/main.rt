@@ -1,9 +1,10 @@
-// Replays runs whose answers were made by the listed Rust, in the lists cells_01 to cells_04 with p added to some of the cells that come in, and
-// records that are refused, one file of data/ a list, and writes how many came out right.
+// Replays runs whose answers were made by the listed Rust, in the lists cells_01 to cells_04 with p added to some of the cells that come in,
+// records that are refused, and records from other address states, one file of data/ a list, and writes how many came out right.
 mod given;
 mod list;
 mod parts;
 mod refused;
+mod states;
 
 use lists::text;
 use lists::text::report;
@@ -18,6 +19,13 @@ fn refused_records(name: &[u8]) {
     let mut numbers = [0u64; 8192];
     text::load(name, &mut numbers);
     let right = refused::right(&mut numbers);
+    report(name, right, numbers[0]);
+}
+
+fn address_states(name: &[u8]) {
+    let mut numbers = [0u64; 8192];
+    text::load(name, &mut numbers);
+    let right = states::right(&mut numbers);
     report(name, right, numbers[0]);
 }
 
@@ -39,4 +47,5 @@ fn main() {
     runs(b"cells_03");
     runs(b"cells_04");
     refused_records(b"refused");
+    address_states(b"states");
 }

@@ -15,11 +15,11 @@ use lists::text::item;
 use lists::text::one_if;
 ghost use Prim.Native.Nat.{_≤_};
 
-const PROFILE: usize = 1;
+pub const PROFILE: usize = 1;
 
 const STATE: usize = 15;
 
-const PARTS: usize = 17;
+pub const PARTS: usize = 17;
 
 // Exchanges the numbers at two places.
 fn exchange(v: &mut [u64], a: usize, b: usize) {
@@ -30,14 +30,14 @@ fn exchange(v: &mut [u64], a: usize, b: usize) {
 }
 
 // How many numbers the case that begins at `at` changes.
-fn changes(v: &[u64], at: usize) -> usize
+pub fn changes(v: &[u64], at: usize) -> usize
     ensures { λ r. ⌜ r ≤ 16 ⌝ }
 {
     at_most(item(v, at, 1), 16)
 }
 
 // Exchanges each number that the case changes with what stands there instead; a second time all is as it was.
-fn exchange_all(v: &mut [u64], records: usize, at: usize)
+pub fn exchange_all(v: &mut [u64], records: usize, at: usize)
     requires { ⌜ records ≤ 8192 ⌝ }
     requires { ⌜ at ≤ 8192 ⌝ }
 {

@@ -21,6 +21,8 @@ fn main() {
     vectors(b"cells_a");
     vectors(b"cells_b");
     vectors(b"cells_c");
+    vectors(b"tracers_a");
+    vectors(b"tracers_b");
     vectors(b"inputs");
     vectors(b"refusals");
     vectors(b"orders");
@@ -28,4 +30,5 @@ fn main() {
     vectors(b"runs_b");
     vectors(b"mixed_a");
     vectors(b"mixed_b");
+    vectors(b"mixed_c");
 }

@@ -1,6 +1,6 @@
-//! `compare [SEED [RUNS]]`: random runs by the listed Rust and by the proved library, which in half of them is given some cells with p added,
-//! and the finished traces read by the proved library and by the checker, as they are and changed. Writes what was compared, the differences, and how often which side refused. Exits with 1
-//! where there is a difference.
+//! `compare [SEED [RUNS]]`: random runs by the listed Rust and by the proved library, which in every second of them is given some cells with
+//! p added, and the finished traces read by the proved library and by the checker, as they are and changed. Writes what was compared, the
+//! differences, and how often which side refused. Exits with 1 where there is a difference.
 
 #[cfg(not(all(listed, archive)))]
 fn main() {
@@ -39,7 +39,10 @@ fn main() {
             "{name}: {} runs, {} of them finished, {} calls, {} rows, {} cells compared, {} differences",
             tally.runs, tally.finished, tally.calls, tally.rows, tally.cells, tally.differences
         );
-        println!("  {} runs with cells from p on; the passes were given {} of them", tally.raised, tally.raised_cells);
+        println!(
+            "  {} of the {} runs with cells from p on: {} in the run, {} in the rows and built cells handed to the passes",
+            tally.raised, tally.runs, tally.run_cells, tally.row_cells
+        );
         for text in &tally.told {
             println!("  {text}");
         }

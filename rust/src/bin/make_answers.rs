@@ -7,8 +7,8 @@
 //!   positions (3) after it;
 //! - the cells of the finished trace with their number before them.
 //!
-//! In the files `runs_..` all cells are below p. In the files `cells_..` p is added to some of those that come in; the answers are what the
-//! listed Rust makes of the reduced ones.
+//! In the files `runs_..` all cells are below p. In the files `cells_..` p is added to some of those that come in, the first address state
+//! included; the answers are what the listed Rust makes of the reduced ones, and are expected as they stand.
 
 #[cfg(not(listed))]
 fn main() {
@@ -47,16 +47,8 @@ mod answers {
     const OPCODES: usize = 256;
     const NUMBERS: usize = 8000;
     const BYTES: usize = 60_000;
-
-    /// The run with p added to some of its cells. Where no row moves it, the address state is handed on as it was given, so it is left alone
-    /// where the first row may not move it.
-    fn raised(rng: &Rng, run: &Run) -> Run {
-        let mut given = raised_run(rng, run);
-        if run.nesting.is_none() {
-            given.state = run.state;
-        }
-        given
-    }
+    /// What the files `cells_..` show besides.
+    const KEPT: &str = "a fragment none of whose rows moves the address state, which is given from p on";
 
     /// The numbers of a run as it is given, and the answers to the run, where the listed Rust refuses nothing; and what it shows.
     fn answered(run: &Run, given: &Run, padding: usize) -> Option<(Vec<u64>, BTreeSet<String>)> {
@@ -93,6 +85,8 @@ mod answers {
         part(given.queues.ends.clone());
         out.push(run.fragments.len() as u64);
         let (mut state, mut at, mut contexts) = (run.state, Positions::default(), Vec::new());
+        let is_raised = given.state.current_addr != run.state.current_addr && given.state.parent_addr != run.state.parent_addr;
+        let mut is_kept = false;
         for (k, calls) in run.fragments.iter().enumerate() {
             let listed = convert::calls(calls, &run.forests);
             let mut data = Felt::zero_vec(run.fragment_size * CORE_STORAGE_WIDTH);
@@ -114,6 +108,7 @@ mod answers {
                 left.at.ends as u64,
             ]);
             (state, at) = (left.state, left.at);
+            is_kept |= k == 0 && is_raised && at == Positions::default() && state == run.state;
         }
         let generated = std::panic::catch_unwind(std::panic::AssertUnwindSafe(|| passes::generate(contexts, run.fragment_size, &forests)));
         let mut data = generated.ok()?.ok()?;
@@ -121,7 +116,11 @@ mod answers {
         let cells: Vec<u64> = whole::rows(&data).flatten().collect();
         out.push(cells.len() as u64);
         out.extend(&cells);
-        Some((out, shown(run, &cells)))
+        let mut shows = shown(run, &cells);
+        if is_kept {
+            shows.insert(KEPT.into());
+        }
+        Some((out, shows))
     }
 
     /// What a run shows: its opcodes among the control ones, the helper cases of its operations, its forests, small fragments, loop counts.
@@ -174,13 +173,15 @@ mod answers {
         write_files(folder, "runs", all);
         println!("tried {tried}; shown: {}", seen.into_iter().collect::<Vec<_>>().join("; "));
 
-        let above = |run: &Run| answered(run, &raised(&rng, run), rng.below(3));
+        let above = |run: &Run| answered(run, &raised_run(&rng, run), rng.below(3));
         let mut seen = BTreeSet::new();
         let mut all = vec![above(&listing::run(9)).unwrap().0, above(&listing::run(4)).unwrap().0];
-        while all.len() < runs / 3 {
+        while all.len() < runs / 3 || !seen.contains(KEPT) {
             let run = kinds[tried % kinds.len()](&rng, CYCLES);
             tried += 1;
-            if let Some((numbers, shows)) = above(&run).filter(|(_, shows)| !shows.is_subset(&seen)) {
+            let is_room = all.len() < runs / 3;
+            let is_new = |shows: &BTreeSet<String>| if is_room { !shows.is_subset(&seen) } else { shows.contains(KEPT) };
+            if let Some((numbers, shows)) = above(&run).filter(|(_, shows)| is_new(shows)) {
                 seen.extend(shows);
                 all.push(numbers);
             }
