@@ -22,3 +22,4 @@ pub mod ExampleEqualAddresses
 pub mod BodiesEnd
 pub mod ExactRuns
 pub mod ImproperRuns
+pub mod SameRuns
