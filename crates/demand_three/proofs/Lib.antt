@@ -4,3 +4,4 @@ pub mod LoopRows
 pub mod RecordsAreCalls
 pub mod ReplayedCalls
 pub mod Replays
+pub mod SameReadBack

@@ -20,7 +20,7 @@ use Rattle.rows.specs.Cycles.{fresh, keeping}
 use Rattle.rows.specs.Calls as replays
 use Rattle.records.specs.CallRecords as records
 use Rattle.rows.specs.Calls.{scanned, refusing, through, ending, replayed}
-use Rattle.records.specs.CallRecords.{of32, infoIn, resumeIn, respanIn, continuationOn, continuationIn, namesNothing, storedInRecord, systemIn, fewCells, manyCells, registersIn, stores, finishes, finishIn, callIn, recordAt}
+use Rattle.records.specs.CallRecords.{namesNoKind, of32, infoIn, resumeIn, respanIn, continuationOn, continuationIn, namesNothing, storedInRecord, systemIn, fewCells, manyCells, registersIn, stores, finishes, finishIn, callIn, recordAt}
 use Rattle.rows.specs.SingleCalls.{singleDone, singlyThrough}
 use Rattle.rows.proofs.CallSteps.{told-number}
 use Rattle.runs.proofs.Answers.{Numbered}
@@ -46,7 +46,7 @@ of32-numbered n x = pick-numbered (ltb x 4294967296) (accepted x) (refused (suc 
 info-numbered : (r : List ℕ) → Numbered (infoIn r)
 unfolding infoIn Numbered
 info-numbered r =
-    pick-numbered (eqb (getD r 12 0) 1) _ _ (then-numbered (of32 1 (getD r 13 0)) _ (of32-numbered 0 (getD r 13 0)) (λ depth. tt)) tt
+    pick-numbered (eqb (getD r 12 0) 1) _ _ (then-numbered (of32 23 (getD r 13 0)) _ (of32-numbered 22 (getD r 13 0)) (λ depth. tt)) tt
 
 resume-numbered : (r : List ℕ) (id : MastNodeId) → Numbered (resumeIn r id)
 unfolding resumeIn Numbered
@@ -74,14 +74,15 @@ on-numbered r kind id =
 continuation-numbered : (r : List ℕ) → Numbered (continuationIn r)
 unfolding continuationIn Numbered
 continuation-numbered r =
-    pick-numbered (eqb (getD r 1 0) 10) _ _ tt
-    (then-numbered (of32 3 (getD r 2 0)) _ (of32-numbered 2 (getD r 2 0)) (λ id. on-numbered r (getD r 1 0) (nodeId id)))
+    pick-numbered (namesNoKind (getD r 1 0)) _ _ tt
+    (pick-numbered (eqb (getD r 1 0) 10) _ _ tt
+    (then-numbered (of32 3 (getD r 2 0)) _ (of32-numbered 2 (getD r 2 0)) (λ id. on-numbered r (getD r 1 0) (nodeId id))))
 
 stored-numbered : (r : List ℕ) → Numbered (storedInRecord r)
 unfolding storedInRecord Numbered
 stored-numbered r =
-    then-numbered (infoIn r) _ (info-numbered r) (λ info.
     then-numbered (continuationIn r) _ (continuation-numbered r) (λ continuation.
+    then-numbered (infoIn r) _ (info-numbered r) (λ info.
     pick-numbered (namesNothing r) _ _ tt tt))
 
 few-numbered : (kind a b : ℕ) → Numbered (fewCells kind a b)
@@ -113,14 +114,14 @@ many-numbered kind a b =
 system-numbered : (r : List ℕ) → Numbered (systemIn r)
 unfolding systemIn Numbered
 system-numbered r =
-    then-numbered (of32 1 (getD r 2 0)) _ (of32-numbered 0 (getD r 2 0)) (λ clk.
-    then-numbered (of32 1 (getD r 3 0)) _ (of32-numbered 0 (getD r 3 0)) (λ ctx. tt))
+    then-numbered (of32 23 (getD r 2 0)) _ (of32-numbered 22 (getD r 2 0)) (λ clk.
+    then-numbered (of32 23 (getD r 3 0)) _ (of32-numbered 22 (getD r 3 0)) (λ ctx. tt))
 
 finish-numbered : (r : List ℕ) → Numbered (finishIn r)
 unfolding finishIn registersIn Numbered
 finish-numbered r =
     then-numbered (systemIn r) _ (system-numbered r) (λ system.
-    then-numbered (of32 1 (getD r 24 0)) _ (of32-numbered 0 (getD r 24 0)) (λ depth.
+    then-numbered (of32 23 (getD r 24 0)) _ (of32-numbered 22 (getD r 24 0)) (λ depth.
     then-numbered (registersIn r) _ (many-numbered (getD r 0 0) (wordAt r 26) (wordAt r 30)) (λ registers. tt)))
 
 pub call-numbered : (r : List ℕ) → Numbered (callIn r)

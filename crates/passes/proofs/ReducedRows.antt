@@ -1,6 +1,6 @@
 -- Rows of reduced cells (N2): the rows of a reduced buffer are the reduced rows, and a row's opcode is that of its reduced cells.
 use mathlib.Core.Path.{_≡_, _∙_, refl, sym, ap, ap₂}
-use mathlib.Core.List.{List, [], _∷_, map}
+use mathlib.Core.List.{List, _∷_, map}
 use Prim.Native.Nat.{ℕ, zero, suc}
 use lib.ListN.{take, drop}
 use Rattle.field.specs.Cells.{reduced}

@@ -14,9 +14,9 @@ use Rattle.groups.specs.Answer.{pick}
 use Rattle.records.specs.declared.profile.Profile.{Profile}
 use Rattle.passes.specs.Buffers.{rowsOf}
 use Rattle.passes.proofs.ReducedRows.{bits-reduced, opcode-reduced, rows-reduced}
-use Rattle.readings.specs.Tokens.{Token, controlToken, opToken, inSpanOf, opBitsOf, allBits, tokenOf, tokensOf}
+use Rattle.readings.specs.Tokens.{Token, tokenOf, tokensOf}
 use Rattle.readings.specs.Readings.{Block, Ask, flag, count, asks, rowAt, allRows, Trace}
-use Rattle.readings.specs.Answers.{Answer, accepted, readerRefusal, rowAsked}
+use Rattle.readings.specs.Answers.{accepted, readerRefusal, rowAsked}
 use Rattle.readings.specs.Parser.{WordAnswer, wordOf, noWordAt, tooDeepAt, readWord, isMet, firstWrong, answerOfCells, answerOfWord, unlessBadInput, answer}
 use Rattle.readings.proofs.AcceptedTraces.{accepts-traces}
 

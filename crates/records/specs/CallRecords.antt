@@ -1,4 +1,4 @@
--- Calls lent as records of 32 numbers: what each number of a storing and of a finish names.
+-- Calls lent as records of 32 numbers: what each number of a storing and of a finish names. Cells among them are read (N2).
 use mathlib.Core.Path.{_≡_}
 use mathlib.Core.Bool.{Bool, _||_}
 use mathlib.Core.List.{List, [], _∷_}
@@ -6,6 +6,7 @@ use Prim.Native.Nat.{ℕ, _*_}
 use lib.Dec.{ltb, eqb}
 use lib.ListN.{take, drop, getD}
 use Rattle.groups.specs.Answer.{Answer, accepted, refused, andThen, pick}
+use Rattle.field.specs.Cells.{cellAt}
 use Rattle.groups.specs.Words.{wordAt}
 use Rattle.groups.specs.declared.word.Word.{Word}
 use Rattle.groups.specs.declared.word.QuadFelt.{QuadFelt}
@@ -46,7 +47,7 @@ unfoldable pub infoIn : List ℕ → Answer ContextInfo
 infoIn r =
     pick (eqb (getD r 12 0) 1)
     (andThen (of32 23 (getD r 13 0)) (λ depth.
-    accepted (ContextInfo.Is (record { «stack_depth» = depth; «next_overflow_addr» = getD r 14 0 }))))
+    accepted (ContextInfo.Is (record { «stack_depth» = depth; «next_overflow_addr» = cellAt r 14 }))))
     (accepted ContextInfo.Absent)
 
 -- number 3 the batch, number 4 the operation: no such batch (5), operation past the batch's (6)
@@ -114,10 +115,10 @@ systemIn r =
 unfoldable pub stackIn : List ℕ → (depth : ℕ) → StackState
 stackIn r depth = record {
   «stack_top» =
-      getD r 8 0 ∷ getD r 9 0 ∷ getD r 10 0 ∷ getD r 11 0 ∷ getD r 12 0 ∷ getD r 13 0 ∷ getD r 14 0 ∷ getD r 15 0
-      ∷ getD r 16 0 ∷ getD r 17 0 ∷ getD r 18 0 ∷ getD r 19 0 ∷ getD r 20 0 ∷ getD r 21 0 ∷ getD r 22 0 ∷ getD r 23 0 ∷ [];
+      cellAt r 8 ∷ cellAt r 9 ∷ cellAt r 10 ∷ cellAt r 11 ∷ cellAt r 12 ∷ cellAt r 13 ∷ cellAt r 14 ∷ cellAt r 15
+      ∷ cellAt r 16 ∷ cellAt r 17 ∷ cellAt r 18 ∷ cellAt r 19 ∷ cellAt r 20 ∷ cellAt r 21 ∷ cellAt r 22 ∷ cellAt r 23 ∷ [];
   «stack_depth» = depth;
-  «overflow_addr» = getD r 25 0;
+  «overflow_addr» = cellAt r 25;
 }
 
 -- the cases of helper registers with one or two cells; a number that names none: a captured value absent (23)

@@ -1,5 +1,6 @@
 // A call lent as a record of 32 numbers. Number 0 says which: 0 a storing, 1 to 18 a cycle with that case of helper registers.
-// Each function here is lent the one record. Numbers that a record's kind does not name are not read.
+// Each function here is lent the one record. Cells among its numbers are read modulo p; numbers that a record's kind does not name are not
+// looked at.
 use crate::continuation::CalleeWord;
 use crate::continuation::Captured;
 use crate::continuation::ContextInfo;
@@ -12,6 +13,7 @@ use crate::ids::MastNodeId;
 use crate::ids::RowIndex;
 use crate::state::StackState;
 use crate::state::SystemState;
+use field::cell::cell;
 use field::cell::number_at;
 use groups::helpers::OperationHelperRegisters;
 use groups::word::QuadFelt;
@@ -95,7 +97,7 @@ fn info_at(numbers: &[u64]) -> InfoFound
     };
     let info = ExecutionContextInfo {
         stack_depth,
-        next_overflow_addr: number_at(numbers, 14),
+        next_overflow_addr: cell(numbers, 14),
     };
     InfoFound::Is(ContextInfo::Is(info))
 }
@@ -241,27 +243,27 @@ pub fn stack_at(numbers: &[u64], stack_depth: u32) -> StackState
     ensures { λ r. ⌜ r ≡ stackIn (now (numbers .entry)) «stack_depth» ⌝ }
 {
     let stack_top = [
-        number_at(numbers, 8),
-        number_at(numbers, 9),
-        number_at(numbers, 10),
-        number_at(numbers, 11),
-        number_at(numbers, 12),
-        number_at(numbers, 13),
-        number_at(numbers, 14),
-        number_at(numbers, 15),
-        number_at(numbers, 16),
-        number_at(numbers, 17),
-        number_at(numbers, 18),
-        number_at(numbers, 19),
-        number_at(numbers, 20),
-        number_at(numbers, 21),
-        number_at(numbers, 22),
-        number_at(numbers, 23),
+        cell(numbers, 8),
+        cell(numbers, 9),
+        cell(numbers, 10),
+        cell(numbers, 11),
+        cell(numbers, 12),
+        cell(numbers, 13),
+        cell(numbers, 14),
+        cell(numbers, 15),
+        cell(numbers, 16),
+        cell(numbers, 17),
+        cell(numbers, 18),
+        cell(numbers, 19),
+        cell(numbers, 20),
+        cell(numbers, 21),
+        cell(numbers, 22),
+        cell(numbers, 23),
     ];
     StackState {
         stack_top,
         stack_depth,
-        overflow_addr: number_at(numbers, 25),
+        overflow_addr: cell(numbers, 25),
     }
 }
 

@@ -3,12 +3,12 @@
 -- were.
 use mathlib.Core.Path.{_≡_, _∙_, refl, sym, ap, ap₂}
 use mathlib.Core.Bool.{Bool, true, false, not, _||_}
-use mathlib.Core.List.{List, _++_}
-use Prim.Native.Nat.{ℕ, _+_, _/_}
+use mathlib.Core.List.{List}
+use Prim.Native.Nat.{ℕ, _/_}
 use lib.Dec.{leb, ltb, eqb}
-use lib.ListN.{length, getD}
-use Rattle.field.specs.Cells.{read, cellAt, reduced}
-use Rattle.field.proofs.CellLaws.{read-twice, getD-reduced, cell-reduced}
+use lib.ListN.{length}
+use Rattle.field.specs.Cells.{cellAt, reduced}
+use Rattle.field.proofs.CellLaws.{read-twice, getD-reduced}
 use Rattle.groups.specs.Answer.{Answer, accepted, refused, andThen, pick, number}
 use Rattle.groups.specs.Helpers.{readRegisters}
 use Rattle.groups.specs.declared.helpers.OperationHelperRegisters.{OperationHelperRegisters}
@@ -20,7 +20,6 @@ use Rattle.records.specs.declared.state.StackState.{StackState}
 use Rattle.records.specs.declared.state.SystemCols.{SystemCols}
 use Rattle.records.specs.declared.state.StackCols.{StackCols}
 use Rattle.records.specs.declared.decoder_row.DecoderRow.{DecoderRow}
-use Rattle.records.specs.declared.continuation.LoopCondition.{LoopCondition}
 use Rattle.records.specs.declared.continuation.CalleeWord.{CalleeWord}
 use Rattle.records.specs.declared.continuation.ContextInfo.{ContextInfo}
 use Rattle.records.specs.declared.continuation.Captured.{Captured}
@@ -29,7 +28,6 @@ use Rattle.records.specs.declared.continuation.Used.{Used}
 use Rattle.rows.specs.declared.made.MadeRow.{MadeRow}
 use Rattle.rows.specs.declared.scan.Scan.{Scan}
 use Rattle.rows.specs.declared.tracer.CoreTraceGenerationTracer.{CoreTraceGenerationTracer}
-use Rattle.rows.specs.declared.tracer.TracerFinalState.{TracerFinalState}
 use Rattle.records.specs.Forests.{Forest}
 use Rattle.records.specs.Addresses.{Queues, readState}
 use Rattle.records.specs.Captured.{readCallee, readInfo, readCaptured}
@@ -38,7 +36,7 @@ use Rattle.records.specs.DecoderRows.{decoderCells}
 use Rattle.records.specs.Cells.{rowCells, putRow, fragmentWrong}
 use Rattle.rows.specs.Made.{place, made}
 use Rattle.rows.specs.Scans.{scanOf}
-use Rattle.rows.specs.Cycles.{fresh, storing, storedIn, continuationOf, refuseIf, cycleWith, cycle, leftAfter, keeping, tracerAfter, lastSystem, lastStack, fragmentAfter, finalState}
+use Rattle.rows.specs.Cycles.{fresh, storing, storedIn, continuationOf, refuseIf, cycleWith, cycle, leftAfter, tracerAfter, lastSystem, lastStack, fragmentAfter, finalState}
 use Rattle.reductions.specs.Inputs.{readForest, readQueues, readSystemState, readStackState, readValues, readTracer, readRow, readMade, readAnswer}
 use Rattle.reductions.proofs.LentReduced.{word-twice}
 use Rattle.reductions.proofs.StatesRead.{read-is}
@@ -113,12 +111,12 @@ row-read : (s : SystemCols) (d : DecoderRow) (k : StackCols) → rowCells (readS
 unfolding rowCells reduced systemCells decoderCells stackCells readSystem readRow readStack cellAt
 row-read s d k = simp read-twice
 
-last-system : (t : CoreTraceGenerationTracer) (none : Bool) → readSystem (pick none noSystem (t .system)) ≡ pick none noSystem (readSystem (t .system))
+pub last-system : (t : CoreTraceGenerationTracer) (none : Bool) → readSystem (pick none noSystem (t .system)) ≡ pick none noSystem (readSystem (t .system))
 unfolding readSystem noSystem
 last-system t true = refl
 last-system t false = refl
 
-last-stack : (t : CoreTraceGenerationTracer) (none : Bool) → readStack (pick none noStack (t .stack)) ≡ pick none noStack (readStack (t .stack))
+pub last-stack : (t : CoreTraceGenerationTracer) (none : Bool) → readStack (pick none noStack (t .stack)) ≡ pick none noStack (readStack (t .stack))
 unfolding readStack noStack cellAt
 last-stack t true = refl
 last-stack t false = refl

@@ -37,12 +37,13 @@ use Rattle.records.specs.declared.forest.Node.{Node}
 use Rattle.records.specs.declared.forest.NodeEntry.{NodeEntry}
 use Rattle.records.specs.declared.decoder_row.DecoderRow.{DecoderRow}
 use Rattle.records.specs.Forests.{isSlot, nodeId, nodeEntry, nodeOf, slotBlock, nodeAt, digestAt, blockOf}
-use Rattle.records.specs.Addresses.{entryAt, startedAt, endAt}
+use Rattle.records.specs.Addresses.{startedAt, endAt}
 use Rattle.records.specs.DecoderRows.{wordCells, decoderCells}
 use Rattle.records.proofs.Bits.{bit-mul}
 use Rattle.passes.proofs.Checks.{neither}
 use Rattle.reductions.specs.Below.{Below}
 use Rattle.reductions.proofs.Accepted.{never, came, passed, held}
+use Rattle.reductions.proofs.StatesRead.{IsCell, IsRead, Gives, current-is, parent-is, started-read}
 use Rattle.reductions.proofs.SameCells.{below-at}
 
 -- THE CELLS OF A ROW
@@ -289,21 +290,14 @@ below-start block batches groups index found e =
 abbrev pub StateBelow : DecoderState → Type 0
 StateBelow state = (state .«current_addr» < P) × (state .«parent_addr» < P)
 
--- an entry of a queue of single cells
-below-queue : (refusal : ℕ) (queue : List ℕ) (at x : ℕ) → entryAt refusal queue at ≡ accepted x → x < P
-unfolding entryAt
-below-queue refusal queue at x e =
-    let a = held (ltb at (length queue)) refusal (accepted (cellAt queue at)) x e in
-    let is : cellAt queue at ≡ x = cc (a .1) in
-    omega (arith, cell-below queue at)
+cell-small : (x : ℕ) → IsCell x → x < P
+cell-small x e = omega (arith, read-below x)
 
+-- the entries of the address and parent queues
 pub below-entries : (addresses parents : List ℕ) (at : Positions) (state : DecoderState) → startedAt addresses parents at ≡ accepted state → StateBelow state
-unfolding startedAt
 below-entries addresses parents at state e =
-    let a = came (entryAt 20 addresses (at .addresses)) _ state e in
-    let b = came (entryAt 21 parents (at .parents)) _ state (a .then) in
-    let is : record { «current_addr» = a .value; «parent_addr» = b .value } ≡ state = cc (b .then) in
-    subst (λ (x : DecoderState). StateBelow x) is (below-queue 20 addresses (at .addresses) (a .value) (a .first), below-queue 21 parents (at .parents) (b .value) (b .first))
+    let is : IsRead state = subst (Gives IsRead) e (started-read addresses parents at) in
+    (cell-small (state .«current_addr») (current-is state is), cell-small (state .«parent_addr») (parent-is state is))
 
 -- an entry of the end queue
 abbrev pub EndBelow : NodeEndData → Type 0

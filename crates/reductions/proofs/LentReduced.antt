@@ -1,14 +1,14 @@
 -- What the look-ups, the contexts of a block's groups and the helpers find in lent cells is what they find in the reduced ones.
-use mathlib.Core.Path.{_≡_, _∙_, refl, sym, ap, ap₂}
+use mathlib.Core.Path.{_≡_, refl, ap}
 use mathlib.Core.List.{List}
-use Prim.Native.Nat.{ℕ, _+_, _*_, _/_, _%_}
-use lib.ListN.{length, getD}
+use Prim.Native.Nat.{ℕ, _+_, _*_, _%_}
+use native.Mathlib.Omega.{arith}
 use Rattle.field.specs.Modulus.{P}
-use Rattle.field.specs.Cells.{read, cellAt, reduced}
-use Rattle.field.specs.Inverse.{inverseOf}
+use Rattle.field.specs.Cells.{reduced}
 use Rattle.field.proofs.CellLaws.{length-reduced, cell-reduced, read-twice}
+use Rattle.groups.specs.Answer.{Answer, accepted, refused}
 use Rattle.groups.specs.Words.{wordAt, readWord, readQuad}
-use Rattle.groups.specs.Batches.{isBatch, batchOf, batchAt, recordOf}
+use Rattle.groups.specs.Batches.{isBatch, batchAt, recordOf}
 use Rattle.groups.specs.Contexts.{consumed, opContext, contextInGroup, contextAtOp, contextAtBatchStart}
 use Rattle.groups.specs.Helpers.{readRegisters, helpersOfCells, helpersAnswer}
 use Rattle.groups.specs.declared.word.Word.{Word}
@@ -20,8 +20,9 @@ use Rattle.groups.specs.declared.helpers.OperationHelperRegisters.{OperationHel
 use Rattle.groups.specs.declared.helpers.OperationHelperRegisters.the-variants.{Eq, U32Split, Eqz, Expacc, FriExt2Fold4, U32Add, U32Add3, U32Sub, U32Mul, U32Madd, U32Div, U32Assert2, HPerm, MerklePath, HornerEvalBase, HornerEvalExt, LogDeferred, Empty}
 use Rattle.records.specs.declared.replay.Positions.{Positions}
 use Rattle.records.specs.declared.replay.DecoderState.{DecoderState}
+use Rattle.records.specs.declared.replay.NodeEndData.{NodeEndData}
 use Rattle.records.specs.Forests.{isSlot, nodeAt, digestAt}
-use Rattle.records.specs.Addresses.{entryAt, startedAt, endAt, startStep, endStep}
+use Rattle.records.specs.Addresses.{readState, entryAt, startedAt, endAt, startTold, startStep, endTold, endStep, respanStep}
 
 -- WORDS
 
@@ -122,7 +123,10 @@ unfolding endAt
 ended-reduced ends at =
     rw (length-reduced ends, cell-reduced ends (3 * at), cell-reduced ends (3 * at + 1), cell-reduced ends (3 * at + 2))
 
--- the two replay steps
+-- THE STEPS OF THE ADDRESS STATE
+
+-- the two replay steps: the queues may be read, and where the lent state is read too, the answer is the same, and so is the state left, once read
+-- (a refused step leaves it as it was)
 pub start-step-reduced : (addresses parents : List ℕ) (at : Positions) (state : DecoderState) → startStep (reduced addresses) (reduced parents) at state ≡ startStep addresses parents at state
 unfolding startStep
 start-step-reduced addresses parents at state = rw (started-reduced addresses parents at)
@@ -130,3 +134,37 @@ start-step-reduced addresses parents at state = rw (started-reduced addresses pa
 pub end-step-reduced : (ends : List ℕ) (at : Positions) (state : DecoderState) → endStep (reduced ends) at state ≡ endStep ends at state
 unfolding endStep
 end-step-reduced ends at state = rw (ended-reduced ends (at .ends))
+
+state-twice : (s : DecoderState) → readState (readState s) ≡ readState s
+unfolding readState
+state-twice s = rw (read-twice (s .«current_addr»), read-twice (s .«parent_addr»))
+
+start-told-read : (found : Answer DecoderState) (at : Positions) (state : DecoderState) →
+    (startTold found at (readState state) .answer ≡ startTold found at state .answer) × (readState (startTold found at (readState state) .state) ≡ readState (startTold found at state .state))
+start-told-read (accepted moved) at state = (refl, refl)
+start-told-read (refused n) at state = (refl, state-twice state)
+
+end-told-read : (found : Answer NodeEndData) (at : Positions) (state : DecoderState) →
+    (endTold found at (readState state) .answer ≡ endTold found at state .answer) × (readState (endTold found at (readState state) .state) ≡ readState (endTold found at state .state))
+end-told-read (accepted entry) at state = (refl, refl)
+end-told-read (refused n) at state = (refl, state-twice state)
+
+pub start-step-read : (addresses parents : List ℕ) (at : Positions) (state : DecoderState) →
+    (startStep addresses parents at (readState state) .answer ≡ startStep addresses parents at state .answer)
+    × (readState (startStep addresses parents at (readState state) .state) ≡ readState (startStep addresses parents at state .state))
+unfolding startStep
+start-step-read addresses parents at state = start-told-read (startedAt addresses parents at) at state
+
+pub end-step-read : (ends : List ℕ) (at : Positions) (state : DecoderState) →
+    (endStep ends at (readState state) .answer ≡ endStep ends at state .answer) × (readState (endStep ends at (readState state) .state) ≡ readState (endStep ends at state .state))
+unfolding endStep
+end-step-read ends at state = end-told-read (endAt ends (at .ends)) at state
+
+-- a current address that grows by the step
+pub grown : (x step : ℕ) → (x % P + step) % P ≡ (x + step) % P
+grown x step = omega arith
+
+-- RESPAN
+pub respan-step-read : (step : ℕ) (state : DecoderState) → readState (respanStep step (readState state)) ≡ readState (respanStep step state)
+unfolding respanStep readState
+respan-step-read step state = rw (grown (state .«current_addr») step, read-twice (state .«parent_addr»))

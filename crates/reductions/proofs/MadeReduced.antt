@@ -1,20 +1,15 @@
 -- What a continuation makes of forest, queues, helper registers, captured values and address state as they come in is, once read, what it makes of
 -- them read: the same number, and rows that differ in no reduced cell.
-use mathlib.Core.Path.{_≡_, _∙_, refl, sym, ap, ap₂}
+use mathlib.Core.Path.{_≡_, refl, ap₂}
 use mathlib.Core.Bool.{Bool, true, false}
 use mathlib.Core.List.{List}
-use Prim.Native.Nat.{ℕ, _+_, _%_}
-use native.Mathlib.Omega.{arith}
-use Rattle.field.specs.Modulus.{P}
-use Rattle.field.specs.Cells.{read, reduced}
+use Prim.Native.Nat.{ℕ}
+use Rattle.field.specs.Cells.{reduced}
 use Rattle.field.proofs.CellLaws.{read-twice}
 use Rattle.groups.specs.Answer.{Answer, accepted, refused, andThen, pick}
 use Rattle.groups.specs.Batches.{batchAt}
-use Rattle.groups.specs.Flags.{batchFlags}
 use Rattle.groups.specs.Contexts.{contextAtOp, contextAtBatchStart}
 use Rattle.groups.specs.Helpers.{readRegisters, helpersAnswer}
-use Rattle.groups.specs.Words.{readWord}
-use Rattle.groups.specs.declared.word.Word.{Word}
 use Rattle.groups.specs.declared.helpers.OperationHelperRegisters.{OperationHelperRegisters}
 use Rattle.records.specs.declared.ids.MastNodeId.{MastNodeId}
 use Rattle.records.specs.declared.profile.Profile.{Profile}
@@ -27,12 +22,12 @@ use Rattle.records.specs.declared.continuation.Used.{Used}
 use Rattle.rows.specs.declared.made.MadeRow.{MadeRow}
 use Rattle.rows.specs.declared.made.Finish.{Finish}
 use Rattle.records.specs.Forests.{Forest, nodeAt, digestAt, opcodeAt, blockOf}
-use Rattle.records.specs.Addresses.{Queues, readState, startedAt, endAt, respanStep}
+use Rattle.records.specs.Addresses.{Queues, readState, startedAt, respanStep}
 use Rattle.records.specs.Captured.{readCallee, readInfo, readCaptured}
 use Rattle.records.specs.DecoderRows.{controlFlow, basicBlockBatch, operation}
-use Rattle.rows.specs.Made.{Place, place, calleeOf, infoOf, conditionOf, startBlock, startTwo, startOne, startDyn, startDyncall, startKind, startNode, entryKind, finished, bodyOf, repeated, finishLoop, operationMade, resumed, respanned, made}
+use Rattle.rows.specs.Made.{Place, conditionOf, startBlock, startTwo, startOne, startDyn, startDyncall, startKind, startNode, finished, bodyOf, repeated, finishLoop, operationMade, resumed, respanned, made}
 use Rattle.reductions.specs.Inputs.{readForest, readQueues, readPlace, readRow, readMade, readAnswer}
-use Rattle.reductions.proofs.LentReduced.{word-twice, node-reduced, digest-reduced, batch-reduced, op-context-reduced, batch-context-reduced, helpers-reduced, started-reduced, ended-reduced}
+use Rattle.reductions.proofs.LentReduced.{word-twice, node-reduced, digest-reduced, batch-reduced, op-context-reduced, batch-context-reduced, helpers-reduced, started-reduced, ended-reduced, grown}
 
 -- WHAT IS LENT
 
@@ -169,9 +164,6 @@ resumed-alike f push id index op registers here =
     then-alike (contextAtOp push block (f .batches) (f .groups) index op) _ _ (λ found.
     then-alike (helpersAnswer registers) _ _ (λ helpers.
     rw (read-twice (here .state .«current_addr»), read-twice (here .state .«parent_addr»))))))))
-
-grown : (x step : ℕ) → (x % P + step) % P ≡ (x + step) % P
-grown x step = omega arith
 
 respanned-alike : (nodes digests batches groups : List ℕ) (opcode step : ℕ) (id : MastNodeId) (index : ℕ) (here : Place) →
     Same (respanned nodes digests batches groups opcode step id index (readPlace here)) (respanned nodes digests batches groups opcode step id index here)

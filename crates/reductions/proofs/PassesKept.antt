@@ -158,7 +158,7 @@ fixed-kept size top lasts (row ∷ rows) w h = more (first-kept top row (w .0)) 
 
 -- PASS 2
 
-pick-kept : (t : Bool) (l m : List ℕ) → Kept l m → Kept l (pick t m l)
+pub pick-kept : (t : Bool) (l m : List ℕ) → Kept l m → Kept l (pick t m l)
 pick-kept true l m k = k
 pick-kept false l m k = stays l
 

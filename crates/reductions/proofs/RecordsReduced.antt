@@ -1,25 +1,19 @@
--- A call record whose cells are read encodes the call that it encoded, with its cells read; and so do all records of a list.
-use mathlib.Core.Path.{_≡_, _∙_, refl, sym, ap, ap₂}
+-- A call record whose cells are read encodes the call that it encoded, and so do all records of a list.
+use mathlib.Core.Path.{_≡_, _∙_, refl, sym, ap}
 use mathlib.Core.Bool.{Bool, true, false}
 use mathlib.Core.List.{List, [], _∷_, _++_}
-use Prim.Native.Nat.{ℕ, zero, suc, _+_, _*_, _/_, _%_, _≤_, _<_}
+use Prim.Native.Nat.{ℕ, zero, suc, _+_, _*_, _%_, _≤_, _<_}
 use native.Mathlib.Omega.{arith}
-use lib.Dec.{ltb, eqb}
+use lib.Dec.{eqb}
 use lib.ListN.{length, take, drop, getD, length-append, length-take, length-drop}
 use lib.Seq.{take-at, drop-at, drop-drop}
 use Rattle.field.specs.Modulus.{P}
-use Rattle.field.specs.Cells.{read, cellAt, reduced}
+use Rattle.field.specs.Cells.{read, cellAt}
 use Rattle.field.proofs.CellLaws.{read-twice}
-use Rattle.groups.specs.Answer.{Answer, accepted, refused, andThen, pick}
-use Rattle.groups.specs.Words.{wordAt, readWord}
-use Rattle.records.specs.declared.continuation.StoredValues.{StoredValues}
-use Rattle.records.specs.declared.continuation.ContextInfo.{ContextInfo}
-use Rattle.records.specs.declared.continuation.Continuation.{Continuation}
-use Rattle.records.specs.declared.continuation.Captured.{Captured}
-use Rattle.records.specs.declared.state.StackState.{StackState}
-use Rattle.records.specs.Captured.{readInfo, readCaptured}
-use Rattle.records.specs.CallRecords.{Call, stores, finishes, of32, conditionIn, calleeIn, infoIn, resumeIn, respanIn, continuationOn, continuationIn, namesNothing, storedInRecord, systemIn, stackIn, registersIn, finishIn, storing, callIn, recordAt}
-use Rattle.reductions.specs.Inputs.{readSystemState, readStackState, readValues, readCall, readAnswer, readPlaces, storingCell, finishCell, readRecord, readRecords, readAllRecords}
+use Rattle.groups.specs.Answer.{pick}
+use Rattle.groups.specs.Words.{wordAt}
+use Rattle.records.specs.CallRecords.{conditionIn, calleeIn, infoIn, resumeIn, respanIn, continuationOn, continuationIn, namesNothing, storedInRecord, systemIn, stackIn, registersIn, finishIn, storing, callIn, recordAt}
+use Rattle.reductions.specs.Inputs.{readPlaces, storingCell, finishCell, readRecord, readRecords}
 
 -- ONE PLACE
 
@@ -77,47 +71,13 @@ module _ (r : List ℕ) where
   unfolding calleeIn
   callee-same = rw (place-read storingCell r 0 7, word-same storingCell r 8)
 
-  info-parts : (present : Bool) (depth : Answer ℕ) (x y : ℕ) → x % P ≡ y % P →
-      readAnswer readInfo (pick present (andThen depth (λ d. accepted (ContextInfo.Is (record { «stack_depth» = d; «next_overflow_addr» = x })))) (accepted ContextInfo.Absent))
-      ≡ readAnswer readInfo (pick present (andThen depth (λ d. accepted (ContextInfo.Is (record { «stack_depth» = d; «next_overflow_addr» = y })))) (accepted ContextInfo.Absent))
-  info-parts true (accepted d) x y e = rw e
-  info-parts true (refused n) x y e = refl
-  info-parts false depth x y e = refl
-
-  info-same : readAnswer readInfo (infoIn stored) ≡ readAnswer readInfo (infoIn r)
+  info-same : infoIn stored ≡ infoIn r
   unfolding infoIn
-  info-same =
-      rw (place-read storingCell r 0 12, place-read storingCell r 0 13)
-      (info-parts (eqb (getD r 12 0) 1) (of32 23 (getD r 13 0)) (getD stored 14 0) (getD r 14 0) (rw (place-read storingCell r 0 14) (read-twice (getD r 14 0))))
+  info-same = rw (place-read storingCell r 0 12, place-read storingCell r 0 13, cell-same storingCell r 14)
 
--- the values that are stored, by the parts of a record
-abbrev valuesOf : List ℕ → Continuation → ContextInfo → StoredValues
-valuesOf r continuation info = record {
-  continuation = continuation;
-  «is_loop_body» = eqb (getD r 5 0) 1;
-  captured = record { condition = conditionIn r; callee = calleeIn r; info = info };
-}
-
-values-parts : (r : List ℕ) (continuation : Continuation) (wrong : Bool) (a b : Answer ContextInfo) → readAnswer readInfo a ≡ readAnswer readInfo b →
-    readAnswer readValues (andThen a (λ info. pick wrong (refused 23) (accepted (valuesOf r continuation info))))
-    ≡ readAnswer readValues (andThen b (λ info. pick wrong (refused 23) (accepted (valuesOf r continuation info))))
-unfolding readValues readCaptured
-values-parts r continuation true (accepted x) (accepted y) e = refl
-values-parts r continuation false (accepted x) (accepted y) e = let h : readInfo x ≡ readInfo y = cc in rw h
-values-parts r continuation wrong (accepted x) (refused n) e = cc
-values-parts r continuation wrong (refused n) (accepted y) e = cc
-values-parts r continuation wrong (refused n) (refused m) e = cc
-
-then-read : {A B : Type 0} (g : B → B) (a : Answer A) (f h : A → Answer B) → ((x : A) → readAnswer g (f x) ≡ readAnswer g (h x)) → readAnswer g (andThen a f) ≡ readAnswer g (andThen a h)
-then-read g (accepted x) f h e = e x
-then-read g (refused n) f h e = refl
-
-stored-same : (r : List ℕ) → readAnswer readValues (storedInRecord (readPlaces storingCell 0 r)) ≡ readAnswer readValues (storedInRecord r)
-unfolding storedInRecord
-stored-same r =
-    rw (continuation-same r, nothing-same r, condition-same r, callee-same r, place-read storingCell r 0 5)
-    (then-read readValues (continuationIn r) _ _ (λ continuation.
-    values-parts r continuation (namesNothing r) (infoIn (readPlaces storingCell 0 r)) (infoIn r) (info-same r)))
+  stored-same : storedInRecord stored ≡ storedInRecord r
+  unfolding storedInRecord
+  stored-same = rw (continuation-same, info-same, nothing-same, condition-same, callee-same, place-read storingCell r 0 5)
 
 -- A FINISH
 
@@ -133,35 +93,20 @@ module _ (r : List ℕ) where
   unfolding registersIn
   registers-same = rw (place-read finishCell r 0 0, word-same finishCell r 26, word-same finishCell r 30)
 
-  top-place : (k : ℕ) → getD finished k 0 % P ≡ getD r k 0 % P
-  top-place k = rw (place-read finishCell r 0 k) (picked (finishCell (0 + k)) (getD r k 0))
+  stack-same : (depth : ℕ) → stackIn finished depth ≡ stackIn r depth
+  unfolding stackIn
+  stack-same depth = simp (cell-same finishCell r)
 
-  stack-same : (depth : ℕ) → readStackState (stackIn finished depth) ≡ readStackState (stackIn r depth)
-  unfolding readStackState stackIn reduced
-  stack-same depth = simp top-place
-
--- the call of a finish, by its parts
-finish-same : (r : List ℕ) → readAnswer readCall (finishIn (readPlaces finishCell 0 r)) ≡ readAnswer readCall (finishIn r)
-unfolding finishIn readCall
-finish-same r =
-    rw (system-same r, registers-same r, place-read finishCell r 0 24, place-read finishCell r 0 1)
-    (then-read readCall (systemIn r) _ _ (λ system.
-    then-read readCall (of32 23 (getD r 24 0)) _ _ (λ depth.
-    then-read readCall (registersIn r) _ _ (λ registers. unfold readCall in rw (stack-same r depth)))))
+  finish-same : finishIn finished ≡ finishIn r
+  unfolding finishIn
+  finish-same = rw (system-same, registers-same, place-read finishCell r 0 24, place-read finishCell r 0 1) (simp stack-same)
 
 -- A RECORD
 
-storing-call : (a b : Answer StoredValues) → readAnswer readValues a ≡ readAnswer readValues b → readAnswer readCall (storing a) ≡ readAnswer readCall (storing b)
-unfolding readCall
-storing-call (accepted x) (accepted y) e = let h : readValues x ≡ readValues y = cc in rw h
-storing-call (accepted x) (refused n) e = cc
-storing-call (refused n) (accepted y) e = cc
-storing-call (refused n) (refused m) e = cc
-
 by-first : (isStoring : Bool) (r : List ℕ) →
-    readAnswer readCall (pick isStoring (storing (storedInRecord (readPlaces (pick isStoring storingCell finishCell) 0 r))) (finishIn (readPlaces (pick isStoring storingCell finishCell) 0 r)))
-    ≡ readAnswer readCall (pick isStoring (storing (storedInRecord r)) (finishIn r))
-by-first true r = storing-call (storedInRecord (readPlaces storingCell 0 r)) (storedInRecord r) (stored-same r)
+    pick isStoring (storing (storedInRecord (readPlaces (pick isStoring storingCell finishCell) 0 r))) (finishIn (readPlaces (pick isStoring storingCell finishCell) 0 r))
+    ≡ pick isStoring (storing (storedInRecord r)) (finishIn r)
+by-first true r = ap storing (stored-same r)
 by-first false r = finish-same r
 
 -- number 0 is a cell of neither
@@ -170,7 +115,7 @@ first-same true r = place-read storingCell r 0 0
 first-same false r = place-read finishCell r 0 0
 
 -- the call that a record encodes
-pub call-reduced : (r : List ℕ) → readAnswer readCall (callIn (readRecord r)) ≡ readAnswer readCall (callIn r)
+pub call-reduced : (r : List ℕ) → callIn (readRecord r) ≡ callIn r
 unfolding callIn readRecord
 call-reduced r = rw (first-same (eqb (getD r 0 0) 0) r) (by-first (eqb (getD r 0 0) 0) r)
 

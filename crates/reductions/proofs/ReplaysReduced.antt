@@ -3,7 +3,7 @@
 use mathlib.Core.Path.{_≡_, _∙_, refl, sym, ap, ap₂}
 use mathlib.Core.Bool.{Bool, true, false}
 use mathlib.Core.List.{List}
-use Prim.Native.Nat.{ℕ, zero, suc, _+_, _*_, _/_, _%_, _≤_, _<_}
+use Prim.Native.Nat.{ℕ, zero, suc, _*_, _/_, _%_, _≤_, _<_}
 use native.Mathlib.Omega.{arith}
 use lib.Dec.{eqb}
 use lib.ListN.{length, take, drop}
@@ -18,12 +18,10 @@ use Rattle.records.specs.Addresses.{Queues, readState}
 use Rattle.records.specs.CallRecords.{Call, stores, finishes, callIn, recordAt}
 use Rattle.rows.specs.declared.tracer.CoreTraceGenerationTracer.{CoreTraceGenerationTracer}
 use Rattle.rows.specs.declared.directory.Parts.{Parts}
-use Rattle.rows.specs.declared.calls.Replayed.{Replayed}
-use Rattle.rows.specs.Scans.{scanOf}
-use Rattle.rows.specs.Cycles.{fresh, storing, storedIn, keeping, cycleWith, tracerAfter, fragmentAfter, finalState}
-use Rattle.rows.specs.Calls.{window, forestIn, partsAt, Setting, setting, forestOf, refusing, callDone, callWritten, through, written, ending, builtCells, nextState, nextPositions, told, scanned, replayed, replayedFragment}
-use Rattle.reductions.specs.Inputs.{readForest, readQueues, readTracer, readCall, readAnswer, readRecord, readRecords, readAllRecords}
-use Rattle.reductions.proofs.StatesRead.{IsRead, read-is, cycle-with-read, after-read}
+use Rattle.rows.specs.Cycles.{fresh, storing, storedIn, keeping, finalState}
+use Rattle.rows.specs.Calls.{window, forestIn, partsAt, Setting, setting, forestOf, refusing, callDone, callWritten, through, written, ending, nextState, nextPositions, told, scanned, replayed, replayedFragment}
+use Rattle.reductions.specs.Inputs.{readForest, readQueues, readTracer, readCall, readAnswer, readAllRecords}
+use Rattle.reductions.proofs.StatesRead.{IsRead, read-is, read-moved, cycle-with-moves, after-moves}
 use Rattle.reductions.proofs.CyclesReduced.{cycle-with-reduced, same-tracer, same-fragment, tracer-twice, storing-reduced, fresh-reduced, final-reduced}
 use Rattle.reductions.proofs.RecordsReduced.{call-reduced, records-length, record-reduced}
 
@@ -94,24 +92,24 @@ module _ (s : Setting) (records : List ℕ) where
   enough : 32 * (length records / 32) ≤ length records
   enough = omega arith
 
-  call-same : (k : ℕ) → k < length records / 32 → readAnswer readCall (callIn (recordAt given k)) ≡ readAnswer readCall (callIn (recordAt records k))
-  call-same k h = ap (λ (r : List ℕ). readAnswer readCall (callIn r)) (record-reduced (length records / 32) k records h enough) ∙ call-reduced (recordAt records k)
+  call-same : (k : ℕ) → k < length records / 32 → callIn (recordAt given k) ≡ callIn (recordAt records k)
+  call-same k h = ap callIn (record-reduced (length records / 32) k records h enough) ∙ call-reduced (recordAt records k)
 
-  -- a tracer that is the same once read, and a call that is
-  step-done : (u t : CoreTraceGenerationTracer) (a b : Answer Call) → readTracer u ≡ readTracer t → readAnswer readCall a ≡ readAnswer readCall b →
+  -- a tracer that is the same once read, and the same call
+  step-done : (u t : CoreTraceGenerationTracer) (a b : Answer Call) → readTracer u ≡ readTracer t → a ≡ b →
       readTracer (callDone (readSetting s) u a) ≡ readTracer (callDone s t b)
   step-done u t a b e h =
       sym (done-reduced (readSetting s) u a)
       ∙ ap (λ (x : Setting). readTracer (callDone x (readTracer u) (readAnswer readCall a))) setting-twice
-      ∙ ap₂ (λ (x : CoreTraceGenerationTracer) (y : Answer Call). readTracer (callDone (readSetting s) x y)) e h
+      ∙ ap₂ (λ (x : CoreTraceGenerationTracer) (y : Answer Call). readTracer (callDone (readSetting s) x (readAnswer readCall y))) e h
       ∙ done-reduced s t b
 
-  step-written : (u t : CoreTraceGenerationTracer) (a b : Answer Call) (l m : List ℕ) → readTracer u ≡ readTracer t → readAnswer readCall a ≡ readAnswer readCall b → l ≡ m →
+  step-written : (u t : CoreTraceGenerationTracer) (a b : Answer Call) (l m : List ℕ) → readTracer u ≡ readTracer t → a ≡ b → l ≡ m →
       callWritten (readSetting s) u a l ≡ callWritten s t b m
   step-written u t a b l m e h same =
       sym (written-reduced (readSetting s) u a l)
       ∙ ap (λ (x : Setting). callWritten x (readTracer u) (readAnswer readCall a) l) setting-twice
-      ∙ ap₂ (λ (x : CoreTraceGenerationTracer) (y : Answer Call). callWritten (readSetting s) x y l) e h
+      ∙ ap₂ (λ (x : CoreTraceGenerationTracer) (y : Answer Call). callWritten (readSetting s) x (readAnswer readCall y) l) e h
       ∙ written-reduced s t b l ∙ ap (callWritten s t b) same
 
   through-reduced : (t : CoreTraceGenerationTracer) (n : ℕ) → n ≤ length records / 32 → readTracer (through (readSetting s) given t n) ≡ readTracer (through s records t n)
@@ -142,7 +140,7 @@ unfolding callDone storedIn
 done-read s t (refused n) e = refusing-read n t e
 done-read s t (accepted (stores values)) e = pick-read (eqb (t .refusal) 0) (storing t values) t e e
 done-read s t (accepted (finishes k system stack registers)) e =
-    after-read system stack t _ e (cycle-with-read (s .scan) (s .profile) (forestOf s k) (s .queues) stack registers (s .cells) t e)
+    read-moved (t .state) _ (after-moves system stack t _ (cycle-with-moves (s .scan) (s .profile) (forestOf s k) (s .queues) stack registers (s .cells) t)) e
 
 through-read : (s : Setting) (records : List ℕ) (t : CoreTraceGenerationTracer) (n : ℕ) → IsRead (t .state) → IsRead (through s records t n .state)
 unfolding through

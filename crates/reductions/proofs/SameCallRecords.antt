@@ -2,12 +2,13 @@
 -- call. What it was refused by may have changed: a clk, ctx or depth over 32 bits is 23 and no longer 1.
 use mathlib.Core.Path.{_≡_, _∙_, refl, sym, ap, subst}
 use mathlib.Core.Bool.{Bool, true, false, _||_}
-use mathlib.Core.List.{List, _∷_}
-use Prim.Native.Nat.{ℕ, _≤_}
+use mathlib.Core.List.{List, [], _∷_, _++_}
+use Prim.Native.Nat.{ℕ, _≤_, _<_}
 use native.Mathlib.Omega.{arith}
 use borrow.Author.Tests.{eqb-true, ltb-true, ne-eqb}
 use lib.Dec.{ltb, eqb}
 use lib.ListN.{getD}
+use Rattle.field.specs.Modulus.{P}
 use Rattle.field.specs.Cells.{read, cellAt}
 use Rattle.groups.specs.Answer.{Answer, accepted, refused, andThen, pick}
 use Rattle.groups.specs.Words.{wordAt, readWord}
@@ -29,9 +30,9 @@ use Rattle.records.specs.CallRecords.{Call, stores, finishes, of32, conditionIn
 use Rattle.passes.specs.Passes.{wordIn}
 use Rattle.reductions.specs.Below.{Below}
 use Rattle.reductions.specs.Inputs.{readAnswer}
-use Rattle.reductions.specs.BeforeN2.{registerCells, calleeCells, infoCells, stateCells, calleeInBefore, infoInBefore, continuationInBefore, storedInRecordBefore, systemInBefore, registersInBefore, finishInBefore, callInBefore, callCells, toldInfoBefore, toldSystemBefore}
+use Rattle.reductions.specs.BeforeN2.{registerCells, calleeCells, infoCells, stateCells, calleeInBefore, infoInBefore, continuationInBefore, storedInRecordBefore, systemInBefore, stackInBefore, registersInBefore, finishInBefore, callInBefore, callCells, toldInfoBefore, toldSystemBefore}
 use Rattle.reductions.proofs.Accepted.{never, came, passed}
-use Rattle.reductions.proofs.SameCells.{below-both, same-wordAt, same-readRegisters}
+use Rattle.reductions.proofs.SameCells.{below-at, below-both, same-cellAt, same-wordAt, same-readRegisters}
 
 -- a number of 32 bits is one whatever refuses it
 same-of32 : (m n x y : ℕ) → of32 m x ≡ accepted y → of32 n x ≡ accepted y
@@ -45,17 +46,21 @@ same-of32 m n x y e = by (ltb x 4294967296) e
 -- A STORING
 
 -- the captured info
-pub same-infoIn : (r : List ℕ) (info : ContextInfo) → infoInBefore r ≡ accepted info → infoIn r ≡ accepted info
+pub same-infoIn : (r : List ℕ) (info : ContextInfo) → infoInBefore r ≡ accepted info → Below (infoCells info) → infoIn r ≡ accepted info
 unfolding infoIn infoInBefore
-same-infoIn r info e = by (eqb (getD r 12 0) 1) e
+same-infoIn r info e h = by (eqb (getD r 12 0) 1) e
   where
-    is : ℕ → Answer ContextInfo
-    is depth = accepted (ContextInfo.Is (record { «stack_depth» = depth; «next_overflow_addr» = getD r 14 0 }))
+    is : ℕ → ℕ → ContextInfo
+    is address depth = ContextInfo.Is (record { «stack_depth» = depth; «next_overflow_addr» = address })
 
     by : (t : Bool)
-        → pick t (andThen (of32 1 (getD r 13 0)) is) (accepted ContextInfo.Absent) ≡ accepted info
-        → pick t (andThen (of32 23 (getD r 13 0)) is) (accepted ContextInfo.Absent) ≡ accepted info
-    by true e = let c = came (of32 1 (getD r 13 0)) is info e in rw (same-of32 1 23 (getD r 13 0) (c .value) (c .first)) (c .then)
+        → pick t (andThen (of32 1 (getD r 13 0)) (λ depth. accepted (is (getD r 14 0) depth))) (accepted ContextInfo.Absent) ≡ accepted info
+        → pick t (andThen (of32 23 (getD r 13 0)) (λ depth. accepted (is (cellAt r 14) depth))) (accepted ContextInfo.Absent) ≡ accepted info
+    by true e =
+        let c = came (of32 1 (getD r 13 0)) (λ depth. accepted (is (getD r 14 0) depth)) info e in
+        let known : is (getD r 14 0) (c .value) ≡ info = cc (c .then) in
+        let small : Below (getD r 14 0 ∷ []) = subst (λ (i : ContextInfo). Below (infoCells i)) (sym known) h in
+        rw (same-of32 1 23 (getD r 13 0) (c .value) (c .first), same-cellAt r 14 (below-at (getD r 14 0 ∷ []) 0 small)) (c .then)
     by false e = e
 
 -- a number that names no kind is none of 1 to 10
@@ -113,15 +118,16 @@ same-calleeIn r h = by (eqb (getD r 7 0) 1) h
 
 -- the values of a storing
 pub same-storedInRecord : (r : List ℕ) (values : StoredValues)
-    → storedInRecordBefore r ≡ accepted values → Below (calleeCells (values .captured .callee)) → storedInRecord r ≡ accepted values
+    → storedInRecordBefore r ≡ accepted values → Below (calleeCells (values .captured .callee) ++ infoCells (values .captured .info)) → storedInRecord r ≡ accepted values
 unfolding storedInRecord storedInRecordBefore
 same-storedInRecord r values e h =
     let a = came (infoInBefore r) (λ info. andThen (continuationInBefore r) (λ c. checked (all c info))) values e in
     let b = came (continuationInBefore r) (λ c. checked (all c (a .value))) values (a .then) in
     let same = passed (namesNothing r) 23 (accepted (all (b .value) (a .value))) values (b .then) in
     let is : all (b .value) (a .value) ≡ values = cc in
-    let small : Below (calleeCells (calleeInBefore r)) = subst (λ (v : StoredValues). Below (calleeCells (v .captured .callee))) (sym is) h in
-    rw (same-continuationIn r (b .value) (b .first), same-infoIn r (a .value) (a .first), same-calleeIn r small) (b .then)
+    let (callee, info) = below-both (calleeCells (calleeInBefore r)) (infoCells (a .value))
+    (subst (λ (v : StoredValues). Below (calleeCells (v .captured .callee) ++ infoCells (v .captured .info))) (sym is) h) in
+    rw (same-continuationIn r (b .value) (b .first), same-infoIn r (a .value) (a .first) info, same-calleeIn r callee) (b .then)
   where
     all : Continuation → ContextInfo → StoredValues
     all c info = record {
@@ -190,6 +196,32 @@ unfolding registersIn registersInBefore wordAt cellAt
 same-registersIn r registers e h =
     read-many (getD r 0 0) (wordIn r 26) (wordIn r 30) ∙ ap (readAnswer readRegisters) e ∙ ap accepted (same-readRegisters registers h)
 
+-- the stack state
+pub same-stackIn : (r : List ℕ) (depth : ℕ) → Below (stackInBefore r depth .«overflow_addr» ∷ cells16 (stackInBefore r depth .«stack_top»)) → stackIn r depth ≡ stackInBefore r depth
+unfolding stackIn stackInBefore
+same-stackIn r depth h =
+    let stack = stackInBefore r depth in
+    let at : (i : ℕ) → getD (stack .«overflow_addr» ∷ cells16 (stack .«stack_top»)) i 0 < P = λ i. below-at (stack .«overflow_addr» ∷ cells16 (stack .«stack_top»)) i h in
+    rw (
+      same-cellAt r 25 (at 0),
+      same-cellAt r 8 (at 1),
+      same-cellAt r 9 (at 2),
+      same-cellAt r 10 (at 3),
+      same-cellAt r 11 (at 4),
+      same-cellAt r 12 (at 5),
+      same-cellAt r 13 (at 6),
+      same-cellAt r 14 (at 7),
+      same-cellAt r 15 (at 8),
+      same-cellAt r 16 (at 9),
+      same-cellAt r 17 (at 10),
+      same-cellAt r 18 (at 11),
+      same-cellAt r 19 (at 12),
+      same-cellAt r 20 (at 13),
+      same-cellAt r 21 (at 14),
+      same-cellAt r 22 (at 15),
+      same-cellAt r 23 (at 16),
+    )
+
 -- a finish
 pub same-finishIn : (r : List ℕ) (c : Call) → finishInBefore r ≡ accepted c → Below (callCells c) → finishIn r ≡ accepted c
 unfolding finishIn finishInBefore callCells stateCells
@@ -200,17 +232,17 @@ same-finishIn r c e h =
     go (x .value) (y .value) (z .value) (x .first) (y .first) (z .first) (z .then)
   where
     all : SystemState → ℕ → OperationHelperRegisters → Answer Call
-    all system depth registers = accepted (finishes (getD r 1 0) system (stackIn r depth) registers)
+    all system depth registers = accepted (finishes (getD r 1 0) system (stackInBefore r depth) registers)
 
     go : (system : SystemState) (depth : ℕ) (registers : OperationHelperRegisters)
         → systemInBefore r ≡ accepted system → of32 1 (getD r 24 0) ≡ accepted depth → registersInBefore r ≡ accepted registers
         → all system depth registers ≡ accepted c → finishIn r ≡ accepted c
     go system depth registers a b d f =
-        let is : finishes (getD r 1 0) system (stackIn r depth) registers ≡ c = cc in
-        let (states, cells) = below-both (stateCells system (stackIn r depth)) (registerCells registers) (subst (λ (x : Call). Below (callCells x)) (sym is) h) in
-        let stack = stackIn r depth in
-        let word = below-both (wordCells (system .«fn_hash»)) (stack .«overflow_addr» ∷ cells16 (stack .«stack_top»)) states .0 in
-        rw (same-systemIn r system a word, same-of32 1 23 (getD r 24 0) depth b, same-registersIn r registers d cells) f
+        let is : finishes (getD r 1 0) system (stackInBefore r depth) registers ≡ c = cc in
+        let (states, cells) = below-both (stateCells system (stackInBefore r depth)) (registerCells registers) (subst (λ (x : Call). Below (callCells x)) (sym is) h) in
+        let stack = stackInBefore r depth in
+        let word = below-both (wordCells (system .«fn_hash»)) (stack .«overflow_addr» ∷ cells16 (stack .«stack_top»)) states in
+        rw (same-systemIn r system a (word .0), same-of32 1 23 (getD r 24 0) depth b, same-registersIn r registers d cells, same-stackIn r depth (word .1)) f
 
 -- A RECORD
 
@@ -221,8 +253,7 @@ same-callIn r c e h = by (eqb (getD r 0 0) 0) e
   where
     stored : (values : StoredValues) → storedInRecordBefore r ≡ accepted values → stores values ≡ c → storing (storedInRecord r) ≡ accepted c
     stored values a is =
-        let small = below-both (calleeCells (values .captured .callee)) (infoCells (values .captured .info)) (subst (λ (x : Call). Below (callCells x)) (sym is) h) .0 in
-        rw (same-storedInRecord r values a small, is)
+        rw (same-storedInRecord r values a (subst (λ (x : Call). Below (callCells x)) (sym is) h), is)
 
     by : (t : Bool) → pick t (storing (storedInRecordBefore r)) (finishInBefore r) ≡ accepted c → pick t (storing (storedInRecord r)) (finishIn r) ≡ accepted c
     by true e =

@@ -306,8 +306,15 @@ pub same-read16 : (t : List ℕ) → Below (cells16 t) → read16 t ≡ cells16 
 unfolding cellAt reduced
 same-read16 t h = same-reduced (cells16 t) h
 
+-- the first 16 of such cells
+pub below-16 : (t : List ℕ) → Below t → Below (cells16 t)
+unfolding Below
+below-16 t h =
+    let at : (i : ℕ) → getD t i 0 < P = λ i. below-at t i h in
+    (at 0, (at 1, (at 2, (at 3, (at 4, (at 5, (at 6, (at 7, (at 8, (at 9, (at 10, (at 11, (at 12, (at 13, (at 14, (at 15, tt))))))))))))))))
+
 -- and turned round
-below-reversed : (t : List ℕ) → Below (cells16 t) → Below (reversed16 t)
+pub below-reversed : (t : List ℕ) → Below (cells16 t) → Below (reversed16 t)
 unfolding Below
 below-reversed t h = omega arith
 

@@ -45,6 +45,7 @@ use Rattle.passes.proofs.Checks.{neither}
 use Rattle.reductions.specs.Below.{Below}
 use Rattle.reductions.specs.BeforeN2.{LentBelow, lentBig, calleeCells, infoCells, cycleCells, cycleBig, scanOfBefore, cycleWithBefore, cycleBefore}
 use Rattle.reductions.proofs.Accepted.{came, unrefused}
+use Rattle.reductions.proofs.CyclesReduced.{last-system, last-stack}
 use Rattle.reductions.proofs.SameCells.{below-both, below-of, of-below, same-readWord, same-read16}
 
 -- REFUSAL 1
@@ -216,21 +217,13 @@ same-readStack stack l h =
     let (a, b) = below-both (cells16 (stack .top)) (stack .b0 ∷ stack .b1 ∷ stack .h0 ∷ []) h in
     rw (same-read16 (stack .top) a, all-16 (stack .top) l, read-small (stack .b0) (b .0), read-small (stack .b1) (b .1 .0), read-small (stack .h0) (b .1 .1 .0))
 
-last-system : (t : CoreTraceGenerationTracer) → Below (systemCells (t .system)) → readSystem (lastSystem t) ≡ lastSystem t
-unfolding lastSystem readSystem noSystem
-last-system t h = by (eqb (t .rows) 0)
-  where
-    by : (b : Bool) → readSystem (pick b noSystem (t .system)) ≡ pick b noSystem (t .system)
-    by true = refl
-    by false = same-readSystem (t .system) h
+same-lastSystem : (t : CoreTraceGenerationTracer) → Below (systemCells (t .system)) → readSystem (lastSystem t) ≡ lastSystem t
+unfolding lastSystem
+same-lastSystem t h = last-system t (eqb (t .rows) 0) ∙ ap (λ (x : SystemCols). pick (eqb (t .rows) 0) noSystem x) (same-readSystem (t .system) h)
 
-last-stack : (t : CoreTraceGenerationTracer) → length (t .stack .top) ≡ 16 → Below (stackCells (t .stack)) → readStack (lastStack t) ≡ lastStack t
-unfolding lastStack readStack noStack cellAt
-last-stack t l h = by (eqb (t .rows) 0)
-  where
-    by : (b : Bool) → readStack (pick b noStack (t .stack)) ≡ pick b noStack (t .stack)
-    by true = refl
-    by false = same-readStack (t .stack) l h
+same-lastStack : (t : CoreTraceGenerationTracer) → length (t .stack .top) ≡ 16 → Below (stackCells (t .stack)) → readStack (lastStack t) ≡ lastStack t
+unfolding lastStack
+same-lastStack t l h = last-stack t (eqb (t .rows) 0) ∙ ap (λ (x : StackCols). pick (eqb (t .rows) 0) noStack x) (same-readStack (t .stack) l h)
 
 -- the final state; the stack top is an array of 16
 pub same-finalState : (t : CoreTraceGenerationTracer) → length (t .stack .top) ≡ 16 → Below (systemCells (t .system) ++ stackCells (t .stack)) → finalState t ≡
@@ -240,7 +233,7 @@ pub same-finalState : (t : CoreTraceGenerationTracer) → length (t .stack .top)
 unfolding finalState
 same-finalState t l h =
     let (a, b) = below-both (systemCells (t .system)) (stackCells (t .stack)) h in
-    rw (last-system t a, last-stack t l b)
+    rw (same-lastSystem t a, same-lastStack t l b)
 
 -- REPLAY
 

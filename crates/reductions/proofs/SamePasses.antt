@@ -22,7 +22,7 @@ use Rattle.reductions.specs.BeforeN2.{rowsBig}
 use Rattle.reductions.proofs.CellsBelow.{below-app, below-take, below-drop}
 use Rattle.reductions.proofs.FoundBelow.{below-decoder}
 use Rattle.reductions.proofs.MadeBelow.{below-control, below-none}
-use Rattle.reductions.proofs.SameCells.{below-at, below-of, of-below, same-cellAt, same-reduced}
+use Rattle.reductions.proofs.SameCells.{below-at, below-16, below-reversed, below-of, of-below, same-cellAt, same-reduced}
 
 -- REFUSAL 1
 
@@ -67,16 +67,14 @@ same-opcodeOf row h = rw (same-reduced (take 7 (drop 7 row)) h)
 
 -- PASS 1
 
-below-reversed : (top : List ℕ) → Below top → Below (reversed16 top ++ (16 ∷ 0 ∷ 0 ∷ []))
+below-first : (top : List ℕ) → Below top → Below (reversed16 top ++ (16 ∷ 0 ∷ 0 ∷ []))
 unfolding Below
-below-reversed top h =
-    let at : (i : ℕ) → getD top i 0 < P = λ i. below-at top i h in
-    (at 15, (at 14, (at 13, (at 12, (at 11, (at 10, (at 9, (at 8, (at 7, (at 6, (at 5, (at 4, (at 3, (at 2, (at 1, (at 0, (omega arith)))))))))))))))))
+below-first top h = below-app (reversed16 top) (16 ∷ 0 ∷ 0 ∷ []) (below-reversed top (below-16 top h)) (omega arith)
 
 -- row 0
 pub same-firstRow : (top row : List ℕ) → Below top → firstRow top row ≡ withSides (take 6 row) (reversed16 top ++ (16 ∷ 0 ∷ 0 ∷ [])) row
 unfolding firstRow
-same-firstRow top row h = rw (same-reduced (reversed16 top ++ (16 ∷ 0 ∷ 0 ∷ [])) (below-reversed top h))
+same-firstRow top row h = rw (same-reduced (reversed16 top ++ (16 ∷ 0 ∷ 0 ∷ [])) (below-first top h))
 
 -- the built cells of a fragment; of no fragment there are none, as before
 pub same-builtOf : (n : ℕ) (built : List ℕ) → Below (take 25 built) → builtOf (suc n) built ≡ take 25 built ∷ builtOf n (drop 25 built)

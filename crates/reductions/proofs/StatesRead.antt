@@ -1,7 +1,8 @@
--- What a cycle leaves of the address state is below p where it was before: addresses come from queues, which are read, or grow modulo p.
+-- What a cycle leaves of the address state: each address is as it was, or is below p, since it comes from a queue, which is read, or grows modulo p.
 use mathlib.Core.Path.{_≡_, refl, ap}
 use mathlib.Core.Bool.{Bool, true, false, not, _||_}
 use mathlib.Core.List.{List}
+use mathlib.Core.Logic.{_⊎_, inl, inr}
 use Prim.Native.Nat.{ℕ, _+_, _*_, _/_, _%_}
 use lib.Dec.{leb, ltb, eqb}
 use lib.ListN.{length}
@@ -13,7 +14,6 @@ use Rattle.groups.specs.Batches.{batchAt}
 use Rattle.groups.specs.Flags.{batchFlags}
 use Rattle.groups.specs.Contexts.{contextAtOp, contextAtBatchStart}
 use Rattle.groups.specs.Helpers.{helpersAnswer}
-use Rattle.groups.specs.declared.context.OpContext.{OpContext}
 use Rattle.groups.specs.declared.helpers.OperationHelperRegisters.{OperationHelperRegisters}
 use Rattle.records.specs.declared.ids.MastNodeId.{MastNodeId}
 use Rattle.records.specs.declared.profile.Profile.{Profile}
@@ -45,23 +45,51 @@ pub read-is : (s : DecoderState) → IsRead (readState s)
 unfolding readState
 read-is s = rw (read-twice (s .«current_addr»), read-twice (s .«parent_addr»))
 
-abbrev IsCell : ℕ → Type 0
+abbrev pub IsCell : ℕ → Type 0
 IsCell x = x % P ≡ x
 
 cell-is : (l : List ℕ) (i : ℕ) → IsCell (cellAt l i)
 cell-is l i = read-small (cellAt l i) (cell-below l i)
 
+-- the addresses of such a state
+pub current-is : (s : DecoderState) → IsRead s → IsCell (s .«current_addr»)
+unfolding readState
+current-is s e = ap (λ (x : DecoderState). x .«current_addr») e
+
+pub parent-is : (s : DecoderState) → IsRead s → IsCell (s .«parent_addr»)
+unfolding readState
+parent-is s e = ap (λ (x : DecoderState). x .«parent_addr») e
+
 of-cells : (b a : ℕ) → IsCell b → IsCell a → IsRead (record { «current_addr» = b; «parent_addr» = a })
 unfolding readState
 of-cells b a h k = rw (h, k)
 
-parent-is : (s : DecoderState) → IsRead s → IsCell (s .«parent_addr»)
-unfolding readState
-parent-is s e = ap (λ (x : DecoderState). x .«parent_addr») e
+-- each address is the one before or is below p: "an accepted cycle hands back what it sets below p; fields that a cycle does not set .. are as
+-- they were given"
+pub record Moved (before after : DecoderState) : Type 0 where
+  pub current : (after .«current_addr» ≡ before .«current_addr») ⊎ IsCell (after .«current_addr»)
+  pub parent : (after .«parent_addr» ≡ before .«parent_addr») ⊎ IsCell (after .«parent_addr»)
 
-respan-read : (step : ℕ) (s : DecoderState) → IsRead s → IsRead (respanStep step s)
+pub unmoved : (s : DecoderState) → Moved s s
+unmoved s = record { current = inl refl; parent = inl refl }
+
+-- where both are set
+moved-read : (s t : DecoderState) → IsRead t → Moved s t
+moved-read s t e = record { current = inr (current-is t e); parent = inr (parent-is t e) }
+
+respan-moved : (step : ℕ) (s : DecoderState) → Moved s (respanStep step s)
 unfolding respanStep
-respan-read step s e = of-cells ((s .«current_addr» + step) % P) (s .«parent_addr») (read-twice (s .«current_addr» + step)) (parent-is s e)
+respan-moved step s = record { current = inr (read-twice (s .«current_addr» + step)); parent = inl refl }
+
+kept-cell : (x y : ℕ) → (y ≡ x) ⊎ IsCell y → IsCell x → IsCell y
+kept-cell x y (inl e) h = rw e h
+kept-cell x y (inr k) h = k
+
+-- below p before, below p after
+pub read-moved : (s t : DecoderState) → Moved s t → IsRead s → IsRead t
+read-moved s t m e =
+    of-cells (t .«current_addr») (t .«parent_addr») (kept-cell (s .«current_addr») (t .«current_addr») (m .current) (current-is s e))
+    (kept-cell (s .«parent_addr») (t .«parent_addr») (m .parent) (parent-is s e))
 
 -- ANSWERS
 
@@ -89,97 +117,97 @@ entry-is : (n : ℕ) (queue : List ℕ) (at : ℕ) → Gives IsCell (entryAt n q
 unfolding entryAt
 entry-is n queue at = pick-gives IsCell (ltb at (length queue)) (accepted (cellAt queue at)) (refused n) (cell-is queue at) tt
 
-started-read : (addresses parents : List ℕ) (at : Positions) → Gives IsRead (startedAt addresses parents at)
+pub started-read : (addresses parents : List ℕ) (at : Positions) → Gives IsRead (startedAt addresses parents at)
 unfolding startedAt
 started-read addresses parents at =
     then-gives IsCell IsRead (entryAt 20 addresses (at .addresses)) _ (entry-is 20 addresses (at .addresses)) (λ b h.
     then-gives IsCell IsRead (entryAt 21 parents (at .parents)) _ (entry-is 21 parents (at .parents)) (λ a k. of-cells b a h k))
 
-abbrev EndsRead : NodeEndData → Type 0
+abbrev pub EndsRead : NodeEndData → Type 0
 EndsRead entry = IsRead (stateAfterEnd entry)
 
-ended-read : (ends : List ℕ) (at : ℕ) → Gives EndsRead (endAt ends at)
+pub ended-read : (ends : List ℕ) (at : ℕ) → Gives EndsRead (endAt ends at)
 unfolding endAt
 ended-read ends at =
     pick-gives EndsRead (ltb at (length ends / 3)) _ (refused 22) (of-cells (cellAt ends (3 * at + 1)) (cellAt ends (3 * at + 2)) (cell-is ends (3 * at + 1)) (cell-is ends (3 * at + 2))) tt
 
 -- ROWS
 
--- a row that leaves such a state
-abbrev pub RowRead : MadeRow → Type 0
-RowRead m = IsRead (m .state)
+-- a row behind an address state
+abbrev pub RowMoved : DecoderState → MadeRow → Type 0
+RowMoved s m = Moved s (m .state)
 
-kind-read : (nodes digests batches groups : List ℕ) (p : Profile) (node : Node) (captured : Captured) (here : Place) → IsRead (here .state) →
-    Gives RowRead (startKind nodes digests batches groups p node captured here)
+kind-moves : (nodes digests batches groups : List ℕ) (p : Profile) (node : Node) (captured : Captured) (s : DecoderState) (here : Place) → Moved s (here .state) →
+    Gives (RowMoved s) (startKind nodes digests batches groups p node captured here)
 unfolding startKind startBlock startTwo startOne startDyn startDyncall
-kind-read nodes digests batches groups p (Node.Block block) captured here e =
-    next-gives RowRead (batchAt batches groups block 0) _ (λ batch. next-gives RowRead (batchFlags (block .total)) _ (λ flags. e))
-kind-read nodes digests batches groups p (Node.Join a b) captured here e =
-    next-gives RowRead (digestAt nodes digests (a .0)) _ (λ x. next-gives RowRead (digestAt nodes digests (b .0)) _ (λ y. e))
-kind-read nodes digests batches groups p (Node.Split a b) captured here e =
-    next-gives RowRead (digestAt nodes digests (a .0)) _ (λ x. next-gives RowRead (digestAt nodes digests (b .0)) _ (λ y. e))
-kind-read nodes digests batches groups p (Node.Loop a) captured here e = next-gives RowRead (digestAt nodes digests (a .0)) _ (λ x. e)
-kind-read nodes digests batches groups p (Node.Call a) captured here e = next-gives RowRead (digestAt nodes digests (a .0)) _ (λ x. e)
-kind-read nodes digests batches groups p (Node.Syscall a) captured here e = next-gives RowRead (digestAt nodes digests (a .0)) _ (λ x. e)
-kind-read nodes digests batches groups p Node.Dyn captured here e = next-gives RowRead (calleeOf (captured .callee)) _ (λ x. e)
-kind-read nodes digests batches groups p Node.Dyncall captured here e =
-    next-gives RowRead (calleeOf (captured .callee)) _ (λ x. next-gives RowRead (infoOf (captured .info)) _ (λ y. e))
-kind-read nodes digests batches groups p Node.External captured here e = tt
+kind-moves nodes digests batches groups p (Node.Block block) captured s here e =
+    next-gives (RowMoved s) (batchAt batches groups block 0) _ (λ batch. next-gives (RowMoved s) (batchFlags (block .total)) _ (λ flags. e))
+kind-moves nodes digests batches groups p (Node.Join a b) captured s here e =
+    next-gives (RowMoved s) (digestAt nodes digests (a .0)) _ (λ x. next-gives (RowMoved s) (digestAt nodes digests (b .0)) _ (λ y. e))
+kind-moves nodes digests batches groups p (Node.Split a b) captured s here e =
+    next-gives (RowMoved s) (digestAt nodes digests (a .0)) _ (λ x. next-gives (RowMoved s) (digestAt nodes digests (b .0)) _ (λ y. e))
+kind-moves nodes digests batches groups p (Node.Loop a) captured s here e = next-gives (RowMoved s) (digestAt nodes digests (a .0)) _ (λ x. e)
+kind-moves nodes digests batches groups p (Node.Call a) captured s here e = next-gives (RowMoved s) (digestAt nodes digests (a .0)) _ (λ x. e)
+kind-moves nodes digests batches groups p (Node.Syscall a) captured s here e = next-gives (RowMoved s) (digestAt nodes digests (a .0)) _ (λ x. e)
+kind-moves nodes digests batches groups p Node.Dyn captured s here e = next-gives (RowMoved s) (calleeOf (captured .callee)) _ (λ x. e)
+kind-moves nodes digests batches groups p Node.Dyncall captured s here e =
+    next-gives (RowMoved s) (calleeOf (captured .callee)) _ (λ x. next-gives (RowMoved s) (infoOf (captured .info)) _ (λ y. e))
+kind-moves nodes digests batches groups p Node.External captured s here e = tt
 
-finished-read : (nodes digests ends : List ℕ) (end : ℕ) (id : MastNodeId) (finish : Finish) (flag : Bool) (used : Used) (here : Place) →
-    Gives RowRead (finished nodes digests ends end id finish flag used here)
+finished-moves : (nodes digests ends : List ℕ) (end : ℕ) (id : MastNodeId) (finish : Finish) (flag : Bool) (used : Used) (here : Place) →
+    Gives (RowMoved (here .state)) (finished nodes digests ends end id finish flag used here)
 unfolding finished
-finished-read nodes digests ends end id finish flag used here =
-    next-gives RowRead (nodeAt nodes digests (id .0)) _ (λ entry.
-    next-gives RowRead (entryKind finish (entry .node)) _ (λ kind.
-    then-gives EndsRead RowRead (endAt ends (here .at .ends)) _ (ended-read ends (here .at .ends)) (λ ended h. h)))
+finished-moves nodes digests ends end id finish flag used here =
+    next-gives (RowMoved (here .state)) (nodeAt nodes digests (id .0)) _ (λ entry.
+    next-gives (RowMoved (here .state)) (entryKind finish (entry .node)) _ (λ kind.
+    then-gives EndsRead (RowMoved (here .state)) (endAt ends (here .at .ends)) _ (ended-read ends (here .at .ends)) (λ ended h. moved-read (here .state) (stateAfterEnd ended) h)))
 
-repeated-read : (nodes digests : List ℕ) (repeat : ℕ) (id : MastNodeId) (here : Place) → IsRead (here .state) → Gives RowRead (repeated nodes digests repeat id here)
+repeated-moves : (nodes digests : List ℕ) (repeat : ℕ) (id : MastNodeId) (here : Place) → Gives (RowMoved (here .state)) (repeated nodes digests repeat id here)
 unfolding repeated
-repeated-read nodes digests repeat id here e =
-    next-gives RowRead (nodeAt nodes digests (id .0)) _ (λ entry.
-    next-gives RowRead (bodyOf (entry .node)) _ (λ body.
-    next-gives RowRead (digestAt nodes digests (body .0)) _ (λ digest. e)))
+repeated-moves nodes digests repeat id here =
+    next-gives (RowMoved (here .state)) (nodeAt nodes digests (id .0)) _ (λ entry.
+    next-gives (RowMoved (here .state)) (bodyOf (entry .node)) _ (λ body.
+    next-gives (RowMoved (here .state)) (digestAt nodes digests (body .0)) _ (λ digest. unmoved (here .state))))
 
-resumed-read : (f : Forest) (push : ℕ) (id : MastNodeId) (index op : ℕ) (registers : OperationHelperRegisters) (here : Place) → IsRead (here .state) →
-    Gives RowRead (resumed f push id index op registers here)
+resumed-moves : (f : Forest) (push : ℕ) (id : MastNodeId) (index op : ℕ) (registers : OperationHelperRegisters) (here : Place) →
+    Gives (RowMoved (here .state)) (resumed f push id index op registers here)
 unfolding resumed operationMade
-resumed-read f push id index op registers here e =
-    next-gives RowRead (nodeAt (f .nodes) (f .digests) (id .0)) _ (λ entry.
-    next-gives RowRead (blockOf (entry .node)) _ (λ block.
-    next-gives RowRead (batchAt (f .batches) (f .groups) block index) _ (λ batch.
-    next-gives RowRead (opcodeAt (f .ops) batch op) _ (λ opcode.
-    next-gives RowRead (contextAtOp push block (f .batches) (f .groups) index op) _ (λ found.
-    next-gives RowRead (helpersAnswer registers) _ (λ helpers. e))))))
+resumed-moves f push id index op registers here =
+    next-gives (RowMoved (here .state)) (nodeAt (f .nodes) (f .digests) (id .0)) _ (λ entry.
+    next-gives (RowMoved (here .state)) (blockOf (entry .node)) _ (λ block.
+    next-gives (RowMoved (here .state)) (batchAt (f .batches) (f .groups) block index) _ (λ batch.
+    next-gives (RowMoved (here .state)) (opcodeAt (f .ops) batch op) _ (λ opcode.
+    next-gives (RowMoved (here .state)) (contextAtOp push block (f .batches) (f .groups) index op) _ (λ found.
+    next-gives (RowMoved (here .state)) (helpersAnswer registers) _ (λ helpers. unmoved (here .state)))))))
 
-respanned-read : (nodes digests batches groups : List ℕ) (opcode step : ℕ) (id : MastNodeId) (index : ℕ) (here : Place) → IsRead (here .state) →
-    Gives RowRead (respanned nodes digests batches groups opcode step id index here)
+respanned-moves : (nodes digests batches groups : List ℕ) (opcode step : ℕ) (id : MastNodeId) (index : ℕ) (here : Place) →
+    Gives (RowMoved (here .state)) (respanned nodes digests batches groups opcode step id index here)
 unfolding respanned
-respanned-read nodes digests batches groups opcode step id index here e =
-    next-gives RowRead (nodeAt nodes digests (id .0)) _ (λ entry.
-    next-gives RowRead (blockOf (entry .node)) _ (λ block.
-    next-gives RowRead (contextAtBatchStart block batches groups index) _ (λ found. respan-read step (here .state) e)))
+respanned-moves nodes digests batches groups opcode step id index here =
+    next-gives (RowMoved (here .state)) (nodeAt nodes digests (id .0)) _ (λ entry.
+    next-gives (RowMoved (here .state)) (blockOf (entry .node)) _ (λ block.
+    next-gives (RowMoved (here .state)) (contextAtBatchStart block batches groups index) _ (λ found. respan-moved step (here .state))))
 
--- what a continuation makes leaves an address state below p where it was
-pub made-read : (f : Forest) (q : Queues) (p : Profile) (registers : OperationHelperRegisters) (c : Continuation) (flag : Bool) (captured : Captured) (here : Place) → IsRead (here .state) →
-    Gives RowRead (made f q p registers c flag captured here)
+-- what a continuation makes leaves each address as it was, or below p
+pub made-moves : (f : Forest) (q : Queues) (p : Profile) (registers : OperationHelperRegisters) (c : Continuation) (flag : Bool) (captured : Captured) (here : Place) →
+    Gives (RowMoved (here .state)) (made f q p registers c flag captured here)
 unfolding made startNode finishLoop
-made-read f q p registers (Continuation.StartNode id) flag captured here e =
-    then-gives IsRead RowRead (startedAt (q .addresses) (q .parents) (here .at)) _ (started-read (q .addresses) (q .parents) (here .at)) (λ state h.
-    next-gives RowRead (nodeAt (f .nodes) (f .digests) (id .0)) _ (λ entry.
-    kind-read (f .nodes) (f .digests) (f .batches) (f .groups) p (entry .node) captured (place state (afterStart (here .at))) h))
-made-read f q p registers (Continuation.FinishJoin id) flag captured here e = finished-read _ _ _ _ id _ flag _ here
-made-read f q p registers (Continuation.FinishSplit id) flag captured here e = finished-read _ _ _ _ id _ flag _ here
-made-read f q p registers (Continuation.FinishLoop id) flag captured here e =
-    next-gives RowRead (conditionOf (captured .condition)) _ (λ again.
-    pick-gives RowRead again _ _ (repeated-read (f .nodes) (f .digests) (p .repeat) id here e) (finished-read (f .nodes) (f .digests) (q .ends) (p .end) id Finish.Loop flag Used.Condition here))
-made-read f q p registers (Continuation.FinishCall id) flag captured here e = finished-read _ _ _ _ id _ flag _ here
-made-read f q p registers (Continuation.FinishDyn id) flag captured here e = finished-read _ _ _ _ id _ flag _ here
-made-read f q p registers (Continuation.ResumeBasicBlock id index op) flag captured here e = resumed-read f (p .push) id index op registers here e
-made-read f q p registers (Continuation.Respan id index) flag captured here e =
-    respanned-read (f .nodes) (f .digests) (f .batches) (f .groups) (p .respan) (p .step) id index here e
-made-read f q p registers (Continuation.FinishBasicBlock id) flag captured here e = finished-read _ _ _ _ id _ flag _ here
-made-read f q p registers Continuation.EnterForest flag captured here e = tt
+made-moves f q p registers (Continuation.StartNode id) flag captured here =
+    then-gives IsRead (RowMoved (here .state)) (startedAt (q .addresses) (q .parents) (here .at)) _ (started-read (q .addresses) (q .parents) (here .at)) (λ state h.
+    next-gives (RowMoved (here .state)) (nodeAt (f .nodes) (f .digests) (id .0)) _ (λ entry.
+    kind-moves (f .nodes) (f .digests) (f .batches) (f .groups) p (entry .node) captured (here .state) (place state (afterStart (here .at))) (moved-read (here .state) state h)))
+made-moves f q p registers (Continuation.FinishJoin id) flag captured here = finished-moves _ _ _ _ id _ flag _ here
+made-moves f q p registers (Continuation.FinishSplit id) flag captured here = finished-moves _ _ _ _ id _ flag _ here
+made-moves f q p registers (Continuation.FinishLoop id) flag captured here =
+    next-gives (RowMoved (here .state)) (conditionOf (captured .condition)) _ (λ again.
+    pick-gives (RowMoved (here .state)) again _ _ (repeated-moves (f .nodes) (f .digests) (p .repeat) id here) (finished-moves (f .nodes) (f .digests) (q .ends) (p .end) id Finish.Loop flag Used.Condition here))
+made-moves f q p registers (Continuation.FinishCall id) flag captured here = finished-moves _ _ _ _ id _ flag _ here
+made-moves f q p registers (Continuation.FinishDyn id) flag captured here = finished-moves _ _ _ _ id _ flag _ here
+made-moves f q p registers (Continuation.ResumeBasicBlock id index op) flag captured here = resumed-moves f (p .push) id index op registers here
+made-moves f q p registers (Continuation.Respan id index) flag captured here =
+    respanned-moves (f .nodes) (f .digests) (f .batches) (f .groups) (p .respan) (p .step) id index here
+made-moves f q p registers (Continuation.FinishBasicBlock id) flag captured here = finished-moves _ _ _ _ id _ flag _ here
+made-moves f q p registers Continuation.EnterForest flag captured here = tt
 
 -- A CYCLE
 
@@ -187,25 +215,31 @@ pub if-gives : {A : Type 0} (Q : A → Type 0) (t : Bool) (n : ℕ) (a : Answer 
 if-gives Q true n a h = tt
 if-gives Q false n a h = h
 
-pub cycle-with-read : (scan : Scan) (p : Profile) (f : Forest) (q : Queues) (stack : StackState) (registers : OperationHelperRegisters) (cells : ℕ) (t : CoreTraceGenerationTracer) → IsRead (t .state) →
-    Gives RowRead (cycleWith scan p f q stack registers cells t)
+pub cycle-with-moves : (scan : Scan) (p : Profile) (f : Forest) (q : Queues) (stack : StackState) (registers : OperationHelperRegisters) (cells : ℕ) (t : CoreTraceGenerationTracer) →
+    Gives (RowMoved (t .state)) (cycleWith scan p f q stack registers cells t)
 unfolding cycleWith
-cycle-with-read scan p f q stack registers cells t e =
-    if-gives RowRead (not (eqb (t .refusal) 0)) (t .refusal) _ (next-gives RowRead (continuationOf (t .stored)) _ (λ c.
-    if-gives RowRead (scan .big) 1 _ (if-gives RowRead (scan .«profile_wrong») 2 _ (if-gives RowRead (scan .«too_large» || fragmentWrong cells (t .rows)) 11 _
-    (if-gives RowRead (ltb (stack .«stack_depth») 16) 10 _
-    (then-gives RowRead RowRead (made f q p registers c (t .«is_loop_body») (t .captured) (place (t .state) (t .at))) _
-    (made-read f q p registers c (t .«is_loop_body») (t .captured) (place (t .state) (t .at)) e) (λ m h.
-    if-gives RowRead (leb (cells / 49) (t .rows)) 24 (accepted m) h)))))))
+cycle-with-moves scan p f q stack registers cells t =
+    let Q : MadeRow → Type 0 = RowMoved (t .state) in
+    if-gives Q (not (eqb (t .refusal) 0)) (t .refusal) _ (next-gives Q (continuationOf (t .stored)) _ (λ c.
+    if-gives Q (scan .big) 1 _ (if-gives Q (scan .«profile_wrong») 2 _ (if-gives Q (scan .«too_large» || fragmentWrong cells (t .rows)) 11 _
+    (if-gives Q (ltb (stack .«stack_depth») 16) 10 _
+    (then-gives Q Q (made f q p registers c (t .«is_loop_body») (t .captured) (place (t .state) (t .at))) _
+    (made-moves f q p registers c (t .«is_loop_body») (t .captured) (place (t .state) (t .at))) (λ m h.
+    if-gives Q (leb (cells / 49) (t .rows)) 24 (accepted m) h)))))))
 
-pub after-read : (system : SystemState) (stack : StackState) (t : CoreTraceGenerationTracer) (a : Answer MadeRow) → IsRead (t .state) → Gives RowRead a → IsRead (tracerAfter system stack t a .state)
+pub after-moves : (system : SystemState) (stack : StackState) (t : CoreTraceGenerationTracer) (a : Answer MadeRow) → Gives (RowMoved (t .state)) a → Moved (t .state) (tracerAfter system stack t a .state)
 unfolding tracerAfter
-after-read system stack t (accepted m) e h = h
-after-read system stack t (refused n) e h = e
+after-moves system stack t (accepted m) h = h
+after-moves system stack t (refused n) h = unmoved (t .state)
 
--- an accepted or refused cycle leaves an address state below p where it was
+-- a cycle on any tracer, accepted or refused
+pub cycle-moves : (p : Profile) (f : Forest) (q : Queues) (system : SystemState) (stack : StackState) (registers : OperationHelperRegisters) (cells : ℕ) (t : CoreTraceGenerationTracer) →
+    Moved (t .state) (tracerAfter system stack t (cycle p f q stack registers cells t) .state)
+unfolding cycle
+cycle-moves p f q system stack registers cells t =
+    after-moves system stack t _ (cycle-with-moves (scanOf p (f .nodes) (f .batches) (f .ops)) p f q stack registers cells t)
+
+-- so it leaves an address state below p where it was
 pub cycle-read : (p : Profile) (f : Forest) (q : Queues) (system : SystemState) (stack : StackState) (registers : OperationHelperRegisters) (cells : ℕ) (t : CoreTraceGenerationTracer) → IsRead (t .state) →
     IsRead (tracerAfter system stack t (cycle p f q stack registers cells t) .state)
-unfolding cycle
-cycle-read p f q system stack registers cells t e =
-    after-read system stack t _ e (cycle-with-read (scanOf p (f .nodes) (f .batches) (f .ops)) p f q stack registers cells t e)
+cycle-read p f q system stack registers cells t e = read-moved (t .state) _ (cycle-moves p f q system stack registers cells t) e

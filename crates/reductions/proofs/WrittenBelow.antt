@@ -1,16 +1,16 @@
 -- "Every cell that a call writes is reduced; cells it does not write stay" (N2), of the tracer, the fragment, the final state and replay.
-use mathlib.Core.Path.{_≡_, _∙_, refl, sym, ap}
+use mathlib.Core.Path.{_≡_, _∙_, refl, ap}
 use mathlib.Core.Bool.{Bool, true, false, not, _||_}
-use mathlib.Core.List.{List, [], _∷_, _++_, append-assoc}
+use mathlib.Core.List.{List, _++_}
 use Prim.Native.Nat.{ℕ, zero, suc, _+_, _-_, _*_, _/_, _%_, _<_}
 use native.Mathlib.Omega.{arith}
-use borrow.Author.Tests.{leb-false}
+use borrow.Author.Tests.{leb-false, eq-eqb}
 use lib.Dec.{leb, ltb, eqb}
 use lib.ListN.{length, take, drop, length-take, length-drop, take-append-drop}
 use lib.Seq.{take-add}
 use Rattle.field.specs.Modulus.{P}
 use Rattle.field.specs.Cells.{cellAt, reduced}
-use Rattle.field.proofs.CellLaws.{read-twice, read-small, read-below}
+use Rattle.field.proofs.CellLaws.{read-twice, read-small}
 use Rattle.groups.specs.Answer.{Answer, accepted, refused, pick}
 use Rattle.groups.specs.declared.helpers.OperationHelperRegisters.{OperationHelperRegisters}
 use Rattle.records.specs.declared.profile.Profile.{Profile}
@@ -26,8 +26,8 @@ use Rattle.rows.specs.declared.scan.Scan.{Scan}
 use Rattle.rows.specs.declared.tracer.CoreTraceGenerationTracer.{CoreTraceGenerationTracer}
 use Rattle.rows.specs.declared.tracer.TracerFinalState.{TracerFinalState}
 use Rattle.records.specs.Forests.{Forest}
-use Rattle.records.specs.Addresses.{Queues, readState}
-use Rattle.records.specs.Captured.{readCallee, readInfo, readCaptured}
+use Rattle.records.specs.Addresses.{Queues}
+use Rattle.records.specs.Captured.{readCaptured}
 use Rattle.records.specs.Built.{builtSystem, builtStack, noSystem, noStack, readSystem, readStack, systemCells, stackCells}
 use Rattle.records.specs.DecoderRows.{decoderCells}
 use Rattle.records.specs.Cells.{rowCells, putRow, fragmentWrong}
@@ -40,9 +40,9 @@ use Rattle.reductions.specs.Below.{Below}
 use Rattle.reductions.specs.Inputs.{readTracer}
 use Rattle.reductions.specs.Left.{Kept}
 use Rattle.reductions.proofs.CellsBelow.{below-reduced}
-use Rattle.reductions.proofs.StatesRead.{Gives, IsRead, RowRead, read-is, if-gives, next-gives, cycle-with-read}
+use Rattle.reductions.proofs.StatesRead.{Gives, IsRead, Moved, RowMoved, read-is, read-moved, if-gives, next-gives, cycle-with-moves, cycle-moves}
 use Rattle.reductions.proofs.CyclesReduced.{captured-twice}
-use Rattle.reductions.proofs.PassesKept.{stays, kept-trans, kept-app, all-written}
+use Rattle.reductions.proofs.PassesKept.{stays, kept-trans, kept-app, all-written, pick-kept}
 
 -- THE TRACER
 
@@ -101,11 +101,11 @@ unfolding storedIn
 storing-below t values e = stored-held (eqb (t .refusal) 0) t values e
 
 after-held : (system : SystemState) (stack : StackState) (t : CoreTraceGenerationTracer) (a : Answer MadeRow) →
-    system .clk .0 < 4294967296 → system .ctx .0 < 4294967296 → stack .«stack_depth» < 4294967296 → HoldsCells t → Gives RowRead a → HoldsCells (tracerAfter system stack t a)
+    system .clk .0 < 4294967296 → system .ctx .0 < 4294967296 → stack .«stack_depth» < 4294967296 → HoldsCells t → Gives (RowMoved (t .state)) a → HoldsCells (tracerAfter system stack t a)
 unfolding tracerAfter readTracer
 after-held system stack t (accepted m) h k d e r =
     let c = left-below (m .used) (t .captured) (parts-held t e .0) in
-    rw (c, r, built-system-below system h k, built-stack-below stack d)
+    rw (c, read-moved (t .state) (m .state) r (parts-held t e .1), built-system-below system h k, built-stack-below stack d)
 after-held system stack t (refused n) h k d e r =
     let (c, s, y, z) = parts-held t e in
     rw (c, s, y, z)
@@ -115,7 +115,26 @@ pub cycle-below : (p : Profile) (f : Forest) (q : Queues) (system : SystemState)
     system .clk .0 < 4294967296 → system .ctx .0 < 4294967296 → stack .«stack_depth» < 4294967296 → HoldsCells t → HoldsCells (tracerAfter system stack t (cycle p f q stack registers cells t))
 unfolding cycle
 cycle-below p f q system stack registers cells t h k d e =
-    after-held system stack t _ h k d e (cycle-with-read (scanOf p (f .nodes) (f .batches) (f .ops)) p f q stack registers cells t (parts-held t e .1))
+    after-held system stack t _ h k d e (cycle-with-moves (scanOf p (f .nodes) (f .batches) (f .ops)) p f q stack registers cells t)
+
+-- what an accepted cycle sets on any tracer, also one that somebody else made: the built cells are below p, and so is each address that it moved
+pub record SetsCells (t after : CoreTraceGenerationTracer) : Type 0 where
+  pub system-below : readSystem (after .system) ≡ after .system
+  pub stack-below : readStack (after .stack) ≡ after .stack
+  pub addresses : Moved (t .state) (after .state)
+
+pub cycle-sets : (p : Profile) (f : Forest) (q : Queues) (system : SystemState) (stack : StackState) (registers : OperationHelperRegisters) (cells : ℕ) (t : CoreTraceGenerationTracer) (m : MadeRow) →
+    system .clk .0 < 4294967296 → system .ctx .0 < 4294967296 → stack .«stack_depth» < 4294967296 →
+    cycle p f q stack registers cells t ≡ accepted m → SetsCells t (tracerAfter system stack t (cycle p f q stack registers cells t))
+unfolding tracerAfter
+cycle-sets p f q system stack registers cells t m h k d e =
+    let moved = rw e at (cycle-moves p f q system stack registers cells t) in
+    rw e (record { system-below = built-system-below system h k; stack-below = built-stack-below stack d; addresses = moved })
+
+-- and a storing: the captured values
+pub storing-sets : (t : CoreTraceGenerationTracer) (values : StoredValues) → t .refusal ≡ 0 → readCaptured (storedIn t values .captured) ≡ storedIn t values .captured
+unfolding storedIn
+storing-sets t values e = rw (eq-eqb (t .refusal) 0 e) (captured-twice (values .captured))
 
 -- THE FINAL STATE
 
@@ -200,10 +219,6 @@ calls-kept s records t fragment zero e = stays fragment
 calls-kept s records t fragment (suc k) e =
     let h = calls-kept s records t fragment k e in
     kept-trans fragment (written s records t fragment k) _ h (call-kept s (through s records t k) (callIn (recordAt records k)) (written s records t fragment k) (h .size ∙ e))
-
-pick-kept : (same : Bool) (fragment after : List ℕ) → Kept fragment after → Kept fragment (pick same after fragment)
-pick-kept true fragment after h = h
-pick-kept false fragment after h = stays fragment
 
 -- a replay over a fragment of the setting's length
 pub replay-kept : (s : Setting) (state : DecoderState) (at : Positions) (records fragment : List ℕ) → length fragment ≡ s .cells → Kept fragment (replayedFragment s state at records fragment)

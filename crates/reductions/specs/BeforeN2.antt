@@ -1,7 +1,8 @@
 -- What refusal 1 looked at before N2: document 01's "1 input cell ≥ p, used or not, .. stored values .. whole queues and forest included". These
 -- definitions are gone; the theorems of proofs/SameCells, SameCallRecords, SameCycles, SameRows and SamePasses say that what they let pass is as it was.
 -- They stand as they stood, under their names; one whose name is taken by what stands there now ends in `Before`. What a definition here cites is meant
--- as it stands now (`made`, say), since what N2 changed there has a theorem of its own.
+-- as it stands now (`made`, say), since what N2 changed there has a theorem of its own. New, for the theorems' premises: `groupCells`, `LentBelow`,
+-- `depthIn`, `Narrow32`, `callCells`.
 use mathlib.Core.Bool.{Bool, not, _||_}
 use mathlib.Core.List.{List, [], _∷_, _++_}
 use Prim.Native.Nat.{ℕ, _+_, _*_, _/_, _<_}
@@ -36,7 +37,7 @@ use Rattle.records.specs.Addresses.{Queues}
 use Rattle.records.specs.DecoderRows.{wordCells}
 use Rattle.records.specs.Built.{systemCells, cells16, stackCells}
 use Rattle.records.specs.Cells.{fragmentWrong}
-use Rattle.records.specs.CallRecords.{Call, stores, finishes, of32, conditionIn, continuationOn, namesNothing, stackIn, manyCells, storing}
+use Rattle.records.specs.CallRecords.{Call, stores, finishes, of32, conditionIn, continuationOn, namesNothing, manyCells, storing}
 use Rattle.rows.specs.declared.made.MadeRow.{MadeRow}
 use Rattle.rows.specs.declared.scan.Scan.{Scan}
 use Rattle.rows.specs.declared.tracer.CoreTraceGenerationTracer.{CoreTraceGenerationTracer}
@@ -217,6 +218,15 @@ systemInBefore r =
     andThen (of32 1 (getD r 3 0)) (λ ctx.
     accepted (record { clk = record { 0 = clk }; ctx = record { 0 = ctx }; «fn_hash» = wordIn r 4 })))
 
+unfoldable pub stackInBefore : List ℕ → (depth : ℕ) → StackState
+stackInBefore r depth = record {
+  «stack_top» =
+      getD r 8 0 ∷ getD r 9 0 ∷ getD r 10 0 ∷ getD r 11 0 ∷ getD r 12 0 ∷ getD r 13 0 ∷ getD r 14 0 ∷ getD r 15 0
+      ∷ getD r 16 0 ∷ getD r 17 0 ∷ getD r 18 0 ∷ getD r 19 0 ∷ getD r 20 0 ∷ getD r 21 0 ∷ getD r 22 0 ∷ getD r 23 0 ∷ [];
+  «stack_depth» = depth;
+  «overflow_addr» = getD r 25 0;
+}
+
 unfoldable pub registersInBefore : List ℕ → Answer OperationHelperRegisters
 registersInBefore r = manyCells (getD r 0 0) (wordIn r 26) (wordIn r 30)
 
@@ -225,7 +235,7 @@ finishInBefore r =
     andThen (systemInBefore r) (λ system.
     andThen (of32 1 (getD r 24 0)) (λ depth.
     andThen (registersInBefore r) (λ registers.
-    accepted (finishes (getD r 1 0) system (stackIn r depth) registers))))
+    accepted (finishes (getD r 1 0) system (stackInBefore r depth) registers))))
 
 unfoldable pub callInBefore : List ℕ → Answer Call
 callInBefore r = pick (eqb (getD r 0 0) 0) (storing (storedInRecordBefore r)) (finishInBefore r)

@@ -104,7 +104,7 @@ impl CoreTraceGenerationTracer {
     }
 
     // The system cells of the next row: those built last, zeros before the first row.
-    pub fn last_system(self) -> SystemCols
+    pub(crate) fn last_system(self) -> SystemCols
         ensures { λ r. ⌜ r ≡ lastSystem self ⌝ }
     {
         if self.rows == 0 {
@@ -114,7 +114,7 @@ impl CoreTraceGenerationTracer {
     }
 
     // The stack cells of the next row.
-    pub fn last_stack(self) -> StackCols
+    pub(crate) fn last_stack(self) -> StackCols
         ensures { λ r. ⌜ r ≡ lastStack self ⌝ }
     {
         if self.rows == 0 {

@@ -7,7 +7,6 @@ use native.Mathlib.Omega.{arith}
 use borrow.Author.Tests.{eqb-true, eqb-false, not-false}
 use lib.Dec.{leb, ltb, eqb}
 use lib.ListN.{length, getD}
-use Rattle.field.specs.Modulus.{P}
 use Rattle.groups.specs.Answer.{Answer, accepted, refused, andThen, pick, number}
 use Rattle.groups.specs.Batches.{isBatch, batchAt, startsAt}
 use Rattle.groups.specs.Flags.{flagsUpTo8, batchFlags}
@@ -40,18 +39,16 @@ use Rattle.rows.specs.Scans.{anyBigOpcode, forestTooLarge, scanOf}
 use Rattle.records.specs.Cells.{fragmentWrong}
 use Rattle.rows.specs.Made.{Place, place, calleeOf, infoOf, conditionOf, startBlock, startTwo, startOne, startDyn, startDyncall, startKind, startNode, callKind, dynKind, blockKind, entryKind, finished, bodyOf, repeated, finishLoop, operationMade, resumed, respanned, made}
 use Rattle.rows.specs.Cycles.{continuationOf, refuseIf, cycleWith, cycle}
+use Rattle.reductions.proofs.Accepted as accepts
 
 pub then-accepted : {A B : Type 0} (a : Answer A) (f : A → Answer B) (y : B) → andThen a f ≡ accepted y → (x : A) × (a ≡ accepted x) × (f x ≡ accepted y)
-then-accepted (accepted x) f y e = (x, refl, e)
-then-accepted (refused n) f y e = let z : _≡_ {A = ℕ} 0 1 = cc in absurd (omega arith)
+then-accepted a f y e = let c = accepts.came a f y e in (c .value, c .first, c .then)
 
 pub pick-accepted : {A : Type 0} (t : Bool) (x : Answer A) (n : ℕ) (y : A) → pick t x (refused n) ≡ accepted y → (t ≡ true) × (x ≡ accepted y)
-pick-accepted true x n y e = (refl, e)
-pick-accepted false x n y e = let z : _≡_ {A = ℕ} 0 1 = cc in absurd (omega arith)
+pick-accepted t x n y e = accepts.held t n x y e
 
 pub if-accepted : {A : Type 0} (t : Bool) (n : ℕ) (x : Answer A) (y : A) → refuseIf t n x ≡ accepted y → (t ≡ false) × (x ≡ accepted y)
-if-accepted true n x y e = let z : _≡_ {A = ℕ} 0 1 = cc in absurd (omega arith)
-if-accepted false n x y e = (refl, e)
+if-accepted t n x y e = accepts.unrefused t n x y e
 
 -- no refusal with the number 0
 unfoldable pub Numbered : {A : Type 0} → Answer A → Type 0

@@ -7,7 +7,6 @@ use native.Mathlib.Omega.{arith}
 use borrow.Author.Tests.{ltb-true, eq-eqb}
 use lib.Dec.{ltb}
 use lib.ListN.{length, drop, getD, length-append, drop-of-length-le}
-use Rattle.field.specs.Modulus.{P}
 use Rattle.groups.specs.Answer.{Answer, accepted, refused, pick}
 use Rattle.groups.specs.Batches.{batchAt}
 use Rattle.groups.specs.declared.batch.Batch.{Batch}
@@ -31,7 +30,6 @@ use Rattle.records.specs.Cells.{rowCells, putRow}
 use Rattle.passes.specs.Buffers.{flat}
 use Rattle.passes.specs.Passes.{sumOf}
 use Rattle.rows.specs.Cycles.{fresh, storing, storedIn, tracerAfter, fragmentAfter, finalState, lastSystem, lastStack}
-use Rattle.passes.proofs.Checks.{neither}
 use Rattle.passes.proofs.RowLists.{Wide, wide-app, flat-app, put-behind}
 use Rattle.runs.specs.Calls.{Handed, Call, store, finish, Fragment, Held, answered, after, numberOf, afterAll, Accepted, opened, closed, placeOf, AllAccepted, finalStates, cellsOf, countsOf, OneSize}
 use Rattle.runs.specs.Happened.{Ending, Did, Cycle, InForce, nothingStored, orNothing, startOf, operationAt, finishOf, didBy, didStored, did, stored, leftBy, inForceAfter, inForceAfterAll, cyclesIn, cyclesOf}

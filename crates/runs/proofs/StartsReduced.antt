@@ -1,26 +1,25 @@
 -- The addresses of a run's LOOP starts come from a queue, and so they are cells: "Queue entries count by their reduced numbers too".
-use mathlib.Core.Path.{_≡_, refl, sym, ap, _∙_}
+use mathlib.Core.Path.{_≡_, refl, ap, subst}
 use mathlib.Core.Bool.{Bool, true, false}
 use mathlib.Core.List.{List, [], _∷_, _++_}
 use Prim.Native.Nat.{ℕ, _%_}
-use lib.Dec.{ltb}
-use lib.ListN.{length}
 use Rattle.field.specs.Modulus.{P}
-use Rattle.field.specs.Cells.{cellAt, reduced}
-use Rattle.field.proofs.CellLaws.{cell-below, read-small}
-use Rattle.groups.specs.Answer.{Answer, accepted, refused, andThen, pick}
+use Rattle.field.specs.Cells.{reduced}
+use Rattle.groups.specs.Answer.{Answer, accepted, refused, pick}
 use Rattle.records.specs.declared.forest.Node.{Node}
 use Rattle.records.specs.declared.replay.DecoderState.{DecoderState}
 use Rattle.records.specs.declared.replay.Positions.{Positions}
 use Rattle.records.specs.declared.continuation.Continuation.{Continuation}
 use Rattle.rows.specs.declared.tracer.StoredContinuation.{StoredContinuation}
 use Rattle.records.specs.Forests.{Forest, nodeAt}
-use Rattle.records.specs.Addresses.{Queues, entryAt, startedAt, endAt}
+use Rattle.records.specs.Addresses.{Queues, startedAt, endAt}
 use Rattle.rows.specs.Made.{conditionOf}
 use Rattle.runs.specs.Calls.{Call, store, finish, Fragment}
-use Rattle.runs.specs.Happened.{Ending, Did, Cycle, InForce, nothingStored, orNothing, startOf, operationAt, finishOf, didBy, didStored, stored, leftBy, inForceAfterAll, cyclesIn, cyclesOf}
+use Rattle.runs.specs.Happened.{Ending, Did, Cycle, InForce, nothingStored, orNothing, startOf, operationAt, finishOf, didBy, didStored, stored, leftBy, inForceAfter, inForceAfterAll, cyclesIn, cyclesOf}
 use Rattle.runs.specs.ProperRuns.{withLoop, loopStarts}
-use Rattle.runs.proofs.Answers.{then-accepted, pick-accepted}
+use Rattle.reductions.specs.Inputs.{readQueues}
+use Rattle.reductions.proofs.LentReduced.{started-reduced, ended-reduced}
+use Rattle.reductions.proofs.StatesRead.{IsRead, Gives, current-is, started-read}
 
 -- a LOOP start of the cycle, if it is one, is a cell
 abbrev Low : Did → Type 0
@@ -52,13 +51,7 @@ start-low Node.External id b a h l e = e
 
 -- the address that a start takes is a cell
 started-low : (addresses parents : List ℕ) (at : Positions) (s : DecoderState) → startedAt addresses parents at ≡ accepted s → s .«current_addr» % P ≡ s .«current_addr»
-unfolding startedAt entryAt
-started-low addresses parents at s e =
-    let (current, e1, e2) = then-accepted (entryAt 20 addresses (at .addresses)) _ s e in
-    let (parent, e3, e4) = then-accepted (entryAt 21 parents (at .parents)) _ s e2 in
-    let (t, e5) = pick-accepted (ltb (at .addresses) (length addresses)) (accepted (cellAt addresses (at .addresses))) 20 current e1 in
-    let e6 : cellAt addresses (at .addresses) ≡ s .«current_addr» = cc in
-    rw (← e6) (read-small (cellAt addresses (at .addresses)) (cell-below addresses (at .addresses)))
+started-low addresses parents at s e = current-is s (subst (Gives IsRead) e (started-read addresses parents at))
 
 finish-low : (q : Queues) (v : InForce) (ending : Ending) (id : ℕ) → Low (finishOf q v ending id)
 unfolding finishOf withLoop
@@ -114,3 +107,52 @@ starts-low (c ∷ cycles) h = h .0 (loopStarts cycles) (starts-low cycles (h .1)
 
 pub starts-reduced : (q : Queues) (fragments : List Fragment) (at : Positions) → reduced (loopStarts (cyclesOf q fragments at)) ≡ loopStarts (cyclesOf q fragments at)
 starts-reduced q fragments at = starts-low (cyclesOf q fragments at) (run-low q fragments at)
+
+-- QUEUES READ
+
+finish-read : (q : Queues) (v : InForce) (ending : Ending) (id : ℕ) → finishOf (readQueues q) v ending id ≡ finishOf q v ending id
+unfolding finishOf readQueues
+finish-read q v ending id = rw (ended-reduced (q .ends) (v .at .ends))
+
+did-read : (q : Queues) (f : Forest) (v : InForce) (continuation : Continuation) → didBy (readQueues q) f v continuation ≡ didBy q f v continuation
+unfolding didBy
+did-read q f v (Continuation.StartNode id) = unfold readQueues in rw (started-reduced (q .addresses) (q .parents) (v .at))
+did-read q f v (Continuation.FinishJoin id) = finish-read q v _ (id .0)
+did-read q f v (Continuation.FinishSplit id) = finish-read q v _ (id .0)
+did-read q f v (Continuation.FinishLoop id) = rw (finish-read q v Ending.FinishLoop (id .0))
+did-read q f v (Continuation.FinishCall id) = finish-read q v _ (id .0)
+did-read q f v (Continuation.FinishDyn id) = finish-read q v _ (id .0)
+did-read q f v (Continuation.ResumeBasicBlock id index op) = refl
+did-read q f v (Continuation.Respan id index) = refl
+did-read q f v (Continuation.FinishBasicBlock id) = finish-read q v _ (id .0)
+did-read q f v Continuation.EnterForest = refl
+
+stored-read : (q : Queues) (f : Forest) (v : InForce) (s : StoredContinuation) → didStored (readQueues q) f v s ≡ didStored q f v s
+unfolding didStored
+stored-read q f v StoredContinuation.Nothing = refl
+stored-read q f v (StoredContinuation.Is continuation) = did-read q f v continuation
+
+calls-read : (q : Queues) (calls : List Call) (v : InForce) → cyclesIn (readQueues q) calls v ≡ cyclesIn q calls v
+unfolding cyclesIn
+calls-read q [] v = refl
+calls-read q (store values ∷ calls) v = calls-read q calls (stored v values)
+calls-read q (finish i ∷ calls) v =
+    rw (stored-read q (i .forest) v (v .stored)) (ap (λ (l : List Cycle). (i .forest, didStored q (i .forest) v (v .stored)) ∷ l) (calls-read q calls (leftBy v (didStored q (i .forest) v (v .stored)))))
+
+force-read : (q : Queues) (calls : List Call) (v : InForce) → inForceAfterAll (readQueues q) calls v ≡ inForceAfterAll q calls v
+unfolding inForceAfterAll inForceAfter
+force-read q [] v = refl
+force-read q (store values ∷ calls) v = force-read q calls (stored v values)
+force-read q (finish i ∷ calls) v = rw (stored-read q (i .forest) v (v .stored)) (force-read q calls (leftBy v (didStored q (i .forest) v (v .stored))))
+
+-- a run's cycles did with its queues what they did with them read
+pub cycles-reduced : (q : Queues) (fragments : List Fragment) (at : Positions) → cyclesOf (readQueues q) fragments at ≡ cyclesOf q fragments at
+unfolding cyclesOf
+cycles-reduced q [] at = refl
+cycles-reduced q (fragment ∷ fragments) at =
+    rw (calls-read q (fragment .calls) (nothingStored at), force-read q (fragment .calls) (nothingStored at))
+    (ap (λ (l : List Cycle). cyclesIn q (fragment .calls) (nothingStored at) ++ l) (cycles-reduced q fragments (inForceAfterAll q (fragment .calls) (nothingStored at) .at)))
+
+-- "LOOP starts that were given 5 and p + 5 got the same block address": the starts are those of the queues read
+pub starts-read : (q : Queues) (fragments : List Fragment) (at : Positions) → loopStarts (cyclesOf (readQueues q) fragments at) ≡ loopStarts (cyclesOf q fragments at)
+starts-read q fragments at = ap loopStarts (cycles-reduced q fragments at)

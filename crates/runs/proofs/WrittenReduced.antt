@@ -1,6 +1,6 @@
 -- "Every cell that a call writes is reduced" (N2), of a whole trace: each cell of the first height rows that are written of a run is below p. The
 -- run need not be proper.
-use mathlib.Core.Path.{_≡_, _∙_, sym, ap}
+use mathlib.Core.Path.{_≡_, _∙_, ap}
 use mathlib.Core.List.{List, [], _∷_, _++_, append-assoc}
 use Prim.Native.Nat.{ℕ, _+_, _*_, _<_}
 use native.Mathlib.Omega.{arith}
@@ -14,10 +14,10 @@ use Rattle.records.specs.Addresses.{Queues}
 use Rattle.records.specs.Cells.{rowCells}
 use Rattle.rows.specs.Made.{Place}
 use Rattle.passes.specs.Buffers.{flat}
-use Rattle.passes.specs.Passes.{sumOf, allPasses}
+use Rattle.passes.specs.Passes.{allPasses}
 use Rattle.runs.specs.Calls.{Call, store, finish, Fragment, Held, answered, after, opened, closed, placeOf, AllAccepted, finalStates, countsOf, OneSize}
 use Rattle.runs.specs.Written.{rowMade, rowsIn, rowsRun}
-use Rattle.runs.specs.Finished.{finisherBuffer, buffer5, runCounts, runBuilt, runBuffer, writtenByFive, writtenByFinisher, FivePass, FinisherPasses}
+use Rattle.runs.specs.Finished.{finisherBuffer, runCounts, runBuilt, runBuffer, writtenByFive, writtenByFinisher, FivePass, FinisherPasses}
 use Rattle.runs.proofs.Folded.{rows-wide, sum-rows, cells-rows}
 use Rattle.reductions.specs.Below.{Below, BelowAll}
 use Rattle.reductions.proofs.CellsBelow.{below-reduced, below-all-app, below-flat}

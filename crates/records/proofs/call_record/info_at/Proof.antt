@@ -15,7 +15,7 @@ returns-2 c = rw (← (c .before .before .before .before .before .number-at .ens
 
 returns-3 : tie.Need-returns-3
 unfolding infoIn
-returns-3 c = rw (← (c .before .before .before .before .before .before .before .number-at .ensures), eq-eqb _ _ (c .before .before .before .before .before .before .if1 .left), ← (c .before .before .before .before .before .number-at2 .ensures), ← (c .before .before .before .before .narrow .ensures 23), c .before .before .depth .given .1, c .number-at3 .ensures)
+returns-3 c = rw (← (c .before .before .before .before .before .before .before .number-at .ensures), eq-eqb _ _ (c .before .before .before .before .before .before .if1 .left), ← (c .before .before .before .before .before .number-at2 .ensures), ← (c .before .before .before .before .narrow .ensures 23), c .before .before .depth .given .1, c .cell .ensures)
 
 pub info-at-spec : {M : Type 1} → statement M
 info-at-spec =
