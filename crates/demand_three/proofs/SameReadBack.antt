@@ -1,5 +1,5 @@
--- "Inputs that were answered get the same cells as before." (N2) What demand 3 says of counts and of a finished replay is, for cells below p, what it
--- said before.
+-- "Inputs that were answered get the same cells as before." (N2) What demand 3 says of counts is, for cells below p, what it said before; and a replay
+-- whose finisher was accepted before has it accepted now.
 use mathlib.Core.Path.{_≡_, _∙_, sym}
 use mathlib.Core.Bool.{Bool, _||_}
 use mathlib.Core.List.{List, [], _∷_}

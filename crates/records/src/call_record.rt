@@ -1,6 +1,6 @@
 // A call lent as a record of 32 numbers. Number 0 says which: 0 a storing, 1 to 18 a cycle with that case of helper registers.
-// Each function here is lent the one record. Cells among its numbers are read modulo p; numbers that a record's kind does not name are not
-// looked at.
+// Each function here is lent the one record. Cells among its numbers are read modulo p; nothing comes of numbers that a record's kind does
+// not name.
 use crate::continuation::CalleeWord;
 use crate::continuation::Captured;
 use crate::continuation::ContextInfo;

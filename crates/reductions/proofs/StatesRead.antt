@@ -64,8 +64,7 @@ of-cells : (b a : ℕ) → IsCell b → IsCell a → IsRead (record { «current_
 unfolding readState
 of-cells b a h k = rw (h, k)
 
--- each address is the one before or is below p: "an accepted cycle hands back what it sets below p; fields that a cycle does not set .. are as
--- they were given"
+-- each address is the one before or is below p: what changed is below p, and what is not set is as it was given
 pub record Moved (before after : DecoderState) : Type 0 where
   pub current : (after .«current_addr» ≡ before .«current_addr») ⊎ IsCell (after .«current_addr»)
   pub parent : (after .«parent_addr» ≡ before .«parent_addr») ⊎ IsCell (after .«parent_addr»)
