@@ -11,6 +11,9 @@ use crate::profile::Profile;
 /// How many cells a row has.
 pub const WIDTH: usize = 49;
 
+/// p: a cell is a number modulo it.
+const MODULUS: u64 = 18446744069414584321;
+
 /// How many cells are built at a row for the next one: clk, ctx, fn_hash (4); stack top (16), b0, b1, helper.
 pub const BUILT: usize = 25;
 
@@ -100,6 +103,18 @@ mod foreign {
         pub place: usize,
     }
 
+    #[repr(C)]
+    pub struct DumpWritten {
+        pub number: u32,
+        pub bytes: usize,
+    }
+
+    #[repr(C)]
+    pub struct DumpRead {
+        pub number: u32,
+        pub rows: usize,
+    }
+
     unsafe extern "C" {
         pub fn core_replay(
             nodes: *const u32,
@@ -160,6 +175,8 @@ mod foreign {
         pub fn core_build_index(profile: Profile, cells: *const u64, cells_len: usize, index: *mut u32, index_len: usize) -> IndexBuilt;
         pub fn core_enclosing_block(index: *const u32, index_len: usize, row: usize) -> BlockFound;
         pub fn core_inverse(x: u64) -> Inverse;
+        pub fn core_write_dump(cells: *const u64, cells_len: usize, text: *mut u8, text_len: usize) -> DumpWritten;
+        pub fn core_read_dump(text: *const u8, text_len: usize, cells: *mut u64, cells_len: usize) -> DumpRead;
     }
 }
 
@@ -314,6 +331,56 @@ pub fn build_index(profile: Profile, cells: &[u64], index: &mut [u32]) -> Result
 pub fn enclosing_block(index: &[u32], row: usize) -> Result<Option<usize>, Refusal> {
     let r = unsafe { foreign::core_enclosing_block(index.as_ptr(), index.len(), row) };
     accepted(r.number).map(|()| (r.found == 1).then_some(r.place))
+}
+
+/// Writes a finished trace as a value change dump into the first bytes of `text`, and answers how many they are: [`dump_size`] tells before.
+/// Refused by 11 for a buffer that is none of 1 to 2^24 rows, then by 28 where `text` is too short; a refusal leaves it as it is.
+pub fn write_dump(cells: &[u64], text: &mut [u8]) -> Result<usize, Refusal> {
+    let r = unsafe { foreign::core_write_dump(cells.as_ptr(), cells.len(), text.as_mut_ptr(), text.len()) };
+    accepted(r.number).map(|()| r.bytes)
+}
+
+/// Reads a dump that is written here back into the first rows of `cells`, and answers how many they are. Refused by 11 for a buffer that is no
+/// multiple of [`WIDTH`] or over 2^24 rows, then by 29 for a text that [`write_dump`] never writes, then by 11 where the buffer is too short;
+/// a refusal leaves it as it is.
+pub fn read_dump(text: &[u8], cells: &mut [u64]) -> Result<usize, Refusal> {
+    let r = unsafe { foreign::core_read_dump(text.as_ptr(), text.len(), cells.as_mut_ptr(), cells.len()) };
+    accepted(r.number).map(|()| r.rows)
+}
+
+/// How many bytes the dump of a buffer has.
+pub fn dump_size(cells: &[u64]) -> usize {
+    const HEADER: usize = 1400;
+    let time = |row: usize| row.checked_ilog10().map_or(1, |log| log as usize + 1) + 2;
+    let line = |value: u64| value.checked_ilog2().map_or(1, |log| log as usize + 1) + 4;
+    let is_listed = |at: usize| at < WIDTH || cells[at] % MODULUS != cells[at - WIDTH] % MODULUS;
+    let times: usize = (0..cells.len() / WIDTH).map(time).sum();
+    let values: usize = (0..cells.len()).filter(|&at| is_listed(at)).map(|at| line(cells[at] % MODULUS)).sum();
+    HEADER + times + values
+}
+
+/// The dump of a finished trace.
+pub fn dump(cells: &[u64]) -> Result<Vec<u8>, Refusal> {
+    let mut text = vec![0; dump_size(cells)];
+    let bytes = write_dump(cells, &mut text)?;
+    text.truncate(bytes);
+    Ok(text)
+}
+
+/// Writes the dump of a finished trace to a file or elsewhere, and answers how many bytes it has. A refusal is an error of the kind
+/// `InvalidInput`, with the [`Refusal`] in it, and nothing is then written.
+pub fn dump_to(cells: &[u64], out: &mut impl std::io::Write) -> std::io::Result<usize> {
+    let text = dump(cells).map_err(|refusal| std::io::Error::new(std::io::ErrorKind::InvalidInput, refusal))?;
+    out.write_all(&text)?;
+    Ok(text.len())
+}
+
+/// The cells of a dump, as many rows as it has time lines.
+pub fn undump(text: &[u8]) -> Result<Vec<u64>, Refusal> {
+    let times = text.split(|&byte| byte == b'\n').filter(|line| line.first() == Some(&b'#')).count();
+    let mut cells = vec![0; times.min(1 << 24) * WIDTH];
+    read_dump(text, &mut cells)?;
+    Ok(cells)
 }
 
 /// The inverse of a cell modulo p, 0 for 0 and for p. No number is refused.

@@ -1,10 +1,14 @@
 //! The core trace of Miden VM programs from Rust: safe calls of the proved library, its comparison with the listed Rust, and that of its
-//! reader with a checker in plain Rust.
+//! reader, and of its writer and reader of dumps, with others in plain Rust.
 
+pub mod answers;
 pub mod calls;
 pub mod checker;
 #[cfg(all(listed, archive))]
 pub mod compare;
+pub mod dump;
+#[cfg(archive)]
+pub mod dumping;
 #[cfg(archive)]
 pub mod exports;
 pub mod forest;
@@ -15,4 +19,6 @@ pub mod profile;
 pub mod random;
 #[cfg(all(listed, archive))]
 pub mod reading;
+#[cfg(archive)]
+pub mod waves;
 pub mod words;

@@ -4,6 +4,8 @@ use crate::calls::{
     Call, ContextId, Continuation, Cycle, DecoderState, MastNodeId, Registers, RowIndex, StackState, StoredValues, SystemState,
 };
 use crate::forest::{MastNode, OpBatch, Queues, Slot};
+#[cfg(archive)]
+use crate::profile::EXAMPLE;
 use crate::profile::Profile;
 use crate::random::Run;
 
@@ -61,6 +63,19 @@ pub fn run(fragment_size: usize) -> Run {
         fragments: calls.chunks(2 * fragment_size).map(<[Call]>::to_vec).collect(),
         nesting: Some(vec![1, 2, 2, 2, 1, 2, 2, 2, 1]),
     }
+}
+
+/// The finished trace, made by the proved library.
+#[cfg(archive)]
+pub fn trace() -> Vec<u64> {
+    use crate::exports::{WIDTH, finish, replay_calls};
+    let run = run(HEIGHT - 1);
+    let (lent, calls) = (crate::forest::Forests::new(&run.forests), crate::calls::records(&run.fragments[0]));
+    let mut buffer = vec![0; HEIGHT * WIDTH];
+    let rows = &mut buffer[..(HEIGHT - 1) * WIDTH];
+    let left = replay_calls(&lent, &run.queues, EXAMPLE, run.state, Default::default(), &calls, rows).expect("the calls are right");
+    finish(EXAMPLE, &mut buffer, HEIGHT - 1, &[left.rows as u32], &left.built, &run.first_stack_top, HEIGHT).expect("the rows are right");
+    buffer
 }
 
 /// The table of a finished trace: row, name or opcode, addr, count.

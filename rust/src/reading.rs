@@ -1,8 +1,7 @@
 //! The comparison of the proved reader with the checker: traces as they were written, with cells from p on for the same ones, and with one
 //! cell changed.
 
-use std::collections::BTreeMap;
-
+use crate::answers::Answers;
 use crate::checker::{Refused, check};
 use crate::compare::column;
 use crate::exports::{WIDTH, build_index, enclosing_block, read_trace, row};
@@ -13,31 +12,6 @@ const P: u64 = 18446744069414584321;
 const H4: usize = 18;
 const IN_SPAN: usize = 22;
 const GROUP_COUNT: usize = 23;
-
-/// How often the reader accepted, and how often it refused by which number.
-#[derive(Default)]
-pub struct Answers {
-    pub reads: u64,
-    pub accepted: u64,
-    pub refused: BTreeMap<u32, u64>,
-}
-
-impl core::fmt::Display for Answers {
-    fn fmt(&self, f: &mut core::fmt::Formatter<'_>) -> core::fmt::Result {
-        write!(f, "{} reads, {} accepted", self.reads, self.accepted)?;
-        self.refused.iter().try_for_each(|(number, times)| write!(f, ", {times} refused by {number}"))
-    }
-}
-
-impl Answers {
-    fn count(&mut self, answer: &Result<usize, Refused>) {
-        self.reads += 1;
-        match answer {
-            Ok(_) => self.accepted += 1,
-            Err((number, _)) => *self.refused.entry(*number).or_default() += 1,
-        }
-    }
-}
 
 /// What was read.
 #[derive(Default)]
@@ -60,6 +34,11 @@ pub struct Tally {
     pub differences: u64,
     /// The first differences, in words.
     pub told: Vec<String>,
+}
+
+/// The number of a refusal.
+fn number(answer: &Result<usize, Refused>) -> Option<u32> {
+    answer.err().map(|(number, _)| number)
 }
 
 impl Tally {
@@ -94,7 +73,7 @@ impl Tally {
     fn read_back(&mut self, cells: &[u64], nesting: Option<&[u32]>) -> bool {
         let rows = cells.len() / WIDTH;
         let (answer, depths) = self.read("a written trace", &EXAMPLE, cells, rows + 3);
-        self.whole.count(&answer);
+        self.whole.count(number(&answer));
         let Some(nesting) = nesting else {
             return answer.is_ok();
         };
@@ -172,7 +151,7 @@ impl Tally {
                 other.iter_mut().filter(|_| rng.one_in(one_in)).for_each(|cell| *cell = other_number(*cell));
             }
             let got = self.read("a trace, p added to cells", &EXAMPLE, &other, rows);
-            self.raised.count(&got.0);
+            self.raised.count(number(&got.0));
             if got != plain {
                 self.differ(format!("a trace reads otherwise with p added to cells: {:?} and {:?}", got.0, plain.0));
             }
@@ -192,7 +171,7 @@ impl Tally {
             cells[at] = other_value(rng, cells, row, cell);
             let what = format!("row {row}, {} {before} changed to {}", column(cell), cells[at]);
             let (answer, _) = self.read(&what, &EXAMPLE, cells, cells.len() / WIDTH);
-            if is_accepted { &mut self.damaged } else { &mut self.refused }.count(&answer);
+            if is_accepted { &mut self.damaged } else { &mut self.refused }.count(number(&answer));
             cells[at] = before;
         }
     }
@@ -205,7 +184,7 @@ impl Tally {
             let (mut profile, mut depth_numbers) = (EXAMPLE, rows + 1);
             let what = reshaped(rng, &places, &mut changed, &mut profile, &mut depth_numbers);
             let (answer, _) = self.read(what, &profile, &changed, depth_numbers);
-            self.other.count(&answer);
+            self.other.count(number(&answer));
             self.view(&changed, rng.below(rows + 2));
             self.index(&profile, &changed);
         }

@@ -310,6 +310,202 @@ mod read {
     }
 }
 
+/// Dumps: the lines, each refusal and its order.
+mod dumped {
+    use std::alloc::{Layout, alloc_zeroed};
+
+    use core_trace::dump as plain;
+    use core_trace::listing;
+
+    use super::*;
+
+    /// Row 0 has its columns' numbers, with p added where it fits; row 1 is the same; in row 2 the first cell and the last are others.
+    fn cells() -> Vec<u64> {
+        let mut cells: Vec<u64> = (0..3 * WIDTH as u64).map(|i| i % 49 + if i < 49 { P } else { 0 }).collect();
+        cells[2 * WIDTH] = P - 1;
+        cells[2 * WIDTH + 48] = P;
+        cells
+    }
+
+    /// The dump of the cells, written out.
+    fn text() -> String {
+        let values: String = (0..49).map(|i| format!("b{i:b} {}\n", (b'!' + i) as char)).collect();
+        format!("{}#0\n{values}#1\n#2\nb{} !\nb0 Q\n", plain::header(), "1".repeat(32) + &"0".repeat(32))
+    }
+
+    fn write_refused(cells: &[u64], lent: usize, number: u32) {
+        let mut text = vec![7; lent];
+        refused(write_dump(cells, &mut text), number);
+        assert_eq!(text, vec![7; lent]);
+    }
+
+    fn read_refused(text: &[u8], lent: usize, number: u32) {
+        let mut cells = vec![7; lent];
+        refused(read_dump(text, &mut cells), number);
+        assert_eq!(cells, vec![7; lent]);
+    }
+
+    /// Zeros that take no memory until they are touched, or none where the machine does not lend so many.
+    fn zeros(cells: usize) -> Option<Vec<u64>> {
+        let layout = Layout::array::<u64>(cells).unwrap();
+        // SAFETY: the layout is not empty, it is that of the list, and zeros are numbers.
+        let start = unsafe { alloc_zeroed(layout) }.cast::<u64>();
+        (!start.is_null()).then(|| unsafe { Vec::from_raw_parts(start, cells, cells) })
+    }
+
+    #[test]
+    fn header() {
+        let text = plain::header();
+        let lines: Vec<&str> = text.lines().collect();
+        assert_eq!((text.len(), lines.len()), (1400, 53));
+        assert_eq!(lines[..4], ["$timescale 1 ns $end", "$scope module trace $end", "$var wire 64 ! clk $end", "$var wire 64 \" ctx $end"]);
+        assert_eq!(lines[4], "$var wire 64 # fn_hash0 $end");
+        assert_eq!(lines[9], "$var wire 64 ( op_bit0 $end");
+        assert_eq!(lines[27], "$var wire 64 : batch_flag0 $end");
+        assert_eq!(lines[30], "$var wire 64 = extra0 $end");
+        assert_eq!(lines[32], "$var wire 64 ? stack0 $end");
+        assert_eq!(lines[50..], ["$var wire 64 Q helper $end", "$upscope $end", "$enddefinitions $end"]);
+    }
+
+    /// The bytes and nothing behind them; the reduced cells come back and nothing behind them changes.
+    #[test]
+    fn written_and_read() {
+        let wanted = text();
+        for more in [0, 1, 100] {
+            let mut text = vec![7; wanted.len() + more];
+            assert_eq!(write_dump(&cells(), &mut text), Ok(wanted.len()));
+            assert_eq!(text, [wanted.as_bytes(), &vec![7; more]].concat());
+        }
+        let reduced: Vec<u64> = cells().iter().map(|cell| cell % P).collect();
+        for more in [0, 1, 3] {
+            let mut back = vec![P + 7; (3 + more) * WIDTH];
+            assert_eq!(read_dump(wanted.as_bytes(), &mut back), Ok(3));
+            assert_eq!(back, [reduced.clone(), vec![P + 7; more * WIDTH]].concat());
+        }
+    }
+
+    /// C10, finished: its dump comes back, and reads as the listing.
+    #[test]
+    fn listing_comes_back() {
+        let trace = listing::trace();
+        let back = undump(&dump(&trace).unwrap()).unwrap();
+        assert_eq!(back, trace);
+        assert_eq!(listing::table(&EXAMPLE, back.chunks(WIDTH).map(|row| row.try_into().unwrap())), listing::TABLE);
+    }
+
+    #[test]
+    fn into_lists_and_files() {
+        assert_eq!(dump_size(&cells()), text().len());
+        assert_eq!(dump(&cells()), Ok(text().into_bytes()));
+        let mut file = Vec::new();
+        assert_eq!(dump_to(&cells(), &mut file).unwrap(), file.len());
+        assert_eq!(file, text().as_bytes());
+        assert_eq!(undump(&file), Ok(cells().iter().map(|cell| cell % P).collect()));
+        let error = dump_to(&[], &mut file).unwrap_err();
+        assert_eq!(error.get_ref().and_then(|inner| inner.downcast_ref()), Some(&Refusal(11)));
+        assert_eq!(file, text().as_bytes());
+        refused(dump(&cells()[1..]), 11);
+        refused(undump(&file[1..]), 29);
+        refused(undump(&[]), 29);
+    }
+
+    /// 11 for no rows and for parts of rows, also where the text is too short; then 28.
+    #[test]
+    fn writing_refused() {
+        let (cells, bytes) = (cells(), text().len());
+        for lent in [0, 1400, bytes] {
+            write_refused(&[], lent, 11);
+            write_refused(&cells[1..], lent, 11);
+            write_refused(&cells[..1], lent, 11);
+            write_refused(&cells[..50], lent, 11);
+        }
+        for lent in [0, 1, 1399, 1400, bytes - 1] {
+            write_refused(&cells, lent, 28);
+        }
+    }
+
+    /// 11 above 2^24 rows, where so many zeros are to be had.
+    #[test]
+    fn too_many_rows() {
+        let Some(mut cells) = zeros(WIDTH * ((1 << 24) + 1)) else { return };
+        write_refused(&cells, 0, 11);
+        write_refused(&cells, 1400, 11);
+        refused(read_dump(b"", &mut cells), 11);
+        refused(read_dump(text().as_bytes(), &mut cells), 11);
+        assert!(cells[..4 * WIDTH].iter().all(|&cell| cell == 0));
+    }
+
+    /// 29: the text with one thing changed.
+    #[test]
+    fn reading_refused() {
+        let good = text();
+        let changed = |from: &str, to: &str| {
+            assert_eq!(good.matches(from).count(), 1, "{from:?}");
+            read_refused(good.replacen(from, to, 1).as_bytes(), 3 * WIDTH, 29);
+        };
+        changed("$timescale 1 ns", "$timescale 1 ps");
+        changed("$upscope $end\n", "");
+        changed("#0\n", "#00\n");
+        changed("#0\n", "#1\n");
+        changed("#0\n", "$dumpvars\n#0\n");
+        changed("\n#1\n", "\n#2\n");
+        changed("\n#1\n", "\n");
+        changed("\n#2\n", "\n#1\n");
+        changed("\nb0 !\n", "\n");
+        changed("\nb0 !\n", "\nb00 !\n");
+        changed("\nb1 \"\n", "\nb01 \"\n");
+        changed("\nb1 \"\n", "\nb \"\n");
+        changed("\nb1 \"\n", "\nb2 \"\n");
+        changed("\nb1 \"\n", "\nb1  \"\n");
+        changed("\nb1 \"\n", &format!("\nb{P:b} \"\n"));
+        changed("\nb1 \"\n", &format!("\nb{:b} \"\n", u64::MAX));
+        changed("\nb1 \"\n", &format!("\nb{:065b} \"\n", 1));
+        changed("\nb1 \"\n", &format!("\nb{:b} \"\n", (1u128 << 64) + 1));
+        changed("#1\n", "#1\nb0 !\n");
+        changed("#1\n", "#1\nb1 R\n");
+        changed("#2\nb1", "#2\nb1 R\nb1");
+        changed("#1\n", "#1\nb1 \"\nb1 !\n");
+        changed("\nb0 Q\n", "\nb0 Q");
+        changed("\nb0 Q\n", "\nb0 Q\n\n");
+        changed("\nb0 Q\n", "\nb0 Q\n ");
+        changed("\nb0 Q\n", "\nb0 Q\r\n");
+        read_refused(b"", WIDTH, 29);
+        read_refused(plain::header().as_bytes(), WIDTH, 29);
+        read_refused(good.replace('\n', "\r\n").as_bytes(), 3 * WIDTH, 29);
+    }
+
+    /// 11 for a length that no buffer has, then 29, then 11 for a good text that needs more.
+    #[test]
+    fn reading_refused_in_order() {
+        let (good, wrong) = (text(), text() + "#4\n");
+        for lent in [1, 48, 50, 3 * WIDTH - 1, 3 * WIDTH + 1] {
+            read_refused(b"", lent, 11);
+            read_refused(wrong.as_bytes(), lent, 11);
+            read_refused(good.as_bytes(), lent, 11);
+        }
+        for lent in [0, WIDTH, 2 * WIDTH] {
+            read_refused(wrong.as_bytes(), lent, 29);
+            read_refused(good.as_bytes(), lent, 11);
+        }
+        read_refused(wrong.as_bytes(), 3 * WIDTH, 29);
+        read_refused(wrong.as_bytes(), 9 * WIDTH, 29);
+    }
+
+    /// The most rows: their dump comes back, and one with a row more is none of ours. Takes some gigabytes and a minute.
+    #[test]
+    #[ignore]
+    fn most_rows() {
+        let cells = zeros(WIDTH << 24).unwrap();
+        let mut text = dump(&cells).unwrap();
+        let mut back = zeros(WIDTH << 24).unwrap();
+        assert_eq!(read_dump(&text, &mut back), Ok(1 << 24));
+        drop(back);
+        read_refused(&text, 9 * WIDTH, 11);
+        text.extend(b"#16777216\n");
+        read_refused(&text, 9 * WIDTH, 29);
+    }
+}
+
 /// Replay, by the listing of document 01 and by refusals of records.
 mod replayed {
     use core_trace::calls::{DecoderState, Positions, RECORD, records};

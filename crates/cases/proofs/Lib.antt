@@ -1,2 +1,4 @@
+pub mod LoopCells
 pub mod Cases
+pub mod LoopDump
 pub mod Limits

@@ -5,12 +5,14 @@ use mathlib.Core.List.{List}
 use Prim.Native.Nat.{ℕ, suc, _*_, _^_, _≤_, _<_}
 use borrow.Author.Tests.{le-ltb, lt-leb}
 use lib.ListN.{length}
+use Rattle.groups.specs.Answer.{refused}
 use Rattle.records.specs.declared.profile.Profile.{Profile}
 use Rattle.records.specs.Cells.{fragmentWrong}
 use Rattle.records.specs.Profiles.{profileWrong}
 use Rattle.passes.specs.Passes.{bufferWrong, firstOf, fragmentsWrong, refusal1, refusal2, refusal3, refusal4, refusal5, refusalAll}
 use Rattle.readings.specs.Answers.{readerRefusal}
 use Rattle.reader.specs.Views.{viewRefused}
+use Rattle.dump.specs.Dumping.{noTrace, dumping, readingDump}
 
 abbrev most : ℕ
 most = 49 * 2 ^ 24
@@ -53,6 +55,19 @@ reader-most p cells depths right e h = rw (right, e, le-ltb depths (2 ^ 24) h) r
 reader-over : (p : Profile) (cells : List ℕ) (depths : ℕ) → profileWrong p ≡ false → length cells ≡ over → readerRefusal p cells depths ≡ 11
 unfolding readerRefusal firstOf bufferWrong
 reader-over p cells depths right e = rw (right, e) refl
+
+-- the writer of dumps, of every buffer, and the buffer lent to their reader, whatever the text
+writer-most : noTrace most ≡ false
+unfolding noTrace bufferWrong
+writer-most = refl
+
+writer-over : (cells : List ℕ) (lent : ℕ) → length cells ≡ over → dumping cells lent ≡ refused 11
+unfolding dumping noTrace bufferWrong
+writer-over cells lent e = rw e refl
+
+undumping-over : (text : List ℕ) → readingDump text over ≡ refused 11
+unfolding readingDump bufferWrong
+undumping-over text = refl
 
 -- each pass and the finisher, of every buffer of one row more, with a profile that 2 does not refuse
 module _ (p : Profile) (buffer : List ℕ) (right : profileWrong p ≡ false) (e : length buffer ≡ over) where

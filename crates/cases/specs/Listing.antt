@@ -1,34 +1,21 @@
 -- Document 01, C10: "Fields: row, name or opcode, addr, count". The listing of a trace, as bytes.
 use mathlib.Core.List.{List, [], _∷_, _++_}
-use Prim.Native.Nat.{ℕ, zero, suc, _+_, _/_, _%_}
-use Prim.Native.Char.{code}
-use Prim.Native.String.{String, [] as []ˢ, _∷_ as _∷ˢ_}
-use lib.Dec.{ltb, eqb}
+use Prim.Native.Nat.{ℕ, suc}
+use Prim.Native.String.{String}
+use lib.Dec.{eqb}
 use Rattle.groups.specs.Answer.{pick}
 use Rattle.records.specs.declared.profile.Profile.{Profile}
 use Rattle.passes.specs.Buffers.{addrOf}
 use Rattle.passes.specs.Passes.{opcodeOf}
 use Rattle.readings.specs.Tokens.{countOf}
 use Rattle.readings.specs.Readings.{allRows}
-
--- the bytes of an ASCII text
-unfoldable pub bytes : String → List ℕ
-bytes []ˢ = []
-bytes (c ∷ˢ text) = code c ∷ bytes text
+use Rattle.dumps.specs.Numerals.{decimal}
+use Rattle.dumps.specs.Dumps.{bytes}
 
 -- texts, each as a line: a newline behind it
 unfoldable pub textLines : List String → List ℕ
 textLines [] = []
 textLines (text ∷ texts) = bytes text ++ (10 ∷ textLines texts)
-
--- the decimal digits of a number that has at most k, from the highest on
-unfoldable pub digitsWithin : (k n : ℕ) → List ℕ
-digitsWithin zero n = []
-digitsWithin (suc k) n = pick (ltb n 10) ((48 + n) ∷ []) (digitsWithin k (n / 10) ++ ((48 + n % 10) ∷ []))
-
--- a number of 64 bits has at most 20
-abbrev pub decimal : ℕ → List ℕ
-decimal n = digitsWithin 20 n
 
 -- the names of the control rows beside their opcodes: all of the profile's other than PUSH, which is an op
 unfoldable pub names : Profile → List (ℕ × String)

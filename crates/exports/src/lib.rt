@@ -1,6 +1,10 @@
 // The calls for programs in other languages. Each passes its arguments on; its contract is that of the function it calls. A slice crosses
 // as a pointer and a length, an array behind a reference as a pointer, a struct by value; instead of a part of a slice its place is answered.
 // Every call takes any numbers and answers 0 or document 01's number of the refusal; a refused place is empty.
+use dump::read_text::DumpRead;
+use dump::read_text::read_dump;
+use dump::write::DumpWritten;
+use dump::write::write_dump;
 use field::inverse::inverse;
 use index::build::IndexBuilt;
 use index::build::build_index;
@@ -32,9 +36,10 @@ ghost use Rattle.readings.specs.Answers.{depthsAfter};
 ghost use Rattle.readings.specs.Parser.{answer};
 ghost use Rattle.reader.specs.Reads.{traceRead};
 ghost use Rattle.field.specs.Inverse.{inverseOf};
-ghost use Rattle.groups.specs.Answer.{number};
+ghost use Rattle.groups.specs.Answer.{number, values};
 ghost use Rattle.indexes.specs.Enclosing.{enclosing};
 ghost use Rattle.index.specs.Building.{building, indexBuilt, indexAfter};
+ghost use Rattle.dump.specs.Dumping.{dumping, textAfter, readingDump, rowsRead, cellsAfter};
 ghost use Rattle.exports.specs.Places.{rowStart, rowCells, blockFound, blockPlace};
 
 // The number, always 0, and the inverse.
@@ -246,4 +251,22 @@ pub extern "C" fn core_enclosing_block(index: &[u32], row: usize) -> BlockFound
             place: 0,
         },
     }
+}
+
+// Writes a finished trace as a value change dump.
+#[no_mangle]
+pub extern "C" fn core_write_dump(cells: &[u64], text: &mut [u8]) -> DumpWritten
+    ensures { λ r. ⌜ (r .number ≡ number (dumping (now (cells .entry)) (length (now (text .entry))))) × (r .bytes ≡ values 0 (dumping (now (cells .entry)) (length (now (text .entry))))) ⌝ }
+    ensures { λ _. ⌜ now (text .exit) ≡ textAfter (now (cells .entry)) (dumping (now (cells .entry)) (length (now (text .entry)))) (now (text .entry)) ⌝ }
+{
+    write_dump(cells, text)
+}
+
+// Reads a dump back into cells.
+#[no_mangle]
+pub extern "C" fn core_read_dump(text: &[u8], cells: &mut [u64]) -> DumpRead
+    ensures { λ r. ⌜ (r .number ≡ number (readingDump (now (text .entry)) (length (now (cells .entry))))) × (r .rows ≡ rowsRead (readingDump (now (text .entry)) (length (now (cells .entry))))) ⌝ }
+    ensures { λ _. ⌜ now (cells .exit) ≡ cellsAfter (readingDump (now (text .entry)) (length (now (cells .entry)))) (now (cells .entry)) ⌝ }
+{
+    read_dump(text, cells)
 }

@@ -4,6 +4,9 @@
 //!
 //! Then reading: a trace of one loop with passes of up to 12 levels, read by the proved library and by the checker, and copied into a buffer
 //! that is there. One line a number of rows, measured in the same way.
+//!
+//! Then dumps: rows of a finished trace, equal rows and random ones, written and read back by the proved library and in plain Rust. One line a
+//! kind and a number of rows, measured in the same way.
 
 #[cfg(not(all(listed, archive)))]
 fn main() {
@@ -26,6 +29,10 @@ fn main() {
     for log in (10..=20).step_by(2).filter(|&log| log <= most) {
         measure::reading(1 << log);
     }
+    println!("cells rows bytes write_dump plain ratio read_dump plain ratio");
+    for log in [10, 14, 17].into_iter().filter(|&log| log <= most) {
+        measure::dumps(1 << log);
+    }
 }
 
 #[cfg(all(listed, archive))]
@@ -35,7 +42,8 @@ mod measure {
 
     use core_trace::calls::{DecoderState, Positions, records};
     use core_trace::checker::check;
-    use core_trace::exports::{BUILT, WIDTH, finish, read_trace, replay_calls};
+    use core_trace::dump;
+    use core_trace::exports::{BUILT, WIDTH, dump_size, finish, read_dump, read_trace, replay_calls, write_dump};
     use core_trace::forest::{Forests, Queues};
     use core_trace::listed::convert;
     use core_trace::listed::parallel::passes;
@@ -147,5 +155,44 @@ mod measure {
         }
         let [a, b, c] = best.map(|t| t / rows as f64);
         println!("{rows} {a:.1} {b:.1} {c:.1} {:.2} {:.2} {:.2}", a / b, a / c, 1e3 / a);
+    }
+
+    /// A finished trace of so many rows.
+    fn trace(rows: usize) -> Vec<u64> {
+        let run = long_run(&Rng::new(7), 10, rows - 1, rows);
+        let lent = Forests::new(&run.forests);
+        let (records, queues) = (records(&run.fragments[0]), run.queues.clone());
+        proved(&[Fragment { records, queues, state: run.state }], &lent, &run, rows)
+    }
+
+    pub fn dumps(rows: usize) {
+        let rng = Rng::new(7);
+        let typical = trace(rows);
+        let constant = typical[..WIDTH].repeat(rows);
+        let random = (0..rows * WIDTH).map(|_| rng.next()).collect();
+        for (kind, cells) in [("typical", typical), ("constant", constant), ("random", random)] {
+            dumping(kind, &cells);
+        }
+    }
+
+    fn dumping(kind: &str, cells: &[u64]) {
+        let rows = cells.len() / WIDTH;
+        let mut text = vec![0; dump_size(cells)];
+        let mut back = vec![0; cells.len()];
+        let mut best = [f64::MAX; 4];
+        for _ in 0..5 {
+            let (t, bytes) = time(|| write_dump(black_box(cells), &mut text));
+            best[0] = best[0].min(t);
+            let (t, wanted) = time(|| black_box(dump::text_of(black_box(cells))));
+            best[1] = best[1].min(t);
+            assert!(bytes == Ok(wanted.len()) && text == wanted, "the two differ");
+            let (t, read) = time(|| read_dump(black_box(&text), &mut back));
+            best[2] = best[2].min(t);
+            let (t, wanted) = time(|| black_box(dump::cells_of(black_box(&text))));
+            best[3] = best[3].min(t);
+            assert!(read == Ok(rows) && wanted.as_ref() == Some(&back), "the two differ");
+        }
+        let [a, b, c, d] = best.map(|t| t / rows as f64);
+        println!("{kind} {rows} {} {a:.1} {b:.1} {:.2} {c:.1} {d:.1} {:.2}", text.len() / rows, a / b, c / d);
     }
 }

@@ -1,0 +1,33 @@
+-- Laws of how many bytes lines take.
+use mathlib.Core.Path.{_≡_, _∙_, sym, ap}
+use mathlib.Core.List.{List, [], _∷_}
+use Prim.Native.Nat.{ℕ, _+_}
+use native.Mathlib.Omega.{arith}
+use lib.ListN.{length, length-append}
+use Rattle.dumps.specs.Numerals.{binary, decimal}
+use Rattle.dumps.specs.Dumps.{identifier, timeLine, valueLine}
+use Rattle.dump.specs.Places.{valueAt, oldAt, changeLine, changesTo, linesOf, linesTo}
+use Rattle.dump.proofs.Places.{unchanged, changed, changes-next, lines-next}
+
+pub value-bytes : (column value : ℕ) → length (valueLine column value) ≡ 4 + length (binary value)
+unfolding valueLine
+value-bytes column value = omega (arith, length-append (binary value) (32 ∷ identifier column ∷ 10 ∷ []))
+
+pub time-bytes : (row : ℕ) → length (timeLine row) ≡ 2 + length (decimal row)
+unfolding timeLine
+time-bytes row = omega (arith, length-append (decimal row) (10 ∷ []))
+
+pub no-bytes : (column old value : ℕ) → old ≡ value → 0 ≡ length (changeLine column old value)
+no-bytes column old value e = sym (ap (λ (l : List ℕ). length l) (unchanged column old value e))
+
+pub some-bytes : (column old value : ℕ) → ¬ (old ≡ value) → 4 + length (binary value) ≡ length (changeLine column old value)
+some-bytes column old value h = sym (ap (λ (l : List ℕ). length l) (changed column old value h) ∙ value-bytes column value)
+
+pub column-bytes : (cells : List ℕ) (row n : ℕ) → length (changesTo cells row n) + length (changeLine n (oldAt cells row n) (valueAt cells row n)) ≡ length (changesTo cells row (n + 1))
+column-bytes cells row n =
+    sym (length-append (changesTo cells row n) (changeLine n (oldAt cells row n) (valueAt cells row n)))
+    ∙ ap (λ (l : List ℕ). length l) (changes-next cells row n)
+
+pub row-bytes : (cells : List ℕ) (n : ℕ) → length (linesTo cells n) + (2 + length (decimal n)) + length (changesTo cells n 49) ≡ length (linesTo cells (n + 1))
+row-bytes cells n =
+    omega (arith, length-append (linesTo cells n) (linesOf cells n), length-append (timeLine n) (changesTo cells n 49), time-bytes n, ap (λ (l : List ℕ). length l) (lines-next cells n))

@@ -1,0 +1,16 @@
+pub mod ByPlaces
+pub mod DigitLaws
+pub mod InPlace
+pub mod LengthLaws
+pub mod LineLaws
+pub mod Places
+pub mod Putting
+pub mod ReadLaws
+pub mod RowLaws
+pub mod RowsLaws
+pub mod ScanLaws
+pub mod StoreLaws
+pub mod UndumpLaws
+pub mod Writing
+pub mod WrittenRead
+pub mod Waveforms

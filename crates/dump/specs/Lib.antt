@@ -1,0 +1,5 @@
+pub mod Dumping
+pub mod Places
+pub mod Putting
+pub mod Reading
+pub mod Scanning

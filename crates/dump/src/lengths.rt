@@ -1,0 +1,79 @@
+// How many bytes the lines of a buffer take.
+use crate::lines::old_value;
+use crate::lines::same_number;
+use field::cell::cell;
+ghost use mathlib.Core.Path.{_≡_};
+ghost use Prim.Native.Nat.{_+_, _*_, _/_, _≤_, _<_};
+ghost use lib.ListN.{length};
+ghost use Rattle.dumps.specs.Numerals.{binary, decimal};
+ghost use Rattle.dump.specs.Places.{valueAt, oldAt, changeLine, changesTo, linesTo};
+
+// How many binary digits a value has, by its bits.
+pub(crate) fn binary_digits(value: u64) -> usize
+    ensures { λ r. ⌜ r ≡ length (binary value) ⌝ }
+{
+    if value == 0 {
+        return 1;
+    }
+    (64 - u64::leading_zeros(value)) as usize
+}
+
+// How many decimal digits the number of a row has, by the powers of ten.
+pub(crate) fn decimal_digits(row: usize) -> usize
+    requires { ⌜ row < 16777216 ⌝ }
+    ensures { λ r. ⌜ r ≡ length (decimal row) ⌝ }
+{
+    let mut count = 1;
+    let mut limit = 10;
+    while limit <= row {
+        limit = 10 * limit;
+        count += 1;
+    }
+    count
+}
+
+// The bytes of a column's line, 0 where its value did not change.
+fn change_bytes(cells: &[u64], row: usize, column: usize) -> usize
+    requires { ⌜ (row < 16777216) × (column < 49) × (49 * row + 49 ≤ length (now cells)) ⌝ }
+    ensures { λ r. ⌜ r ≡ length (changeLine column (oldAt (now (cells .entry)) row column) (valueAt (now (cells .entry)) row column)) ⌝ }
+{
+    if same_number(cells, row, column) {
+        return 0;
+    }
+    let value = cell(cells, 49 * row + column);
+    let old = old_value(cells, row, column);
+    if old == value {
+        return 0;
+    }
+    4 + binary_digits(value)
+}
+
+// The bytes of the lines of a row's values that changed.
+fn changes_bytes(cells: &[u64], row: usize) -> usize
+    requires { ⌜ (row < 16777216) × (49 * row + 49 ≤ length (now cells)) ⌝ }
+    ensures { λ r. ⌜ r ≡ length (changesTo (now (cells .entry)) row 49) ⌝ }
+{
+    let mut bytes = 0;
+    let mut column = 0;
+    while column < 49 {
+        bytes += change_bytes(cells, row, column);
+        column += 1;
+    }
+    bytes
+}
+
+// The bytes of the lines of all rows.
+pub(crate) fn rows_bytes(cells: &[u64]) -> usize
+    requires { ⌜ length (now cells) ≤ 822083584 ⌝ }
+    ensures { λ r. ⌜ r ≡ length (linesTo (now (cells .entry)) (length (now (cells .entry)) / 49)) ⌝ }
+{
+    let rows = cells.len() / 49;
+    let mut bytes = 0;
+    let mut row = 0;
+    while row < rows {
+        bytes += 2 + decimal_digits(row);
+        bytes += changes_bytes(cells, row);
+        row += 1;
+    }
+    bytes
+}

@@ -1,0 +1,109 @@
+// Reading a dump.
+use crate::header::after_header;
+use crate::read_rows::Counted;
+use crate::read_rows::count_rows;
+use crate::read_rows::row_at;
+use crate::read_rows::store_rows;
+use field::felt::Felt;
+ghost use mathlib.Core.Path.{_≡_};
+ghost use Prim.Native.Nat.{_≤_};
+ghost use lib.ListN.{length, drop};
+ghost use Rattle.groups.specs.Answer.{number};
+ghost use Rattle.passes.specs.Passes.{bufferWrong};
+ghost use Rattle.dumps.specs.Undump.{orNone, readRows, noValues, hasAll, fromFirst};
+ghost use Rattle.dump.specs.Dumping.{fewRows, readingDump, rowsRead, cellsAfter};
+ghost use Rattle.dump.specs.Reading.{timedRow, wholeFirst, RowsCounted};
+
+// What is answered: 0, or the number of a refusal; the number of rows, 0 on a refusal.
+#[repr(C)]
+pub struct DumpRead {
+    pub number: u32,
+    pub rows: usize,
+}
+
+// Whether every column has a value.
+fn has_all(values: [u64; 49]) -> bool
+    ensures { λ r. ⌜ r ≡ hasAll values ⌝ }
+{
+    let mut i = 0;
+    while i < 49 {
+        if Felt::MODULUS <= values[i] {
+            return false;
+        }
+        i += 1;
+    }
+    true
+}
+
+// Whether there is a first row with all values.
+fn whole_first(text: &[u8], at: usize) -> bool
+    requires { ⌜ at ≤ length (now text) ⌝ }
+    ensures { λ r. ⌜ r ≡ wholeFirst (timedRow 0 noValues (drop at (now (text .entry)))) ⌝ }
+{
+    let mut row = [Felt::MODULUS; 49];
+    let first = row_at(text, at, 0, &mut row);
+    if !first.good {
+        return false;
+    }
+    has_all(row)
+}
+
+// The rows of a good text behind its header.
+fn good_rows(text: &[u8], at: usize) -> Counted
+    requires { ⌜ at ≤ length (now text) ⌝ }
+    ensures { λ r. ⌜ RowsCounted (fewRows (orNone (readRows (length (drop at (now (text .entry)))) 0 noValues (drop at (now (text .entry)))) fromFirst)) (r .good) (r .rows) ⌝ }
+{
+    if !whole_first(text, at) {
+        return Counted {
+            good: false,
+            rows: 0,
+        };
+    }
+    count_rows(text, at)
+}
+
+// Refusal 11 of a lent buffer: no multiple of 49, or over 2^24 rows.
+fn wrong_buffer(cells: usize) -> bool
+    ensures { λ r. ⌜ r ≡ bufferWrong cells ⌝ }
+{
+    (0 < cells % 49) | (16777216 < cells / 49)
+}
+
+// Reads a dump that is written here back into cells. Refusals: 11 for a buffer of wrong length, 29 for a text that the writer does not give,
+// then 11 for a buffer too short. A refusal changes nothing, and the cells behind the rows stay.
+pub fn read_dump(text: &[u8], cells: &mut [u64]) -> DumpRead
+    ensures { λ r. ⌜ (r .number ≡ number (readingDump (now (text .entry)) (length (now (cells .entry))))) × (r .rows ≡ rowsRead (readingDump (now (text .entry)) (length (now (cells .entry))))) ⌝ }
+    ensures { λ _. ⌜ now (cells .exit) ≡ cellsAfter (readingDump (now (text .entry)) (length (now (cells .entry)))) (now (cells .entry)) ⌝ }
+{
+    if wrong_buffer(cells.len()) {
+        return DumpRead {
+            number: 11,
+            rows: 0,
+        };
+    }
+    let start = after_header(text);
+    if !start.good {
+        return DumpRead {
+            number: 29,
+            rows: 0,
+        };
+    }
+    let counted = good_rows(text, start.at);
+    if !counted.good {
+        return DumpRead {
+            number: 29,
+            rows: 0,
+        };
+    }
+    if cells.len() / 49 < counted.rows {
+        return DumpRead {
+            number: 11,
+            rows: 0,
+        };
+    }
+    store_rows(text, start.at, counted.rows, cells);
+    DumpRead {
+        number: 0,
+        rows: counted.rows,
+    }
+}

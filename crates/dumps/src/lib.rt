@@ -1,0 +1,1 @@
+// Theory, no code: traces as value change dumps.
