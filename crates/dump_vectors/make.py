@@ -109,44 +109,55 @@ def with_cell(row, column, value):
     return row[:column] + [value] + row[column + 1:]
 
 
-def writes():
-    out = []
+class Writes:
+    """Vectors that write a buffer."""
 
-    def add(words, cells, lent=None, number=0):
+    def __init__(self):
+        self.out = []
+
+    def add(self, words, cells, lent=None, number=0):
         if lent is None:
             lent = len(dump(cells))
         answer = write(cells, lent)
         assert answer[0] == number, (words, answer[:2])
-        out.append((words, [len(cells)] + cells + [lent] + answer))
+        self.out.append((words, [len(cells)] + cells + [lent] + answer))
 
+
+def lent_texts(writes):
     size = len(dump(ZEROS))
-    add("one row", ZEROS)
-    add("one row, each cell its column", COLUMNS)
+    writes.add("one row", ZEROS)
+    writes.add("one row, each cell its column", COLUMNS)
     for more in (1, 7, 49, 1000):
-        add("a longer text", COLUMNS, len(dump(COLUMNS)) + more)
+        writes.add("a longer text", COLUMNS, len(dump(COLUMNS)) + more)
     for lent in (0, 1, 1399, 1400, 1401, size - 1):
-        add("a text too short", ZEROS, lent, 28)
-        add("a text too short", [P] * 49, lent, 28)
-    add("a text too short", COLUMNS * 3, len(dump(COLUMNS * 3)) - 1, 28)
+        writes.add("a text too short", ZEROS, lent, 28)
+        writes.add("a text too short", [P] * 49, lent, 28)
+    writes.add("a text too short", COLUMNS * 3, len(dump(COLUMNS * 3)) - 1, 28)
     for lent in (0, 1400, size, 4000):
-        add("no rows", [], lent, 11)
+        writes.add("no rows", [], lent, 11)
         for cells in (1, 48, 50, 97):
-            add("no multiple", [5] * cells, lent, 11)
+            writes.add("no multiple", [5] * cells, lent, 11)
+
+
+def written_rows(writes):
     for value in (1, 2, 2**32 - 1, 2**32, 2**63, P - 1, P, P + 1, P + 2**31, LARGEST):
         for column in (0, 14, 48):
-            add("one cell", with_cell(ZEROS, column, value))
-    add("from p on", [P + k for k in COLUMNS])
-    add("from p on, all else reduced", [P + k if k % 2 else k for k in COLUMNS])
-    add("large cells", [LARGEST - k if k % 2 else P - 1 - k for k in range(24)] + ZEROS[24:])
-    add("two equal rows", COLUMNS * 2)
-    add("two equal rows, p added in one", COLUMNS + [P + k for k in COLUMNS])
-    add("two equal rows, p taken in one", [P + k for k in COLUMNS] + COLUMNS)
-    add("p below zero and zero below p", ZEROS + [P] * 49 + ZEROS)
-    add("a value that comes and goes", ZEROS + with_cell(ZEROS, 3, 5) + ZEROS)
-    add("other rows", COLUMNS + COLUMNS[::-1])
-    add("equal rows, times of two digits", COLUMNS * 12)
+            writes.add("one cell", with_cell(ZEROS, column, value))
+    writes.add("from p on", [P + k for k in COLUMNS])
+    writes.add("from p on, all else reduced", [P + k if k % 2 else k for k in COLUMNS])
+    writes.add("large cells", [LARGEST - k if k % 2 else P - 1 - k for k in range(24)] + ZEROS[24:])
+    writes.add("two equal rows", COLUMNS * 2)
+    writes.add("two equal rows, p added in one", COLUMNS + [P + k for k in COLUMNS])
+    writes.add("two equal rows, p taken in one", [P + k for k in COLUMNS] + COLUMNS)
+    writes.add("p below zero and zero below p", ZEROS + [P] * 49 + ZEROS)
+    writes.add("a value that comes and goes", ZEROS + with_cell(ZEROS, 3, 5) + ZEROS)
+    writes.add("other rows", COLUMNS + COLUMNS[::-1])
+    writes.add("equal rows, times of two digits", COLUMNS * 12)
     for column in range(0, 49, 3):
-        add("one change", ZEROS + with_cell(ZEROS, column, 1 + column))
+        writes.add("one change", ZEROS + with_cell(ZEROS, column, 1 + column))
+
+
+def random_rows(writes):
     rng = random.Random(2060)
     for _ in range(30):
         row, cells = [rng.randrange(3) for _ in range(49)], []
@@ -154,8 +165,15 @@ def writes():
             cells += row
             for _ in range(rng.choice([0, 1, 2, 6])):
                 row = with_cell(row, rng.randrange(49), rng.choice([0, 1, P, P + 1, rng.randrange(40), rng.randrange(2**64)]))
-        add("random rows", cells)
-    return out
+        writes.add("random rows", cells)
+
+
+def writes():
+    made = Writes()
+    lent_texts(made)
+    written_rows(made)
+    random_rows(made)
+    return made.out
 
 
 # ---- Reading --------------------------------------------------------------------------------------------------------------------
@@ -230,13 +248,18 @@ def rows_and_lines(reads):
     reads.replace("a row more, its time wrong", len(reads.text), len(reads.text), "#%d\n" % (rows + 1), 49 * rows + 49, 29)
     lines = reads.lines()
     for k, (start, end) in enumerate(lines):
-        if k < 53 or k % 2:
+        if k <= 102 or k % 2:  # all lines of the header and of the first row, and some behind them
             reads.replace("a line removed", start, end, "")
         if k % 3 == 0:
             reads.replace("a line twice", end, end, reads.text[start:end], number=29)
         if k % 3 == 1 and k + 1 < len(lines):
             after = reads.text[end:lines[k + 1][1]]
             reads.replace("two lines exchanged", start, lines[k + 1][1], after + reads.text[start:end], number=29)
+
+
+def header_bytes(reads):
+    for at in (0, 1, 20, 21, 59, 700, 1398, 1399):
+        reads.replace("another byte in the header", at, at + 1, chr(ord(reads.text[at]) ^ 1), number=29)
 
 
 def values(reads):
@@ -319,6 +342,7 @@ def reads():
         rows_and_lines(each)
         values(each)
         times(each)
+    header_bytes(one)
     changes(four)
     anywhere(one, 2061, 150)
     anywhere(four, 2062, 150)

@@ -12,12 +12,12 @@ use crate::profile::Profile;
 pub const WIDTH: usize = 49;
 
 /// p: a cell is a number modulo it.
-const MODULUS: u64 = 18446744069414584321;
+pub const MODULUS: u64 = 18446744069414584321;
 
 /// How many cells are built at a row for the next one: clk, ctx, fn_hash (4); stack top (16), b0, b1, helper.
 pub const BUILT: usize = 25;
 
-/// The number of a refusal, as document 01 lists them.
+/// The number of a refusal, as docs/ARCHIVE.md lists them.
 #[derive(Clone, Copy, Debug, PartialEq, Eq, PartialOrd, Ord)]
 pub struct Refusal(pub u32);
 
@@ -348,8 +348,8 @@ pub fn read_dump(text: &[u8], cells: &mut [u64]) -> Result<usize, Refusal> {
     accepted(r.number).map(|()| r.rows)
 }
 
-/// How many bytes the dump of a buffer has.
-pub fn dump_size(cells: &[u64]) -> usize {
+/// The bytes of the lines of whole rows, and of the header.
+fn lines_size(cells: &[u64]) -> usize {
     const HEADER: usize = 1400;
     let time = |row: usize| row.checked_ilog10().map_or(1, |log| log as usize + 1) + 2;
     let line = |value: u64| value.checked_ilog2().map_or(1, |log| log as usize + 1) + 4;
@@ -359,9 +359,18 @@ pub fn dump_size(cells: &[u64]) -> usize {
     HEADER + times + values
 }
 
-/// The dump of a finished trace.
+/// How many bytes the dump of a buffer has. Refused by 11, as [`write_dump`] is.
+pub fn dump_size(cells: &[u64]) -> Result<usize, Refusal> {
+    // No dump fits into no bytes: a buffer that has one gets 28.
+    match write_dump(cells, &mut []) {
+        Err(Refusal(28)) => Ok(lines_size(cells)),
+        answer => answer,
+    }
+}
+
+/// The dump of a finished trace. Refused by 11, as [`write_dump`] is, before anything is allocated.
 pub fn dump(cells: &[u64]) -> Result<Vec<u8>, Refusal> {
-    let mut text = vec![0; dump_size(cells)];
+    let mut text = vec![0; dump_size(cells)?];
     let bytes = write_dump(cells, &mut text)?;
     text.truncate(bytes);
     Ok(text)
@@ -375,10 +384,15 @@ pub fn dump_to(cells: &[u64], out: &mut impl std::io::Write) -> std::io::Result<
     Ok(text.len())
 }
 
-/// The cells of a dump, as many rows as it has time lines.
+/// The cells of a dump. Refused by 29, as [`read_dump`] is, before anything is allocated.
 pub fn undump(text: &[u8]) -> Result<Vec<u64>, Refusal> {
+    // No cells are enough for a dump: a text that is one gets 11.
+    match read_dump(text, &mut []) {
+        Err(Refusal(11)) => {}
+        answer => return answer.map(|_| Vec::new()),
+    }
     let times = text.split(|&byte| byte == b'\n').filter(|line| line.first() == Some(&b'#')).count();
-    let mut cells = vec![0; times.min(1 << 24) * WIDTH];
+    let mut cells = vec![0; times * WIDTH];
     read_dump(text, &mut cells)?;
     Ok(cells)
 }

@@ -29,7 +29,7 @@ pub const HEIGHT: usize = 10;
 /// The run of the listing, in fragments of the size.
 pub fn run(fragment_size: usize) -> Run {
     let batch = OpBatch { num_groups: 1, groups: [5, 0, 0, 0, 0, 0, 0, 0], starts: [0, 1, 1, 1, 1, 1, 1, 1, 1], ops: vec![5] };
-    let forest = vec![Slot::Node(MastNode::Block(1, vec![batch]), [1, 2, 3, 4]), Slot::Node(MastNode::Loop(0), [5, 6, 7, 8])];
+    let forest = vec![Slot::Node(MastNode::Block(1, vec![batch]), [20, 21, 22, 23]), Slot::Node(MastNode::Loop(0), [10, 11, 12, 13])];
     let (block, outer) = (MastNodeId(0), MastNodeId(1));
     let operation = Continuation::ResumeBasicBlock { node_id: block, batch_index: 0, op_idx_in_batch: 0 };
     let steps = [

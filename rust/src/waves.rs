@@ -7,17 +7,15 @@ use std::str::SplitAsciiWhitespace;
 use std::{env, fs};
 
 use crate::dump::names;
-use crate::exports::{WIDTH, dump_to};
-
-const P: u64 = 18446744069414584321;
+use crate::exports::{MODULUS, WIDTH, dump_to};
 
 /// The values of the columns at a time; none where a column was given none yet.
 type Row = [Option<u64>; WIDTH];
 
-/// Whether both programs are there.
-pub fn are_there() -> bool {
-    let is_there = |name: &str| !matches!(Command::new(name).arg("--help").output(), Err(error) if error.kind() == ErrorKind::NotFound);
-    is_there("vcd2fst") && is_there("fst2vcd")
+/// Of the two programs those that are not there.
+pub fn missing() -> Vec<&'static str> {
+    let is_missing = |name: &&str| matches!(Command::new(name).arg("--help").output(), Err(error) if error.kind() == ErrorKind::NotFound);
+    ["vcd2fst", "fst2vcd"].into_iter().filter(is_missing).collect()
 }
 
 /// Runs a program and answers what it writes.
@@ -29,11 +27,11 @@ fn run(name: &str, words: &[&Path]) -> Result<String, String> {
     String::from_utf8(done.stdout).map_err(|error| format!("{name}: {error}"))
 }
 
-/// A dump in any form: its variables' identifiers by column, and the rows so far.
-#[derive(Default)]
+/// A dump in any form: its variables' identifiers by column, the rows so far, and how many there may be.
 struct Waves {
     identifiers: Vec<(String, usize)>,
     rows: Vec<Row>,
+    most: usize,
 }
 
 impl Waves {
@@ -49,14 +47,14 @@ impl Waves {
         if *size == "64" { Ok(()) } else { Err(format!("{name} has {size} bits")) }
     }
 
-    /// A time: the rows up to it are as the last.
+    /// A later time: the rows up to it are as the last.
     fn time(&mut self, digits: &str) -> Result<(), String> {
         let time: usize = digits.parse().map_err(|_| format!("a time {digits}"))?;
-        let last = self.rows.last().copied().unwrap_or([None; WIDTH]);
-        if time >= self.rows.len() + 1000 {
-            return Err(format!("time {time} behind row {}", self.rows.len()));
+        if time < self.rows.len() || time >= self.most {
+            return Err(format!("time {time} behind {} of {} rows", self.rows.len(), self.most));
         }
-        self.rows.resize(self.rows.len().max(time + 1), last);
+        let last = self.rows.last().copied().unwrap_or([None; WIDTH]);
+        self.rows.resize(time + 1, last);
         Ok(())
     }
 
@@ -68,8 +66,8 @@ impl Waves {
         Ok(())
     }
 
-    fn read(text: &str) -> Result<Self, String> {
-        let mut waves = Self::default();
+    fn read(text: &str, most: usize) -> Result<Self, String> {
+        let mut waves = Self { identifiers: Vec::new(), rows: Vec::new(), most };
         let mut words = text.split_ascii_whitespace();
         while let Some(word) = words.next() {
             match word.split_at(1) {
@@ -94,13 +92,14 @@ impl Drop for Folder {
 
 /// The values of all columns at every time, as the two programs hand the dump of a buffer on.
 fn handed_on(cells: &[u64]) -> Result<Vec<Row>, String> {
-    let folder = Folder(env::temp_dir().join(format!("core-trace-{}", id())));
-    fs::create_dir_all(&folder.0).map_err(|error| error.to_string())?;
+    let path = env::temp_dir().join(format!("core-trace-{}", id()));
+    fs::create_dir(&path).map_err(|error| error.to_string())?;
+    let folder = Folder(path);
     let (dump, waves) = (folder.0.join("trace.vcd"), folder.0.join("trace.fst"));
     let mut file = fs::File::create(&dump).map_err(|error| error.to_string())?;
     dump_to(cells, &mut file).map_err(|error| error.to_string())?;
     run("vcd2fst", &[&dump, &waves])?;
-    Waves::read(&run("fst2vcd", &[&waves])?).map(|waves| waves.rows)
+    Waves::read(&run("fst2vcd", &[&waves])?, cells.len() / WIDTH).map(|waves| waves.rows)
 }
 
 /// Compares each value of all columns at every time with the buffer's reduced cells. Answers how many there are.
@@ -109,7 +108,7 @@ pub fn compare(cells: &[u64]) -> Result<usize, String> {
     if rows.len() != cells.len() / WIDTH {
         return Err(format!("{} times for {} rows", rows.len(), cells.len() / WIDTH));
     }
-    match rows.as_flattened().iter().zip(cells).position(|(value, cell)| *value != Some(cell % P)) {
+    match rows.as_flattened().iter().zip(cells).position(|(value, cell)| *value != Some(cell % MODULUS)) {
         Some(at) => Err(format!("time {}, {}: {:?} for {}", at / WIDTH, names()[at % WIDTH], rows.as_flattened()[at], cells[at])),
         None => Ok(cells.len()),
     }

@@ -384,18 +384,22 @@ mod dumped {
         }
     }
 
-    /// C10, finished: its dump comes back, and reads as the listing.
+    /// C10, finished: its dump is the file of docs/, comes back, and reads as the listing.
     #[test]
     fn listing_comes_back() {
         let trace = listing::trace();
-        let back = undump(&dump(&trace).unwrap()).unwrap();
+        let text = dump(&trace).unwrap();
+        assert_eq!(text, include_bytes!("../../docs/c10.vcd"));
+        let back = undump(&text).unwrap();
         assert_eq!(back, trace);
         assert_eq!(listing::table(&EXAMPLE, back.chunks(WIDTH).map(|row| row.try_into().unwrap())), listing::TABLE);
     }
 
     #[test]
     fn into_lists_and_files() {
-        assert_eq!(dump_size(&cells()), text().len());
+        assert_eq!(dump_size(&cells()), Ok(text().len()));
+        refused(dump_size(&[]), 11);
+        refused(dump_size(&cells()[1..]), 11);
         assert_eq!(dump(&cells()), Ok(text().into_bytes()));
         let mut file = Vec::new();
         assert_eq!(dump_to(&cells(), &mut file).unwrap(), file.len());
@@ -491,7 +495,7 @@ mod dumped {
         read_refused(wrong.as_bytes(), 9 * WIDTH, 29);
     }
 
-    /// The most rows: their dump comes back, and one with a row more is none of ours. Takes some gigabytes and a minute.
+    /// The most rows: their dump comes back, and one with a row more is none of ours. Takes some 13 GB and half a minute.
     #[test]
     #[ignore]
     fn most_rows() {

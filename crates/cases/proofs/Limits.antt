@@ -12,7 +12,7 @@ use Rattle.records.specs.Profiles.{profileWrong}
 use Rattle.passes.specs.Passes.{bufferWrong, firstOf, fragmentsWrong, refusal1, refusal2, refusal3, refusal4, refusal5, refusalAll}
 use Rattle.readings.specs.Answers.{readerRefusal}
 use Rattle.reader.specs.Views.{viewRefused}
-use Rattle.dump.specs.Dumping.{noTrace, dumping, readingDump}
+use Rattle.dump.specs.Dumping.{rowsWrong, dumping, ReadsDump}
 
 abbrev most : ℕ
 most = 49 * 2 ^ 24
@@ -57,17 +57,16 @@ unfolding readerRefusal firstOf bufferWrong
 reader-over p cells depths right e = rw (right, e) refl
 
 -- the writer of dumps, of every buffer, and the buffer lent to their reader, whatever the text
-writer-most : noTrace most ≡ false
-unfolding noTrace bufferWrong
+writer-most : rowsWrong most ≡ false
+unfolding rowsWrong bufferWrong
 writer-most = refl
 
 writer-over : (cells : List ℕ) (lent : ℕ) → length cells ≡ over → dumping cells lent ≡ refused 11
-unfolding dumping noTrace bufferWrong
+unfolding dumping rowsWrong bufferWrong
 writer-over cells lent e = rw e refl
 
-undumping-over : (text : List ℕ) → readingDump text over ≡ refused 11
-unfolding readingDump bufferWrong
-undumping-over text = refl
+undumping-over : (text lent : List ℕ) → length lent ≡ over → ReadsDump text lent 11 0 lent
+undumping-over text lent e = ReadsDump.wrongLength (rw e buffer-over)
 
 -- each pass and the finisher, of every buffer of one row more, with a profile that 2 does not refuse
 module _ (p : Profile) (buffer : List ℕ) (right : profileWrong p ≡ false) (e : length buffer ≡ over) where

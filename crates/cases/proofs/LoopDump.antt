@@ -1,5 +1,5 @@
 -- Change request N3: C10's trace as a dump, and what the two calls answer of it, over the definitions that their contracts cite.
-use mathlib.Core.Path.{_≡_, _∙_, refl, ap}
+use mathlib.Core.Path.{_≡_, refl, ap}
 use mathlib.Core.List.{List, _++_}
 use Prim.Native.Nat.{ℕ}
 use lib.ListN.{replicate, take}
@@ -9,9 +9,11 @@ use Rattle.passes.specs.Buffers.{rowsOf, flat}
 use Rattle.passes.specs.Passes.{bufferWrong}
 use Rattle.readings.specs.Readings.{allRows}
 use Rattle.dumps.specs.Numerals.{numeralWithin, spelled}
-use Rattle.dumps.specs.Dumps.{bytes, columns, varLines, header, timeLine, valueLine, allValues, changes, laterRows, rowLines, dumpRows, dump}
+use Rattle.dumps.specs.Dumps.{bytes, columns, varLines, header, timeLine, valueLine, allValues, changes, laterLines, dumpLines, dumpRows, dump}
 use Rattle.dumps.specs.Undump.{behind, bitsIn, isLineOf, afterValue, readChanges, readRows, hasAll, fromFirst, undump}
-use Rattle.dump.specs.Dumping.{noTrace, dumping, fewRows, undumping, readingDump}
+use Rattle.dump.specs.Dumping.{rowsWrong, dumping, ReadsDump}
+use Rattle.dump.specs.Undumping.{fewRows, undumping, readingDump, rowsRead, cellsAfter}
+use Rattle.dump.proofs.Waveforms.{right-as}
 use Rattle.cases.specs.LoopRun.{loopTrace}
 use Rattle.cases.proofs.LoopCells.{row, loopRows, loop-cells}
 
@@ -39,15 +41,24 @@ unfolding text lines header varLines columns bytes
 first-lines = refl
 
 pub its-dump : dump loopTrace ≡ text
-unfolding dump dumpRows rowLines laterRows changes allValues valueLine timeLine numeralWithin allRows rowsOf reduced flat loopRows row bytes lines text
+unfolding dump dumpRows dumpLines laterLines changes allValues valueLine timeLine numeralWithin allRows rowsOf reduced flat loopRows row bytes lines text
 its-dump = ap dump loop-cells
 
 -- "The writer answers its bytes"; "28 when the lent text buffer is too short"
 pub bytes-answered : (dumping loopTrace 2223 ≡ accepted 2223) × (dumping loopTrace 2222 ≡ refused 28)
-unfolding dumping noTrace bufferWrong dump dumpRows rowLines laterRows changes allValues valueLine timeLine numeralWithin allRows rowsOf reduced flat loopRows row bytes header varLines columns
+unfolding dumping rowsWrong bufferWrong dump dumpRows dumpLines laterLines changes allValues valueLine timeLine numeralWithin allRows rowsOf reduced flat loopRows row bytes header varLines columns
 bytes-answered = (ap (λ cells. dumping cells 2223) loop-cells, ap (λ cells. dumping cells 2222) loop-cells)
 
--- "the reader its rows": 11 for 489 cells, 29 where the last line feed is missing, 11 for 9 rows of cells
-pub rows-answered : (readingDump text 490 ≡ accepted loopRows) × (readingDump text 489 ≡ refused 11) × (readingDump (take 2222 text) 441 ≡ refused 29) × (readingDump text 441 ≡ refused 11)
-unfolding readingDump undumping fewRows undump fromFirst hasAll readRows readChanges afterValue isLineOf behind bitsIn spelled bufferWrong text lines valueLine timeLine numeralWithin flat loopRows row bytes header varLines columns
-rows-answered = (refl, refl, refl, refl)
+-- "the reader its rows": ten rows come back; 11 for 489 cells, 29 where the last line feed is missing, 11 for 9 rows of cells
+pub rows-answered :
+    ReadsDump text (replicate 490 7) 0 10 (flat loopRows)
+    × ReadsDump text (replicate 489 7) 11 0 (replicate 489 7)
+    × ReadsDump (take 2222 text) (replicate 441 7) 29 0 (replicate 441 7)
+    × ReadsDump text (replicate 441 7) 11 0 (replicate 441 7)
+unfolding rowsRead cellsAfter readingDump undumping fewRows undump fromFirst hasAll readRows readChanges afterValue isLineOf behind bitsIn spelled bufferWrong text lines valueLine timeLine numeralWithin flat loopRows row bytes header varLines columns
+rows-answered = (
+  right-as text (replicate 490 7) (accepted loopRows) refl,
+  right-as text (replicate 489 7) (refused 11) refl,
+  right-as (take 2222 text) (replicate 441 7) (refused 29) refl,
+  right-as text (replicate 441 7) (refused 11) refl,
+)

@@ -10,7 +10,7 @@ use Rattle.field.specs.Cells.{reduced}
 use Rattle.field.proofs.CellLaws.{length-reduced, getD-reduced, reduced-take, read-below}
 use Rattle.passes.specs.Buffers.{rowsOf}
 use Rattle.readings.specs.Readings.{allRows}
-use Rattle.dumps.specs.Dumps.{header, timeLine, changes, laterRows, rowLines, dumpRows, dump}
+use Rattle.dumps.specs.Dumps.{header, timeLine, changes, laterLines, dumpLines, dumpRows, dump}
 use Rattle.dumps.specs.Undump.{noValues}
 use Rattle.dumps.proofs.ReadBack.{Below, values-changed}
 use Rattle.dump.specs.Places.{valueAt, oldAt, changeLine, changesTo, linesOf, linesTo}
@@ -63,8 +63,8 @@ next-values : (cells : List ℕ) (row : ℕ) (l : List ℕ) → Values l (valueA
 unfolding oldAt
 next-values cells row l v = record { long = v .long; each = v .each }
 
-from-row : (cells : List ℕ) (m row : ℕ) (before : List ℕ) → 49 * (row + m) ≤ length cells → Values before (oldAt cells row) → linesTo cells row ++ laterRows row before (rowsOf m (drop (49 * row) (reduced cells))) ≡ linesTo cells (row + m)
-unfolding rowsOf laterRows
+from-row : (cells : List ℕ) (m row : ℕ) (before : List ℕ) → 49 * (row + m) ≤ length cells → Values before (oldAt cells row) → linesTo cells row ++ laterLines row before (rowsOf m (drop (49 * row) (reduced cells))) ≡ linesTo cells (row + m)
+unfolding rowsOf laterLines
 from-row cells zero row before h b = let e : row + 0 ≡ row = omega arith in rw e (append-nil (linesTo cells row))
 from-row cells (suc m) row before h b =
     let values : List ℕ = take 49 (drop (49 * row) (reduced cells)) in
@@ -72,8 +72,8 @@ from-row cells (suc m) row before h b =
     let e : suc row + m ≡ row + suc m = omega arith in
     let f : 49 * row + 49 ≡ 49 * suc row = omega arith in
     let g : drop 49 (drop (49 * row) (reduced cells)) ≡ drop (49 * suc row) (reduced cells) = drop-drop 49 (49 * row) (reduced cells) ∙ ap (λ (k : ℕ). drop k (reduced cells)) f in
-    let more : List ℕ = laterRows (suc row) values (rowsOf m (drop (49 * suc row) (reduced cells))) in
-    ap₂ (λ (x : List ℕ) (y : List ℕ). linesTo cells row ++ (timeLine row ++ x ++ laterRows (suc row) values (rowsOf m y))) (row-changes cells row before values b v) g
+    let more : List ℕ = laterLines (suc row) values (rowsOf m (drop (49 * suc row) (reduced cells))) in
+    ap₂ (λ (x : List ℕ) (y : List ℕ). linesTo cells row ++ (timeLine row ++ x ++ laterLines (suc row) values (rowsOf m y))) (row-changes cells row before values b v) g
     ∙ sym (append-assoc (linesTo cells row) (linesOf cells row) more)
     ∙ ap (λ (l : List ℕ). l ++ more) (next-row cells row)
     ∙ from-row cells m (suc row) values (omega arith) (next-values cells row values v)
@@ -91,28 +91,28 @@ below-reduced [] = tt
 below-reduced (x ∷ l) = (read-below x, below-reduced l)
 
 -- the first row's values are changes where there were none
-all-lines : (n : ℕ) (cells : List ℕ) → 49 ≤ length cells → rowLines (rowsOf (suc n) (reduced cells)) ≡ laterRows 0 noValues (rowsOf (suc n) (reduced cells))
-unfolding rowLines laterRows rowsOf
+all-lines : (n : ℕ) (cells : List ℕ) → 49 ≤ length cells → dumpLines (rowsOf (suc n) (reduced cells)) ≡ laterLines 0 noValues (rowsOf (suc n) (reduced cells))
+unfolding dumpLines laterLines rowsOf
 all-lines n cells h =
     let row : List ℕ = take 49 (reduced cells) in
-    ap (λ (l : List ℕ). timeLine 0 ++ l ++ laterRows 1 row (rowsOf n (drop 49 (reduced cells))))
+    ap (λ (l : List ℕ). timeLine 0 ++ l ++ laterLines 1 row (rowsOf n (drop 49 (reduced cells))))
     (sym (values-changed row 0 49 (length-take-le 49 (reduced cells) (omega (arith, length-reduced cells))) (rw (← (reduced-take 49 cells)) (below-reduced (take 49 cells)))))
 
 no-lines : (cells l : List ℕ) → l ≡ linesTo cells 0 ++ l
 unfolding linesTo
 no-lines cells l = refl
 
-some-rows : (n : ℕ) (cells : List ℕ) → 0 < n → 49 * n ≤ length cells → rowLines (rowsOf n (reduced cells)) ≡ linesTo cells n
+some-rows : (n : ℕ) (cells : List ℕ) → 0 < n → 49 * n ≤ length cells → dumpLines (rowsOf n (reduced cells)) ≡ linesTo cells n
 some-rows zero cells h l = absurd (omega arith)
 some-rows (suc n) cells h l =
     let e : 0 + suc n ≡ suc n = omega arith in
     all-lines n cells (omega arith)
-    ∙ no-lines cells (laterRows 0 noValues (rowsOf (suc n) (reduced cells)))
+    ∙ no-lines cells (laterLines 0 noValues (rowsOf (suc n) (reduced cells)))
     ∙ from-row cells (suc n) 0 noValues (omega arith) (none-before cells)
     ∙ ap (linesTo cells) e
 
 pub dump-is : (cells : List ℕ) → 49 ≤ length cells → dump cells ≡ header ++ linesTo cells (length cells / 49)
 unfolding dump dumpRows allRows
 dump-is cells h =
-    ap (λ (n : ℕ). header ++ rowLines (rowsOf (n / 49) (reduced cells))) (length-reduced cells)
+    ap (λ (n : ℕ). header ++ dumpLines (rowsOf (n / 49) (reduced cells))) (length-reduced cells)
     ∙ ap (λ (l : List ℕ). header ++ l) (some-rows (length cells / 49) cells (omega arith) (omega arith))

@@ -1,13 +1,15 @@
 -- Laws of how many bytes lines take.
 use mathlib.Core.Path.{_≡_, _∙_, sym, ap}
+use mathlib.Core.Bool.{true, false}
 use mathlib.Core.List.{List, [], _∷_}
 use Prim.Native.Nat.{ℕ, _+_}
 use native.Mathlib.Omega.{arith}
+use lib.Dec.{eqb}
 use lib.ListN.{length, length-append}
 use Rattle.dumps.specs.Numerals.{binary, decimal}
 use Rattle.dumps.specs.Dumps.{identifier, timeLine, valueLine}
 use Rattle.dump.specs.Places.{valueAt, oldAt, changeLine, changesTo, linesOf, linesTo}
-use Rattle.dump.proofs.Places.{unchanged, changed, changes-next, lines-next}
+use Rattle.dump.proofs.Places.{no-line, a-line, changes-next, lines-next}
 
 pub value-bytes : (column value : ℕ) → length (valueLine column value) ≡ 4 + length (binary value)
 unfolding valueLine
@@ -17,11 +19,11 @@ pub time-bytes : (row : ℕ) → length (timeLine row) ≡ 2 + length (decimal r
 unfolding timeLine
 time-bytes row = omega (arith, length-append (decimal row) (10 ∷ []))
 
-pub no-bytes : (column old value : ℕ) → old ≡ value → 0 ≡ length (changeLine column old value)
-no-bytes column old value e = sym (ap (λ (l : List ℕ). length l) (unchanged column old value e))
+pub no-bytes : (column old value : ℕ) → eqb old value ≡ true → 0 ≡ length (changeLine column old value)
+no-bytes column old value e = sym (ap (λ (l : List ℕ). length l) (no-line column old value e))
 
-pub some-bytes : (column old value : ℕ) → ¬ (old ≡ value) → 4 + length (binary value) ≡ length (changeLine column old value)
-some-bytes column old value h = sym (ap (λ (l : List ℕ). length l) (changed column old value h) ∙ value-bytes column value)
+pub some-bytes : (column old value : ℕ) → eqb old value ≡ false → 4 + length (binary value) ≡ length (changeLine column old value)
+some-bytes column old value e = sym (ap (λ (l : List ℕ). length l) (a-line column old value e) ∙ value-bytes column value)
 
 pub column-bytes : (cells : List ℕ) (row n : ℕ) → length (changesTo cells row n) + length (changeLine n (oldAt cells row n) (valueAt cells row n)) ≡ length (changesTo cells row (n + 1))
 column-bytes cells row n =

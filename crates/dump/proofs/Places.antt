@@ -5,31 +5,33 @@ use mathlib.Core.List.{List, [], _++_}
 use Prim.Native.Nat.{ℕ, zero, suc, _+_, _-_, _*_, _≤_}
 use native.Mathlib.Omega.{arith}
 use native.Mathlib.Numerals.{add-one}
-use borrow.Author.Tests.{eq-eqb, ne-eqb}
+use borrow.Author.Tests.{ne-eqb}
 use lib.Dec.{eqb}
 use lib.ListN.{length, length-append}
 use Rattle.field.specs.Modulus.{P}
+use Rattle.field.specs.Cells.{cellAt}
 use Rattle.groups.specs.Answer.{pick}
 use Rattle.dumps.specs.Dumps.{timeLine, valueLine}
 use Rattle.dumps.proofs.LineLengths.{time-length, value-length}
 use Rattle.dump.specs.Places.{valueAt, oldAt, changeLine, changesTo, linesOf, linesTo}
 
-pub old-first : (cells : List ℕ) (row column : ℕ) → row ≡ 0 → P ≡ oldAt cells row column
-unfolding oldAt
-old-first cells row column e = rw e refl
+-- before the first row no column has a value
+pub first-changed : (cells : List ℕ) (row column : ℕ) → row ≡ 0 → eqb (oldAt cells row column) (valueAt cells row column) ≡ false
+unfolding oldAt cellAt
+first-changed cells row column e = rw e (ne-eqb P (valueAt cells 0 column) (λ z. omega arith))
 
 pub old-next : (cells : List ℕ) (row column : ℕ) → ¬ (row ≡ 0) → valueAt cells (row - 1) column ≡ oldAt cells row column
 unfolding oldAt
 old-next cells zero column h = absurd (h refl)
 old-next cells (suc row) column h = let e : suc row - 1 ≡ row = omega arith in rw e refl
 
-pub unchanged : (column old value : ℕ) → old ≡ value → changeLine column old value ≡ []
+pub no-line : (column old value : ℕ) → eqb old value ≡ true → changeLine column old value ≡ []
 unfolding changeLine
-unchanged column old value e = rw (eq-eqb old value e)
+no-line column old value e = rw e
 
-pub changed : (column old value : ℕ) → ¬ (old ≡ value) → changeLine column old value ≡ valueLine column value
+pub a-line : (column old value : ℕ) → eqb old value ≡ false → changeLine column old value ≡ valueLine column value
 unfolding changeLine
-changed column old value h = rw (ne-eqb old value h)
+a-line column old value e = rw e
 
 -- one more column, one more row
 pub changes-next : (cells : List ℕ) (row n : ℕ) → changesTo cells row n ++ changeLine n (oldAt cells row n) (valueAt cells row n) ≡ changesTo cells row (n + 1)

@@ -15,7 +15,7 @@ use Rattle.passes.specs.Passes.{bufferWrong}
 use Rattle.passes.proofs.Checks.{neither}
 use Rattle.dumps.specs.Dumps.{header, timeLine}
 use Rattle.dumps.specs.Undump.{behind, orNone, withRow, readRows, noValues, hasAll, fromFirst, undump}
-use Rattle.dump.specs.Dumping.{fewRows, undumping, readingDump}
+use Rattle.dump.specs.Undumping.{fewRows, undumping, readingDump}
 use Rattle.dump.specs.Reading.{Behind, RowRead, RowsCounted, timedRow, wholeFirst, howMany, theRows, Storable}
 use Rattle.dump.proofs.RowsLaws.{no-some, rows-step, rowsFrom, rowsAt, RowsTo, plusRows}
 

@@ -1,9 +1,8 @@
--- Change request N3, its two calls together, over what their contracts cite: the number, the bytes and the rows that are answered, and the text and
--- the cells that are left.
+-- Change request N3, its two calls together, over what their contracts say: `dumping` and `textAfter` of the writer, `ReadsDump` of the reader.
 use mathlib.Core.Path.{_≡_, _∙_, refl, sym, ap}
 use mathlib.Core.Bool.{Bool, true, false}
 use mathlib.Core.List.{List, [], _∷_, _++_, append-nil}
-use mathlib.Core.Logic.{_↔_, _⊎_, inl, inr, ⊎-elim}
+use mathlib.Core.Logic.{_↔_, _⊎_, inl, inr}
 use mathlib.Core.Option.{Option, none, some}
 use Prim.Native.Nat.{ℕ, _+_, _*_, _/_, _%_, _≤_, _<_}
 use native.Mathlib.Omega.{arith}
@@ -12,8 +11,8 @@ use lib.Dec.{ltb}
 use lib.ListN.{length, take, drop}
 use lib.Seq.{take-at}
 use Rattle.field.specs.Cells.{reduced}
-use Rattle.field.proofs.CellLaws.{read-small}
-use Rattle.groups.specs.Answer.{accepted, refused, pick, number, values}
+use Rattle.field.proofs.CellLaws.{read-small, length-reduced}
+use Rattle.groups.specs.Answer.{Answer, accepted, refused, pick, number, values}
 use Rattle.passes.specs.Buffers.{rowsOf, flat}
 use Rattle.passes.specs.Passes.{bufferWrong}
 use Rattle.passes.proofs.RowLists.{Wide, length-flat, rows-flat}
@@ -21,10 +20,13 @@ use Rattle.readings.specs.Readings.{allRows}
 use Rattle.dumps.specs.Dumps.{dumpRows, dump}
 use Rattle.dumps.specs.Undump.{undump}
 use Rattle.dumps.proofs.ReadBack.{Below, Rows, one-dump, reads-dumps, read-dumped}
-use Rattle.dump.specs.Dumping.{noTrace, dumping, textAfter, fewRows, undumping, readingDump, rowsRead, cellsAfter}
+use Rattle.dump.specs.Dumping.{rowsWrong, dumping, textAfter, Given, ReadsDump}
+use Rattle.dump.specs.Undumping.{fewRows, undumping, readingDump, rowsRead, cellsAfter}
 use Rattle.dump.proofs.ReadLaws.{no-true}
-use Rattle.dump.proofs.Writing.{text-fits}
+use Rattle.dump.proofs.Writing.{whole, text-fits}
 use Rattle.dump.proofs.WrittenRead.{many, dumped, read-cells}
+
+-- BUFFERS AND TEXTS THAT ARE GIVEN
 
 -- "every buffer of at least one row", of at most the 2^24 rows that any call takes
 pub record Buffer (cells : List ℕ) : Type 0 where
@@ -33,9 +35,8 @@ pub record Buffer (cells : List ℕ) : Type 0 where
   pub few-rows : rows ≤ 16777216
   pub long : length cells ≡ 49 * rows
 
--- these are the buffers that the writer does not refuse with 11
-not-refused : (cells : List ℕ) → Buffer cells → noTrace (length cells) ≡ false
-unfolding noTrace bufferWrong
+not-refused : (cells : List ℕ) → Buffer cells → rowsWrong (length cells) ≡ false
+unfolding rowsWrong bufferWrong
 not-refused cells b =
     rw (
       le-ltb 0 (length cells % 49) (omega (arith, b .long)),
@@ -43,17 +44,69 @@ not-refused cells b =
       le-ltb (length cells) 49 (omega (arith, b .long, b .some-rows)),
     )
 
+-- these are exactly the buffers that the writer does not refuse with 11
+pub buffers : (cells : List ℕ) → (rowsWrong (length cells) ≡ false) ↔ Buffer cells
+buffers cells = (λ e. to e, not-refused cells)
+  where
+    to : rowsWrong (length cells) ≡ false → Buffer cells
+    to e =
+        let (a, b, c) = whole (length cells) e in
+        record { rows = length cells / 49; some-rows = omega arith; few-rows = b; long = omega arith }
+
 right-length : (cells : List ℕ) → Buffer cells → bufferWrong (length cells) ≡ false
 unfolding bufferWrong
 right-length cells b = rw (le-ltb 0 (length cells % 49) (omega (arith, b .long)), le-ltb 16777216 (length cells / 49) (omega (arith, b .long, b .few-rows)))
 
--- "29 when a text read is none that the writer gives": a text that it gives is the dump of a buffer
-pub record Given (text : List ℕ) : Type 0 where
-  pub cells : List ℕ
-  pub buffer : Buffer cells
-  pub is-dump : dump cells ≡ text
+-- what `write_dump` leaves in a lent text: the first so many bytes as it answers
+abbrev pub textWritten : (cells text : List ℕ) → List ℕ
+textWritten cells text = take (values 0 (dumping cells (length text))) (textAfter cells (dumping cells (length text)) text)
 
--- THE ROWS OF A TEXT THAT IS GIVEN
+written-dump : (cells text : List ℕ) → rowsWrong (length cells) ≡ false → length (dump cells) ≤ length text → (number (dumping cells (length text)) ≡ 0) × (textWritten cells text ≡ dump cells)
+unfolding textAfter
+written-dump cells text right h =
+    let w : dumping cells (length text) ≡ accepted (length (dump cells)) = text-fits cells (length text) right h in
+    (rw w, rw w (take-at (dump cells) (drop (length (dump cells)) text) (length (dump cells)) refl))
+
+-- where the writer accepts, there is no 11 and the text is long enough
+accepts : (cells : List ℕ) (lent : ℕ) → number (dumping cells lent) ≡ 0 → (rowsWrong (length cells) ≡ false) × (length (dump cells) ≤ lent)
+unfolding dumping
+accepts cells lent e = go (rowsWrong (length cells)) refl (ltb lent (length (dump cells))) refl e
+  where
+    go : (s : Bool) → rowsWrong (length cells) ≡ s → (t : Bool) → ltb lent (length (dump cells)) ≡ t
+        → number (pick s (refused 11) (pick t (refused 28) (accepted (length (dump cells))))) ≡ 0 → (rowsWrong (length cells) ≡ false) × (length (dump cells) ≤ lent)
+    go true f t h e = absurd (omega arith)
+    go false f true h e = absurd (omega arith)
+    go false f false h e = (f, ltb-false lent (length (dump cells)) h)
+
+-- a text is given exactly if some call of the writer, not refused, leaves it
+pub writer-gives : (text : List ℕ) → Given text ↔ ((cells : List ℕ) × ((lent : List ℕ) × ((number (dumping cells (length lent)) ≡ 0) × (textWritten cells lent ≡ text))))
+writer-gives text = (λ g. to g, λ x. from (x .0) (x .1 .0) (x .1 .1 .0) (x .1 .1 .1))
+  where
+    to : Given text → (cells : List ℕ) × ((lent : List ℕ) × ((number (dumping cells (length lent)) ≡ 0) × (textWritten cells lent ≡ text)))
+    to g =
+        let long : length (dump (g .cells)) ≤ length (dump (g .cells)) = omega arith in
+        let (a, b) = written-dump (g .cells) (dump (g .cells)) (g .right-length) long in
+        (g .cells, (dump (g .cells), (a, b ∙ g .is-dump)))
+
+    from : (cells lent : List ℕ) → number (dumping cells (length lent)) ≡ 0 → textWritten cells lent ≡ text → Given text
+    from cells lent e t =
+        let (right, long) = accepts cells (length lent) e in
+        record { cells = cells; right-length = right; is-dump = sym (written-dump cells lent right long .1) ∙ t }
+
+-- ONE LIST OF ROWS
+
+-- a text is the dump of at most one list of rows: buffers with one dump have the same reduced cells
+pub one-text : (text : List ℕ) (g h : Given text) → reduced (g .cells) ≡ reduced (h .cells)
+one-text text g h =
+    let rows =
+    one-dump text (allRows (reduced (g .cells))) (allRows (reduced (h .cells))) (rw (← (g .is-dump)) (dumped (g .cells) (g .right-length)))
+    (rw (← (h .is-dump)) (dumped (h .cells) (h .right-length))) in
+    sym (read-cells (g .cells) (g .right-length)) ∙ ap flat rows ∙ read-cells (h .cells) (h .right-length)
+
+one-length : (text : List ℕ) (g h : Given text) → length (g .cells) ≡ length (h .cells)
+one-length text g h = sym (length-reduced (g .cells)) ∙ ap (λ (l : List ℕ). length l) (one-text text g h) ∙ length-reduced (h .cells)
+
+-- THE COMPUTED ANSWER IS RIGHT
 
 reduced-small : (l : List ℕ) → Below l → reduced l ≡ l
 unfolding Below reduced
@@ -87,24 +140,6 @@ dump-flat : (rows : List (List ℕ)) → Rows rows → dump (flat rows) ≡ dump
 unfolding dump
 dump-flat rows r = ap dumpRows (all-flat rows r)
 
--- of a dump its rows are read, which are few
-module _ (cells : List ℕ) (b : Buffer cells) where
-  abbrev its-rows : List (List ℕ)
-  its-rows = allRows (reduced cells)
-
-  pub how-many : length its-rows ≡ b .rows
-  how-many = many cells (not-refused cells b) ∙ omega (arith, b .long)
-
-  few : fewRows (undump (dump cells)) ≡ some its-rows
-  unfolding fewRows
-  few = rw (reads-dumps (dump cells) its-rows (dumped cells (not-refused cells b)), le-ltb 16777216 (length its-rows) (omega (arith, how-many, b .few-rows)))
-
-  read-back : (lent : ℕ) → bufferWrong lent ≡ false → readingDump (dump cells) lent ≡ pick (ltb lent (length cells)) (refused 11) (accepted its-rows)
-  unfolding readingDump undumping
-  read-back lent w =
-      let e : 49 * length its-rows ≡ length cells = omega (arith, how-many, b .long) in
-      rw (w, few, e)
-
 -- rows that are read, and are few enough, are a buffer whose dump the text is
 few-given : (text : List ℕ) (o : Option (List (List ℕ))) (rows : List (List ℕ)) → undump text ≡ o → fewRows o ≡ some rows → Given text
 unfolding fewRows
@@ -115,150 +150,140 @@ few-given text (some found) rows e f = go (ltb 16777216 (length found)) refl f
     go true h f = let z : _≡_ {A = ℕ} 0 1 = cc in absurd (omega arith)
     go false h f =
         let d = read-dumped text found e in
+        let long = length-flat found (wide found (d .cells)) in
         record {
           cells = flat found;
-          buffer =
-              record {
-                rows = length found;
-                some-rows = d .some-rows;
-                few-rows = ltb-false 16777216 (length found) h;
-                long = length-flat found (wide found (d .cells));
-              };
+          right-length =
+              not-refused (flat found) (record { rows = length found; some-rows = d .some-rows; few-rows = ltb-false 16777216 (length found) h; long = long });
           is-dump = dump-flat found (d .cells) ∙ sym (d .is-dump);
         }
 
--- WHAT THE READER ANSWERS, EXACTLY
+-- of a text that is given the rows of its buffer are read, which are few
+module _ (text : List ℕ) (g : Given text) where
+  abbrev its-rows : List (List ℕ)
+  its-rows = allRows (reduced (g .cells))
 
--- "the reader its rows", and "the reduced cells come back"; the cells behind them stay
-pub record ReadAs (cells text room : List ℕ) : Type 0 where
-  pub is-read : number (readingDump text (length room)) ≡ 0
-  pub its-rows : 49 * rowsRead (readingDump text (length room)) ≡ length cells
-  pub its-cells : cellsAfter (readingDump text (length room)) room ≡ reduced cells ++ drop (length cells) room
+  its-length : 49 * length its-rows ≡ length (g .cells)
+  its-length =
+      let (a, b, c) = whole (length (g .cells)) (g .right-length) in
+      omega (arith, many (g .cells) (g .right-length))
 
--- a text that is given, where the lent buffer has a right length and room for it, is read as the buffer whose dump it is
-pub reads-given : (text room : List ℕ) → bufferWrong (length room) ≡ false → (g : Given text) → length (g .cells) ≤ length room → ReadAs (g .cells) text room
-unfolding rowsRead cellsAfter
-reads-given text room w g h =
-    let cells = g .cells in
-    let n : 49 * length (allRows (reduced cells)) ≡ length cells = omega (arith, how-many cells (g .buffer), g .buffer .long) in
-    let e : readingDump text (length room) ≡ accepted (allRows (reduced cells)) =
-    rw (← (g .is-dump)) (read-back cells (g .buffer) (length room) w ∙ rw (le-ltb (length room) (length cells) h)) in
-    record { is-read = rw e; its-rows = rw e n; its-cells = rw (e, n, read-cells cells (not-refused cells (g .buffer))) }
+  few : fewRows (undump text) ≡ some its-rows
+  unfolding fewRows
+  few =
+      let (a, b, c) = whole (length (g .cells)) (g .right-length) in
+      rw (
+        reads-dumps text its-rows (rw (← (g .is-dump)) (dumped (g .cells) (g .right-length))),
+        le-ltb 16777216 (length its-rows) (omega (arith, many (g .cells) (g .right-length))),
+      )
 
--- by the rows that are read, a text is given or not
-given-or-not : (text : List ℕ) → Given text ⊎ (fewRows (undump text) ≡ none)
-given-or-not text = go (fewRows (undump text)) refl
-  where
-    go : (o : Option (List (List ℕ))) → fewRows (undump text) ≡ o → Given text ⊎ (o ≡ none)
-    go none e = inr refl
-    go (some rows) e = inl (few-given text (undump text) rows refl e)
+module _ (text lent : List ℕ) where
+  abbrev Computed : Answer (List (List ℕ)) → Type 0
+  Computed a = ReadsDump text lent (number a) (rowsRead a) (cellsAfter a lent)
 
-module _ (text : List ℕ) (lent : ℕ) where
-  -- a lent buffer that is no multiple of 49 or over 2^24 rows
-  wrong-gets : bufferWrong lent ≡ true → number (readingDump text lent) ≡ 11
-  unfolding readingDump
-  wrong-gets w = rw w
+  by-given : bufferWrong (length lent) ≡ false → (g : Given text) → (t : Bool) → ltb (length lent) (length (g .cells)) ≡ t
+      → Computed (pick t (refused 11) (accepted (allRows (reduced (g .cells)))))
+  unfolding rowsRead cellsAfter
+  by-given w g true e = ReadsDump.tooShort w g (ltb-true (length lent) (length (g .cells)) e)
+  by-given w g false e =
+      rw (its-length text g, read-cells (g .cells) (g .right-length))
+      (ReadsDump.comeBack w g (ltb-false (length lent) (length (g .cells)) e) (length (allRows (reduced (g .cells)))) (its-length text g))
 
-  none-gets : bufferWrong lent ≡ false → fewRows (undump text) ≡ none → number (readingDump text lent) ≡ 29
-  unfolding readingDump undumping
-  none-gets w e = rw (w, e)
-
-  module _ (w : bufferWrong lent ≡ false) (g : Given text) where
-    given-read : readingDump text lent ≡ pick (ltb lent (length (g .cells))) (refused 11) (accepted (allRows (reduced (g .cells))))
-    given-read = rw (← (g .is-dump)) (read-back (g .cells) (g .buffer) lent w)
-
-    short-gets : lent < length (g .cells) → number (readingDump text lent) ≡ 11
-    short-gets h = rw (given-read, lt-ltb lent (length (g .cells)) h)
-
-    enough-gets : length (g .cells) ≤ lent → number (readingDump text lent) ≡ 0
-    enough-gets h = rw (given-read, le-ltb lent (length (g .cells)) h)
-
-  -- every answer has its reason
-  data Reason : Type 0 where
-    wrong : bufferWrong lent ≡ true → Reason
-    not-given : bufferWrong lent ≡ false → (Given text → ⊥) → number (readingDump text lent) ≡ 29 → Reason
-    short : bufferWrong lent ≡ false → (g : Given text) → lent < length (g .cells) → Reason
-    enough : bufferWrong lent ≡ false → (g : Given text) → length (g .cells) ≤ lent → Reason
-
-  reason : Reason
-  reason = go (bufferWrong lent) refl
+  by-rows : bufferWrong (length lent) ≡ false → (o : Option (List (List ℕ))) → fewRows (undump text) ≡ o → Computed (undumping o (length lent))
+  unfolding rowsRead cellsAfter undumping
+  by-rows w none e = ReadsDump.notGiven w (λ g. not-none g)
     where
-      by-length : bufferWrong lent ≡ false → (g : Given text) → (t : Bool) → ltb lent (length (g .cells)) ≡ t → Reason
-      by-length w g true e = short w g (ltb-true lent (length (g .cells)) e)
-      by-length w g false e = enough w g (ltb-false lent (length (g .cells)) e)
-
-      no-more : bufferWrong lent ≡ false → fewRows (undump text) ≡ none → Given text → ⊥
-      no-more w e g =
-          let n : some (allRows (reduced (g .cells))) ≡ none = sym (few (g .cells) (g .buffer)) ∙ rw (g .is-dump) e in
+      not-none : Given text → ⊥
+      not-none g =
+          let n : some (allRows (reduced (g .cells))) ≡ none = sym (few text g) ∙ e in
           let z : _≡_ {A = ℕ} 0 1 = cc in
           omega arith
+  by-rows w (some rows) e =
+      let g = few-given text (undump text) rows refl e in
+      let same : rows ≡ allRows (reduced (g .cells)) = cc (e, few text g) in
+      rw (same, its-length text g) (by-given w g (ltb (length lent) (length (g .cells))) refl)
 
-      go : (t : Bool) → bufferWrong lent ≡ t → Reason
-      go true w = wrong w
-      go false w = ⊎-elim (λ g. by-length w g (ltb lent (length (g .cells))) refl) (λ e. not-given w (no-more w e) (none-gets w e)) (given-or-not text)
-
-  -- "29 when a text read is none that the writer gives": exactly, where the lent buffer has a right length
-  pub gets-29 : (number (readingDump text lent) ≡ 29) ↔ ((bufferWrong lent ≡ false) × (Given text → ⊥))
-  gets-29 = (λ e. to e reason, λ h. from h reason)
+  reads-right : Computed (readingDump text (length lent))
+  unfolding readingDump rowsRead cellsAfter
+  reads-right = go (bufferWrong (length lent)) refl
     where
-      to : number (readingDump text lent) ≡ 29 → Reason → (bufferWrong lent ≡ false) × (Given text → ⊥)
-      to e (wrong w) = absurd (omega (arith, wrong-gets w))
-      to e (not-given w n f) = (w, n)
-      to e (short w g h) = absurd (omega (arith, short-gets w g h))
-      to e (enough w g h) = absurd (omega (arith, enough-gets w g h))
+      go : (t : Bool) → bufferWrong (length lent) ≡ t → Computed (pick t (refused 11) (undumping (fewRows (undump text)) (length lent)))
+      go true w = ReadsDump.wrongLength w
+      go false w = by-rows w (fewRows (undump text)) refl
 
-      from : (bufferWrong lent ≡ false) × (Given text → ⊥) → Reason → number (readingDump text lent) ≡ 29
-      from h (wrong w) = absurd (no-true (sym w ∙ h .0))
-      from h (not-given w n f) = f
-      from h (short w g l) = absurd (h .1 g)
-      from h (enough w g l) = absurd (h .1 g)
+  pub right-as : (a : Answer (List (List ℕ))) → readingDump text (length lent) ≡ a → Computed a
+  right-as a e = rw (← e) reads-right
 
-  -- "a cell buffer too short for a good text gets 11", as does a wrong length
-  pub gets-11 : (number (readingDump text lent) ≡ 11) ↔ ((bufferWrong lent ≡ true) ⊎ ((g : Given text) × (lent < length (g .cells))))
-  gets-11 = (λ e. to e reason, λ h. from h reason)
-    where
-      to : number (readingDump text lent) ≡ 11 → Reason → (bufferWrong lent ≡ true) ⊎ ((g : Given text) × (lent < length (g .cells)))
-      to e (wrong w) = inl w
-      to e (not-given w n f) = absurd (omega arith)
-      to e (short w g h) = inr (g, h)
-      to e (enough w g h) = absurd (omega (arith, enough-gets w g h))
+-- WHAT THE READER ANSWERS, EXACTLY
 
-      from : (bufferWrong lent ≡ true) ⊎ ((g : Given text) × (lent < length (g .cells))) → Reason → number (readingDump text lent) ≡ 11
-      from h (wrong w) = wrong-gets w
-      from h (not-given w n f) = ⊎-elim wrong-gets (λ x. absurd (n (x .0))) h
-      from h (short w g l) = short-gets w g l
-      from h (enough w g l) = ⊎-elim wrong-gets (λ x. short-gets w (x .0) (x .1)) h
+module _ (text lent : List ℕ) where
+  -- there is one right answer: number, rows and the cells left
+  pub one-answer : (n n′ rows rows′ : ℕ) (left left′ : List ℕ) → ReadsDump text lent n rows left → ReadsDump text lent n′ rows′ left′ → (n ≡ n′) × (rows ≡ rows′) × (left ≡ left′)
+  one-answer n n′ rows rows′ left left′ (ReadsDump.wrongLength w) (ReadsDump.wrongLength w′) = (refl, refl, refl)
+  one-answer n n′ rows rows′ left left′ (ReadsDump.wrongLength w) (ReadsDump.notGiven w′ h′) = absurd (no-true (sym w ∙ w′))
+  one-answer n n′ rows rows′ left left′ (ReadsDump.wrongLength w) (ReadsDump.tooShort w′ g′ l′) = absurd (no-true (sym w ∙ w′))
+  one-answer n n′ rows rows′ left left′ (ReadsDump.wrongLength w) (ReadsDump.comeBack w′ g′ l′ r′ e′) = absurd (no-true (sym w ∙ w′))
+  one-answer n n′ rows rows′ left left′ (ReadsDump.notGiven w h) (ReadsDump.wrongLength w′) = absurd (no-true (sym w′ ∙ w))
+  one-answer n n′ rows rows′ left left′ (ReadsDump.notGiven w h) (ReadsDump.notGiven w′ h′) = (refl, refl, refl)
+  one-answer n n′ rows rows′ left left′ (ReadsDump.notGiven w h) (ReadsDump.tooShort w′ g′ l′) = absurd (h g′)
+  one-answer n n′ rows rows′ left left′ (ReadsDump.notGiven w h) (ReadsDump.comeBack w′ g′ l′ r′ e′) = absurd (h g′)
+  one-answer n n′ rows rows′ left left′ (ReadsDump.tooShort w g l) (ReadsDump.wrongLength w′) = absurd (no-true (sym w′ ∙ w))
+  one-answer n n′ rows rows′ left left′ (ReadsDump.tooShort w g l) (ReadsDump.notGiven w′ h′) = absurd (h′ g)
+  one-answer n n′ rows rows′ left left′ (ReadsDump.tooShort w g l) (ReadsDump.tooShort w′ g′ l′) = (refl, refl, refl)
+  one-answer n n′ rows rows′ left left′ (ReadsDump.tooShort w g l) (ReadsDump.comeBack w′ g′ l′ r′ e′) = absurd (omega (arith, one-length text g g′))
+  one-answer n n′ rows rows′ left left′ (ReadsDump.comeBack w g l r e) (ReadsDump.wrongLength w′) = absurd (no-true (sym w′ ∙ w))
+  one-answer n n′ rows rows′ left left′ (ReadsDump.comeBack w g l r e) (ReadsDump.notGiven w′ h′) = absurd (h′ g)
+  one-answer n n′ rows rows′ left left′ (ReadsDump.comeBack w g l r e) (ReadsDump.tooShort w′ g′ l′) = absurd (omega (arith, one-length text g g′))
+  one-answer n n′ rows rows′ left left′ (ReadsDump.comeBack w g l r e) (ReadsDump.comeBack w′ g′ l′ r′ e′) =
+      (refl, omega (arith, one-length text g g′), rw (one-text text g g′, one-length text g g′))
 
-  -- and it is read exactly where it is given and there is room for it
-  pub gets-0 : (number (readingDump text lent) ≡ 0) ↔ ((bufferWrong lent ≡ false) × ((g : Given text) × (length (g .cells) ≤ lent)))
-  gets-0 = (λ e. to e reason, λ h. enough-gets (h .0) (h .1 .0) (h .1 .1))
-    where
-      to : number (readingDump text lent) ≡ 0 → Reason → (bufferWrong lent ≡ false) × ((g : Given text) × (length (g .cells) ≤ lent))
-      to e (wrong w) = absurd (omega (arith, wrong-gets w))
-      to e (not-given w n f) = absurd (omega arith)
-      to e (short w g h) = absurd (omega (arith, short-gets w g h))
-      to e (enough w g h) = (w, (g, h))
+  module _ (n rows : ℕ) (left : List ℕ) (answer : ReadsDump text lent n rows left) where
+    is-answer : (n′ rows′ : ℕ) (left′ : List ℕ) → ReadsDump text lent n′ rows′ left′ → (n ≡ n′) × (rows ≡ rows′) × (left ≡ left′)
+    is-answer n′ rows′ left′ right = one-answer n n′ rows rows′ left left′ answer right
+
+    -- "29 when a text read is none that the writer gives": exactly, where the lent buffer has a right length
+    pub gets-29 : (n ≡ 29) ↔ ((bufferWrong (length lent) ≡ false) × (Given text → ⊥))
+    gets-29 = (λ e. to e answer, λ h. is-answer 29 0 lent (ReadsDump.notGiven (h .0) (h .1)) .0)
+      where
+        to : {m r : ℕ} {l : List ℕ} → m ≡ 29 → ReadsDump text lent m r l → (bufferWrong (length lent) ≡ false) × (Given text → ⊥)
+        to e (ReadsDump.wrongLength w) = absurd (omega arith)
+        to e (ReadsDump.notGiven w h) = (w, h)
+        to e (ReadsDump.tooShort w g l) = absurd (omega arith)
+        to e (ReadsDump.comeBack w g l r f) = absurd (omega arith)
+
+    -- "a cell buffer too short for a good text gets 11", as does a wrong length
+    pub gets-11 : (n ≡ 11) ↔ ((bufferWrong (length lent) ≡ true) ⊎ ((bufferWrong (length lent) ≡ false) × ((g : Given text) × (length lent < length (g .cells)))))
+    gets-11 = (λ e. to e answer, from)
+      where
+        to : {m r : ℕ} {l : List ℕ} → m ≡ 11 → ReadsDump text lent m r l
+            → (bufferWrong (length lent) ≡ true) ⊎ ((bufferWrong (length lent) ≡ false) × ((g : Given text) × (length lent < length (g .cells))))
+        to e (ReadsDump.wrongLength w) = inl w
+        to e (ReadsDump.notGiven w h) = absurd (omega arith)
+        to e (ReadsDump.tooShort w g l) = inr (w, (g, l))
+        to e (ReadsDump.comeBack w g l r f) = absurd (omega arith)
+
+        from : (bufferWrong (length lent) ≡ true) ⊎ ((bufferWrong (length lent) ≡ false) × ((g : Given text) × (length lent < length (g .cells)))) → n ≡ 11
+        from (inl w) = is-answer 11 0 lent (ReadsDump.wrongLength w) .0
+        from (inr x) = is-answer 11 0 lent (ReadsDump.tooShort (x .0) (x .1 .0) (x .1 .1)) .0
+
+    -- a text that is given, where there is room for it, is read as the buffer whose dump it is
+    pub reads-given : bufferWrong (length lent) ≡ false → (g : Given text) → length (g .cells) ≤ length lent
+        → (n ≡ 0) × (49 * rows ≡ length (g .cells)) × (left ≡ reduced (g .cells) ++ drop (length (g .cells)) lent)
+    reads-given w g h =
+        let k = length (allRows (reduced (g .cells))) in
+        let (a, b, c) = is-answer 0 k (reduced (g .cells) ++ drop (length (g .cells)) lent) (ReadsDump.comeBack w g h k (its-length text g)) in
+        (a, omega (arith, its-length text g), c)
 
 -- WRITTEN AND READ
 
--- what `write_dump` leaves in a lent text: the first so many bytes as it answers
-abbrev pub written : (cells text : List ℕ) → List ℕ
-written cells text = take (values 0 (dumping cells (length text))) (textAfter cells (dumping cells (length text)) text)
-
--- "so that the reduced cells come back for every buffer of at least one row": where the lent text and the lent cells are long enough, neither call refuses
-pub come-back : (cells text room : List ℕ) → Buffer cells → Buffer room → length (dump cells) ≤ length text → length cells ≤ length room → (number (dumping cells (length text)) ≡ 0) × ReadAs cells (written cells text) room
-unfolding textAfter
+-- "so that the reduced cells come back for every buffer of at least one row": where the lent text and the lent cells are long enough, the writer accepts,
+-- and whatever the reader answers and leaves of its text is 0, the rows, and the reduced cells in front of the cells behind them
+pub come-back : (cells text room : List ℕ) → Buffer cells → Buffer room → length (dump cells) ≤ length text → length cells ≤ length room →
+    (number (dumping cells (length text)) ≡ 0)
+    × ((n rows : ℕ) (left : List ℕ) → ReadsDump (textWritten cells text) room n rows left
+    → (n ≡ 0) × (49 * rows ≡ length cells) × (left ≡ reduced cells ++ drop (length cells) room))
 come-back cells text room b r h l =
-    let w : dumping cells (length text) ≡ accepted (length (dump cells)) = text-fits cells (length text) (not-refused cells b) h in
-    let t : written cells text ≡ dump cells = rw w (take-at (dump cells) (drop (length (dump cells)) text) (length (dump cells)) refl) in
-    (rw w, rw t (reads-given (dump cells) room (right-length room r) (record { cells = cells; buffer = b; is-dump = refl }) l))
-
--- ONE LIST OF ROWS
-
--- a text is the dump of at most one list of rows: buffers with one dump have the same reduced cells
-pub one-text : (cells cells′ : List ℕ) → Buffer cells → Buffer cells′ → dump cells ≡ dump cells′ → reduced cells ≡ reduced cells′
-one-text cells cells′ b b′ e =
     let right = not-refused cells b in
-    let right′ = not-refused cells′ b′ in
-    let rows = one-dump (dump cells) (allRows (reduced cells)) (allRows (reduced cells′)) (dumped cells right) (rw e (dumped cells′ right′)) in
-    sym (read-cells cells right) ∙ ap flat rows ∙ read-cells cells′ right′
+    let (w, t) = written-dump cells text right h in
+    let given : Given (textWritten cells text) = record { cells = cells; right-length = right; is-dump = sym t } in
+    (w, λ n rows left answer. reads-given (textWritten cells text) room n rows left answer (right-length room r) given l)

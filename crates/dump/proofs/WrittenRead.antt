@@ -1,25 +1,21 @@
--- "so that the reduced cells come back for every buffer of at least one row": of a dump that is written, its rows are read, and their cells are the
--- reduced cells. And a text that is read is the dump of what it is read as.
+-- "so that the reduced cells come back for every buffer of at least one row": the rows of a dump that is written are cells below p, at least one row, and
+-- their cells are the buffer's reduced cells.
 use mathlib.Core.Path.{_≡_, _∙_, refl, sym, ap}
-use mathlib.Core.Bool.{false, _||_}
+use mathlib.Core.Bool.{false}
 use mathlib.Core.List.{List, [], _∷_}
 use Prim.Native.Nat.{ℕ, zero, suc, _*_, _/_, _%_, _≤_}
 use native.Mathlib.Omega.{arith}
-use borrow.Author.Tests.{ltb-false, le-ltb}
-use lib.Dec.{ltb}
 use lib.ListN.{length, take, drop, length-drop}
 use lib.Seq.{length-take-le, take-all}
 use Rattle.field.specs.Cells.{reduced}
 use Rattle.field.proofs.CellLaws.{length-reduced, reduced-take, reduced-drop}
-use Rattle.groups.specs.Answer.{accepted}
 use Rattle.passes.specs.Buffers.{rowsOf, flat}
-use Rattle.passes.specs.Passes.{bufferWrong}
-use Rattle.passes.proofs.Checks.{neither}
 use Rattle.passes.proofs.RowLists.{length-rows, flat-rows}
 use Rattle.readings.specs.Readings.{allRows}
 use Rattle.dumps.specs.Dumps.{dump}
-use Rattle.dumps.proofs.ReadBack.{Below, Rows, Dumped, reads-dumps}
-use Rattle.dump.specs.Dumping.{noTrace, fewRows, undumping, readingDump}
+use Rattle.dumps.proofs.ReadBack.{Below, Rows, Dumped}
+use Rattle.dump.specs.Dumping.{rowsWrong}
+use Rattle.dump.proofs.Writing.{whole}
 
 below-reduced : (l : List ℕ) → Below (reduced l)
 unfolding Below reduced
@@ -34,15 +30,7 @@ rows-cells (suc n) cells h =
     let wide : length (take 49 (reduced cells)) ≡ 49 = length-take-le 49 (reduced cells) (omega (arith, length-reduced cells)) in
     ((wide, rw row (below-reduced (take 49 cells))), rw (← (reduced-drop 49 cells)) (rows-cells n (drop 49 cells) (omega (arith, length-drop 49 cells))))
 
--- a buffer that the writer does not refuse: whole rows, at least one, at most 2^24
-pub whole : (cells : ℕ) → noTrace cells ≡ false → (cells % 49 ≤ 0) × (cells / 49 ≤ 16777216) × (49 ≤ cells)
-unfolding noTrace bufferWrong
-whole cells e =
-    let (a, b) = neither (ltb 0 (cells % 49) || ltb 16777216 (cells / 49)) (ltb cells 49) e in
-    let (c, d) = neither (ltb 0 (cells % 49)) (ltb 16777216 (cells / 49)) a in
-    (ltb-false 0 (cells % 49) c, ltb-false 16777216 (cells / 49) d, ltb-false cells 49 b)
-
-module _ (cells : List ℕ) (right : noTrace (length cells) ≡ false) where
+module _ (cells : List ℕ) (right : rowsWrong (length cells) ≡ false) where
   abbrev rows : List (List ℕ)
   rows = allRows (reduced cells)
 
@@ -60,14 +48,7 @@ module _ (cells : List ℕ) (right : noTrace (length cells) ≡ false) where
         is-dump = refl;
       }
 
-  -- the rows of a dump that is written are read, where there is room for them
-  pub written-read : (lent : ℕ) → bufferWrong lent ≡ false → length cells ≤ lent → readingDump (dump cells) lent ≡ accepted rows
-  unfolding readingDump undumping fewRows
-  written-read lent w h =
-      let (a, b, c) = whole (length cells) right in
-      rw (w, reads-dumps (dump cells) rows dumped, le-ltb 16777216 (length rows) (omega (arith, many)), le-ltb lent (49 * length rows) (omega (arith, many)))
-
-  -- and their cells are the reduced cells
+  -- their cells are the reduced cells
   pub read-cells : flat rows ≡ reduced cells
   unfolding allRows
   read-cells =

@@ -1,26 +1,25 @@
 -- Change request N3: what writing and reading a dump answer, and what they leave.
-use mathlib.Core.Bool.{Bool, _||_}
+use mathlib.Core.Path.{_≡_}
+use mathlib.Core.Bool.{Bool, true, false, _||_}
 use mathlib.Core.List.{List, _++_}
-use mathlib.Core.Option.{Option, none, some}
-use Prim.Native.Nat.{ℕ, _*_}
+use Prim.Native.Nat.{ℕ, _*_, _≤_, _<_}
 use lib.Dec.{ltb}
 use lib.ListN.{length, drop}
+use Rattle.field.specs.Cells.{reduced}
 use Rattle.groups.specs.Answer.{Answer, accepted, refused, pick}
-use Rattle.passes.specs.Buffers.{flat}
 use Rattle.passes.specs.Passes.{bufferWrong}
 use Rattle.dumps.specs.Dumps.{dump}
-use Rattle.dumps.specs.Undump.{undump}
 
 -- WRITING
 
 -- "every buffer of at least one row; one without rows gets 11", as do wrong lengths
-unfoldable pub noTrace : (cells : ℕ) → Bool
-noTrace cells = bufferWrong cells || ltb cells 49
+unfoldable pub rowsWrong : (cells : ℕ) → Bool
+rowsWrong cells = bufferWrong cells || ltb cells 49
 
 -- "The writer answers its bytes"; "28 when the lent text buffer is too short"
 unfoldable pub dumping : (cells : List ℕ) → (lent : ℕ) → Answer ℕ
 dumping cells lent =
-    pick (noTrace (length cells)) (refused 11)
+    pick (rowsWrong (length cells)) (refused 11)
     (pick (ltb lent (length (dump cells))) (refused 28) (accepted (length (dump cells))))
 
 -- the bytes past the dump stay, and on a refusal all
@@ -30,26 +29,20 @@ textAfter cells (refused n) lent = lent
 
 -- READING
 
--- the rows that are read are few enough for a buffer of cells; a text with more is none that the writer gives
-unfoldable pub fewRows : Option (List (List ℕ)) → Option (List (List ℕ))
-fewRows none = none
-fewRows (some rows) = pick (ltb 16777216 (length rows)) none (some rows)
+-- a text that the writer gives: the dump of a buffer that it does not refuse with 11
+pub record Given (text : List ℕ) : Type 0 where
+  pub cells : List ℕ
+  pub right-length : rowsWrong (length cells) ≡ false
+  pub is-dump : dump cells ≡ text
 
--- "29 when a text read is none that the writer gives; a cell buffer too short for a good text gets 11"
-unfoldable pub undumping : Option (List (List ℕ)) → (lent : ℕ) → Answer (List (List ℕ))
-undumping none lent = refused 29
-undumping (some rows) lent = pick (ltb lent (49 * length rows)) (refused 11) (accepted rows)
-
--- a lent buffer of wrong length gets 11 before the text is looked at
-unfoldable pub readingDump : (text : List ℕ) → (lent : ℕ) → Answer (List (List ℕ))
-readingDump text lent = pick (bufferWrong lent) (refused 11) (undumping (fewRows (undump text)) lent)
-
--- "the reader its rows"
-unfoldable pub rowsRead : Answer (List (List ℕ)) → ℕ
-rowsRead (accepted rows) = length rows
-rowsRead (refused n) = 0
-
--- the cells past the rows stay, and on a refusal all
-unfoldable pub cellsAfter : Answer (List (List ℕ)) → (lent : List ℕ) → List ℕ
-cellsAfter (accepted rows) lent = flat rows ++ drop (49 * length rows) lent
-cellsAfter (refused n) lent = lent
+-- what reading a text into lent cells answers, its number and its rows, and the cells that are left
+pub data ReadsDump (text lent : List ℕ) : (number rows : ℕ) → (left : List ℕ) → Type 0 where
+  -- a lent buffer of wrong length gets 11 before the text is looked at
+  wrongLength : bufferWrong (length lent) ≡ true → ReadsDump text lent 11 0 lent
+  -- "29 when a text read is none that the writer gives"
+  notGiven : bufferWrong (length lent) ≡ false → (Given text → ⊥) → ReadsDump text lent 29 0 lent
+  -- "a cell buffer too short for a good text gets 11"
+  tooShort : bufferWrong (length lent) ≡ false → (g : Given text) → length lent < length (g .cells) → ReadsDump text lent 11 0 lent
+  -- "the reader its rows", and "the reduced cells come back"; the cells behind them stay
+  comeBack : bufferWrong (length lent) ≡ false → (g : Given text) → length (g .cells) ≤ length lent → (rows : ℕ) → 49 * rows ≡ length (g .cells) →
+      ReadsDump text lent 0 rows (reduced (g .cells) ++ drop (length (g .cells)) lent)

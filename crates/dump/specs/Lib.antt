@@ -1,4 +1,5 @@
 pub mod Dumping
+pub mod Undumping
 pub mod Places
 pub mod Putting
 pub mod Reading

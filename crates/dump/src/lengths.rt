@@ -1,6 +1,5 @@
 // How many bytes the lines of a buffer take.
-use crate::lines::old_value;
-use crate::lines::same_number;
+use crate::lines::unchanged;
 use field::cell::cell;
 ghost use mathlib.Core.Path.{_≡_};
 ghost use Prim.Native.Nat.{_+_, _*_, _/_, _≤_, _<_};
@@ -9,7 +8,7 @@ ghost use Rattle.dumps.specs.Numerals.{binary, decimal};
 ghost use Rattle.dump.specs.Places.{valueAt, oldAt, changeLine, changesTo, linesTo};
 
 // How many binary digits a value has, by its bits.
-pub(crate) fn binary_digits(value: u64) -> usize
+fn binary_digits(value: u64) -> usize
     ensures { λ r. ⌜ r ≡ length (binary value) ⌝ }
 {
     if value == 0 {
@@ -19,7 +18,7 @@ pub(crate) fn binary_digits(value: u64) -> usize
 }
 
 // How many decimal digits the number of a row has, by the powers of ten.
-pub(crate) fn decimal_digits(row: usize) -> usize
+fn decimal_digits(row: usize) -> usize
     requires { ⌜ row < 16777216 ⌝ }
     ensures { λ r. ⌜ r ≡ length (decimal row) ⌝ }
 {
@@ -37,15 +36,10 @@ fn change_bytes(cells: &[u64], row: usize, column: usize) -> usize
     requires { ⌜ (row < 16777216) × (column < 49) × (49 * row + 49 ≤ length (now cells)) ⌝ }
     ensures { λ r. ⌜ r ≡ length (changeLine column (oldAt (now (cells .entry)) row column) (valueAt (now (cells .entry)) row column)) ⌝ }
 {
-    if same_number(cells, row, column) {
+    if unchanged(cells, row, column) {
         return 0;
     }
-    let value = cell(cells, 49 * row + column);
-    let old = old_value(cells, row, column);
-    if old == value {
-        return 0;
-    }
-    4 + binary_digits(value)
+    4 + binary_digits(cell(cells, 49 * row + column))
 }
 
 // The bytes of the lines of a row's values that changed.

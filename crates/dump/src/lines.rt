@@ -2,34 +2,27 @@
 use crate::text::put_time;
 use crate::text::put_value;
 use field::cell::cell;
-use field::felt::Felt;
 ghost use mathlib.Core.Path.{_≡_};
-ghost use mathlib.Core.Bool.{true};
 ghost use Prim.Native.Nat.{_+_, _*_, _/_, _≤_, _<_};
+ghost use lib.Dec.{eqb};
 ghost use lib.ListN.{length};
 ghost use Rattle.dump.specs.Putting.{Put};
 ghost use Rattle.dump.specs.Places.{valueAt, oldAt, changeLine, changesTo, linesTo};
 
-// Whether a column's number is that of the row before.
-pub(crate) fn same_number(cells: &[u64], row: usize, column: usize) -> bool
+// Whether a column's value is that of the row before; no value of the first row is. Numbers that are equal as they stand are not reduced.
+pub(crate) fn unchanged(cells: &[u64], row: usize, column: usize) -> bool
     requires { ⌜ (row < 16777216) × (column < 49) × (49 * row + 49 ≤ length (now cells)) ⌝ }
-    ensures { λ r. ⌜ (r ≡ true → oldAt (now (cells .entry)) row column ≡ valueAt (now (cells .entry)) row column) ⌝ }
+    ensures { λ r. ⌜ r ≡ eqb (oldAt (now (cells .entry)) row column) (valueAt (now (cells .entry)) row column) ⌝ }
 {
     if row == 0 {
         return false;
     }
-    cells[49 * row + column] == cells[49 * (row - 1) + column]
-}
-
-// The value of a column before a row; p, which is no cell, before the first.
-pub(crate) fn old_value(cells: &[u64], row: usize, column: usize) -> u64
-    requires { ⌜ (row < 16777216) × (column < 49) ⌝ }
-    ensures { λ r. ⌜ r ≡ oldAt (now (cells .entry)) row column ⌝ }
-{
-    if row == 0 {
-        return Felt::MODULUS;
+    let at = 49 * row + column;
+    let before = 49 * (row - 1) + column;
+    if cells[before] == cells[at] {
+        return true;
     }
-    cell(cells, 49 * (row - 1) + column)
+    cell(cells, before) == cell(cells, at)
 }
 
 // The line of a column, where its value changed.
@@ -37,15 +30,10 @@ fn put_change(text: &mut [u8], at: usize, cells: &[u64], row: usize, column: usi
     requires { ⌜ (at ≤ 2305843009213693952) × (row < 16777216) × (column < 49) × (49 * row + 49 ≤ length (now cells)) ⌝ }
     ensures { λ r. ⌜ Put (now (text .entry)) at (changeLine column (oldAt (now (cells .entry)) row column) (valueAt (now (cells .entry)) row column)) (now (text .exit)) r ⌝ }
 {
-    if same_number(cells, row, column) {
+    if unchanged(cells, row, column) {
         return at;
     }
-    let value = cell(cells, 49 * row + column);
-    let old = old_value(cells, row, column);
-    if old == value {
-        return at;
-    }
-    put_value(text, at, column, value)
+    put_value(text, at, column, cell(cells, 49 * row + column))
 }
 
 // The lines of a row's values that changed, in column order.

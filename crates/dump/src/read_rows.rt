@@ -11,9 +11,10 @@ ghost use Prim.Native.Nat.{_*_, _≤_};
 ghost use lib.ListN.{length, drop};
 ghost use Rattle.dumps.specs.Undump.{readChanges, noValues, readRows, undump};
 ghost use Rattle.passes.specs.Buffers.{flat};
-ghost use Rattle.dump.specs.Dumping.{fewRows};
+ghost use Rattle.dump.specs.Undumping.{fewRows};
 ghost use Rattle.dump.specs.Reading.{RowRead, timedRow, RowsCounted, theRows, Storable};
 
+// An identifier as a number.
 fn index_of(identifier: u8) -> usize
     ensures { λ r. ⌜ r ≡ identifier ⌝ }
 {

@@ -5,13 +5,13 @@ use crate::read_rows::count_rows;
 use crate::read_rows::row_at;
 use crate::read_rows::store_rows;
 use field::felt::Felt;
+use passes::buffer::buffer_wrong;
 ghost use mathlib.Core.Path.{_≡_};
 ghost use Prim.Native.Nat.{_≤_};
 ghost use lib.ListN.{length, drop};
-ghost use Rattle.groups.specs.Answer.{number};
-ghost use Rattle.passes.specs.Passes.{bufferWrong};
 ghost use Rattle.dumps.specs.Undump.{orNone, readRows, noValues, hasAll, fromFirst};
-ghost use Rattle.dump.specs.Dumping.{fewRows, readingDump, rowsRead, cellsAfter};
+ghost use Rattle.dump.specs.Dumping.{ReadsDump};
+ghost use Rattle.dump.specs.Undumping.{fewRows};
 ghost use Rattle.dump.specs.Reading.{timedRow, wholeFirst, RowsCounted};
 
 // What is answered: 0, or the number of a refusal; the number of rows, 0 on a refusal.
@@ -62,20 +62,12 @@ fn good_rows(text: &[u8], at: usize) -> Counted
     count_rows(text, at)
 }
 
-// Refusal 11 of a lent buffer: no multiple of 49, or over 2^24 rows.
-fn wrong_buffer(cells: usize) -> bool
-    ensures { λ r. ⌜ r ≡ bufferWrong cells ⌝ }
-{
-    (0 < cells % 49) | (16777216 < cells / 49)
-}
-
 // Reads a dump that is written here back into cells. Refusals: 11 for a buffer of wrong length, 29 for a text that the writer does not give,
 // then 11 for a buffer too short. A refusal changes nothing, and the cells behind the rows stay.
 pub fn read_dump(text: &[u8], cells: &mut [u64]) -> DumpRead
-    ensures { λ r. ⌜ (r .number ≡ number (readingDump (now (text .entry)) (length (now (cells .entry))))) × (r .rows ≡ rowsRead (readingDump (now (text .entry)) (length (now (cells .entry))))) ⌝ }
-    ensures { λ _. ⌜ now (cells .exit) ≡ cellsAfter (readingDump (now (text .entry)) (length (now (cells .entry)))) (now (cells .entry)) ⌝ }
+    ensures { λ r. ⌜ ReadsDump (now (text .entry)) (now (cells .entry)) (r .number) (r .rows) (now (cells .exit)) ⌝ }
 {
-    if wrong_buffer(cells.len()) {
+    if buffer_wrong(cells.len()) {
         return DumpRead {
             number: 11,
             rows: 0,

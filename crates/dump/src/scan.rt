@@ -10,8 +10,8 @@ ghost use Rattle.dumps.specs.Numerals.{plain};
 ghost use Rattle.dump.specs.Reading.{DigitsRead};
 ghost use Rattle.dump.specs.Scanning.{inFront, Scanned, AllScanned, FirstScanned, LineScanned, digitsIn};
 
-// The binary digits from a place on: how many, and the number that the first 64 of them spell.
-pub(crate) struct Bits {
+// Digits from a place on: how many, and the number that they spell, of binary ones the first 64.
+pub(crate) struct Digits {
     pub(crate) count: usize,
     pub(crate) value: u64,
 }
@@ -34,6 +34,7 @@ pub(crate) fn stands_at(text: &[u8], at: usize, line: &[u8]) -> bool
     true
 }
 
+// A byte as a number.
 fn wide(x: u8) -> u64
     ensures { λ r. ⌜ r ≡ x ⌝ }
 {
@@ -47,8 +48,8 @@ fn at_most_64(bytes: usize) -> usize
     if bytes < 64 { bytes } else { 64 }
 }
 
-// The first 64 of them, or all.
-fn first_bits(text: &[u8], at: usize) -> Bits
+// The binary digits from a place on, at most the first 64.
+fn first_bits(text: &[u8], at: usize) -> Digits
     requires { ⌜ at ≤ length (now text) ⌝ }
     ensures { λ r. ⌜ FirstScanned (drop at (now (text .entry))) (r .count) (r .value) ⌝ }
 {
@@ -59,7 +60,7 @@ fn first_bits(text: &[u8], at: usize) -> Bits
         let digit = wide(text[at + count]);
         // 48 and 49 are the digits
         if digit / 2 != 24 {
-            return Bits {
+            return Digits {
                 count: count,
                 value: value,
             };
@@ -67,13 +68,13 @@ fn first_bits(text: &[u8], at: usize) -> Bits
         value = value * 2 + (digit - 48);
         count += 1;
     }
-    Bits {
+    Digits {
         count: count,
         value: value,
     }
 }
 
-// How many there are where the first 64 are scanned.
+// How many binary digits there are where the first 64 are scanned.
 fn more_bits(text: &[u8], at: usize, value: u64) -> usize
     requires { ⌜ (at ≤ length (now text)) × Scanned (drop at (now text)) 64 value ⌝ }
     ensures { λ r. ⌜ AllScanned (drop at (now (text .entry))) r value ⌝ }
@@ -89,7 +90,8 @@ fn more_bits(text: &[u8], at: usize, value: u64) -> usize
     count
 }
 
-pub(crate) fn bits_at(text: &[u8], at: usize) -> Bits
+// All binary digits from a place on.
+fn bits_at(text: &[u8], at: usize) -> Digits
     requires { ⌜ at ≤ length (now text) ⌝ }
     ensures { λ r. ⌜ AllScanned (drop at (now (text .entry))) (r .count) (r .value) ⌝ }
 {
@@ -97,14 +99,14 @@ pub(crate) fn bits_at(text: &[u8], at: usize) -> Bits
     if first.count < 64 {
         return first;
     }
-    Bits {
+    Digits {
         count: more_bits(text, at, first.value),
         value: first.value,
     }
 }
 
 // The decimal digits from a place on: how many, and the number that they spell; or a number above `most` where they spell one above it.
-pub(crate) fn digits_at(text: &[u8], at: usize, most: u64) -> Bits
+pub(crate) fn digits_at(text: &[u8], at: usize, most: u64) -> Digits
     requires { ⌜ (at ≤ length (now text)) × (most ≤ 16777216) ⌝ }
     ensures { λ r. ⌜ DigitsRead (digitsIn (drop at (now (text .entry)))) most (r .count) (r .value) ⌝ }
 {
@@ -113,21 +115,21 @@ pub(crate) fn digits_at(text: &[u8], at: usize, most: u64) -> Bits
     while count < text.len() - at {
         let digit = wide(text[at + count]);
         if (digit < 48) | (57 < digit) {
-            return Bits {
+            return Digits {
                 count: count,
                 value: value,
             };
         }
         value = value * 10 + (digit - 48);
         if most < value {
-            return Bits {
+            return Digits {
                 count: count,
                 value: value,
             };
         }
         count += 1;
     }
-    Bits {
+    Digits {
         count: count,
         value: value,
     }
@@ -166,7 +168,7 @@ fn byte_behind(text: &[u8], at: usize) -> u8
 }
 
 // p, which is no cell, where there are more digits than a number of 64 bits has.
-fn number_of(bits: Bits) -> u64
+fn number_of(bits: Digits) -> u64
     ensures { λ r. ⌜ r ≡ pick (ltb 64 (bits .count)) P (bits .value) ⌝ }
 {
     if 64 < bits.count {

@@ -2,12 +2,13 @@
 use crate::header::put_header;
 use crate::lengths::rows_bytes;
 use crate::lines::put_rows;
+use passes::buffer::buffer_wrong;
 ghost use mathlib.Core.Path.{_≡_};
 ghost use Prim.Native.Nat.{_≤_};
 ghost use lib.ListN.{length};
 ghost use Rattle.groups.specs.Answer.{number, values};
 ghost use Rattle.dumps.specs.Dumps.{dump};
-ghost use Rattle.dump.specs.Dumping.{noTrace, dumping, textAfter};
+ghost use Rattle.dump.specs.Dumping.{rowsWrong, dumping, textAfter};
 ghost use Rattle.dump.specs.Putting.{Put};
 
 // What is answered: 0, or the number of a refusal; the number of bytes, 0 on a refusal.
@@ -18,10 +19,10 @@ pub struct DumpWritten {
 }
 
 // Refusal 11.
-pub(crate) fn no_trace(cells: usize) -> bool
-    ensures { λ r. ⌜ r ≡ noTrace cells ⌝ }
+fn rows_wrong(cells: usize) -> bool
+    ensures { λ r. ⌜ r ≡ rowsWrong cells ⌝ }
 {
-    ((0 < cells % 49) | (16777216 < cells / 49)) | (cells < 49)
+    buffer_wrong(cells) | (cells < 49)
 }
 
 // How many bytes the dump of a buffer takes; 1400 of them are its header.
@@ -47,7 +48,7 @@ pub fn write_dump(cells: &[u64], text: &mut [u8]) -> DumpWritten
     ensures { λ r. ⌜ (r .number ≡ number (dumping (now (cells .entry)) (length (now (text .entry))))) × (r .bytes ≡ values 0 (dumping (now (cells .entry)) (length (now (text .entry))))) ⌝ }
     ensures { λ _. ⌜ now (text .exit) ≡ textAfter (now (cells .entry)) (dumping (now (cells .entry)) (length (now (text .entry)))) (now (text .entry)) ⌝ }
 {
-    if no_trace(cells.len()) {
+    if rows_wrong(cells.len()) {
         return DumpWritten {
             number: 11,
             bytes: 0,

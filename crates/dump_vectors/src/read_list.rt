@@ -18,7 +18,7 @@ const INSTEAD: usize = 4;
 const STOOD: u64 = 900;
 
 // Byte i of the changed text.
-fn byte_at(v: &[u64], at: usize, i: usize) -> u64
+fn changed_byte(v: &[u64], at: usize, i: usize) -> u64
     requires { ⌜ at < 8192 ⌝ }
     requires { ⌜ i < 8192 ⌝ }
 {
@@ -34,19 +34,20 @@ fn byte_at(v: &[u64], at: usize, i: usize) -> u64
     byte(v, to + (i - from - instead))
 }
 
+// The changed text.
 fn fill(v: &[u64], at: usize, text: &mut [u8])
     requires { ⌜ at < 8192 ⌝ }
     requires { ⌜ length (now text) ≤ 8192 ⌝ }
 {
     let mut i = 0;
     while i < text.len() {
-        text[i] = low8(byte_at(v, at, i));
+        text[i] = low8(changed_byte(v, at, i));
         i += 1;
     }
 }
 
 // Reads a text, as many bytes and cells being lent as is said.
-pub fn answered(bytes: u64, lent: u64, text: &[u8], cells: &mut [u64]) -> DumpRead {
+pub fn read_lent(bytes: u64, lent: u64, text: &[u8], cells: &mut [u64]) -> DumpRead {
     let b = at_most(bytes, text.len());
     let n = at_most(lent, cells.len());
     read_dump(&text[..b], &mut cells[..n])
@@ -85,10 +86,10 @@ fn vector(v: &[u64], at: usize) -> Step
     requires { ⌜ at < 8192 ⌝ }
 {
     let mut text = [0u8; 8192];
-    let mut cells = [900u64; 686];
+    let mut cells = [STOOD; 686];
     fill(v, at, &mut text);
     let end = at + INSTEAD + at_most(item(v, at, 3), 8192);
-    let read = answered(item(v, at, 2), item(v, end, 0), &text, &mut cells);
+    let read = read_lent(item(v, at, 2), item(v, end, 0), &text, &mut cells);
     outcome(v, end + 1, read, &cells)
 }
 

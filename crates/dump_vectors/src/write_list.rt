@@ -8,6 +8,7 @@ use crate::read_list;
 use dump::write::DumpWritten;
 use dump::write::write_dump;
 use field::cell::number_at;
+use field::felt::Felt;
 use lists::copies::copy;
 use lists::text::item;
 use lists::text::one_if;
@@ -15,15 +16,18 @@ ghost use Prim.Native.Nat.{_≤_, _<_};
 
 const HEADER: usize = 1400;
 
-const MODULUS: u64 = 18446744069414584321;
-
 // What stands in the text before.
-const STOOD: u64 = 126;
+const STOOD: u8 = 126;
+
+// A byte as a number.
+fn wide(x: u8) -> u64 {
+    x as u64
+}
 
 // The byte that is expected in place i: of the first `bytes` those of the header and those that stand from `at` on, and else what stood there.
-fn byte_at(v: &[u64], at: usize, bytes: usize, i: usize) -> u64 {
+fn expected_byte(v: &[u64], at: usize, bytes: usize, i: usize) -> u64 {
     if bytes <= i {
-        return STOOD;
+        return wide(STOOD);
     }
     if i < HEADER {
         return byte(v, i);
@@ -31,16 +35,12 @@ fn byte_at(v: &[u64], at: usize, bytes: usize, i: usize) -> u64 {
     item(v, at, i - HEADER)
 }
 
-fn wide(x: u8) -> u64 {
-    x as u64
-}
-
 // Whether the text is as expected.
 fn text_right(v: &[u64], at: usize, bytes: usize, text: &[u8]) -> bool {
     let mut right = true;
     let mut i = 0;
     while i < text.len() {
-        right = right & (wide(text[i]) == byte_at(v, at, bytes, i));
+        right = right & (wide(text[i]) == expected_byte(v, at, bytes, i));
         i += 1;
     }
     right
@@ -51,7 +51,7 @@ fn reduced(a: &[u64], b: &[u64], n: usize) -> bool {
     let mut right = true;
     let mut i = 0;
     while i < n {
-        right = right & (number_at(a, i) == number_at(b, i) % MODULUS);
+        right = right & (number_at(a, i) == number_at(b, i) % Felt::MODULUS);
         i += 1;
     }
     right
@@ -60,7 +60,7 @@ fn reduced(a: &[u64], b: &[u64], n: usize) -> bool {
 // Whether the first n cells, reduced, come back from a dump.
 fn comes_back(cells: &[u64], n: usize, text: &[u8], bytes: u64) -> bool {
     let mut back = [0u64; 686];
-    let read = read_list::answered(bytes, n as u64, text, &mut back);
+    let read = read_list::read_lent(bytes, n as u64, text, &mut back);
     ((read.number == 0) & (read.rows == n / 49)) & reduced(&back, cells, n)
 }
 
@@ -73,7 +73,7 @@ fn behind(bytes: usize) -> usize
 }
 
 // Writes the dump, as many cells and bytes being lent as is said.
-fn answered(n: usize, lent: u64, cells: &[u64], text: &mut [u8]) -> DumpWritten {
+fn write_lent(n: usize, lent: u64, cells: &[u64], text: &mut [u8]) -> DumpWritten {
     let given = at_most(n as u64, cells.len());
     let b = at_most(lent, text.len());
     write_dump(&cells[..given], &mut text[..b])
@@ -97,10 +97,10 @@ fn vector(v: &[u64], at: usize) -> Step
     requires { ⌜ at < 8192 ⌝ }
 {
     let mut cells = [0u64; 686];
-    let mut text = [126u8; 8192];
+    let mut text = [STOOD; 8192];
     let n = at_most(item(v, at, 0), 686);
     copy(v, at + 1, &mut cells);
-    let written = answered(n, item(v, at + 1 + n, 0), &cells, &mut text);
+    let written = write_lent(n, item(v, at + 1 + n, 0), &cells, &mut text);
     let step = outcome(v, at + 2 + n, written, &text);
     if written.number != 0 {
         return step;

@@ -11,7 +11,7 @@ use lib.ListN.{length, getD, replicate, length-append}
 use Rattle.field.specs.Modulus.{P}
 use Rattle.groups.specs.Answer.{pick}
 use Rattle.dumps.specs.Numerals.{binary, spelled}
-use Rattle.dumps.specs.Dumps.{identifier, header, timeLine, valueLine, allValues, changes, laterRows, rowLines, dumpRows}
+use Rattle.dumps.specs.Dumps.{identifier, header, timeLine, valueLine, allValues, changes, laterLines, dumpLines, dumpRows}
 use Rattle.dumps.specs.Undump.{behind, bitsIn, lineBits, lineValue, isLineOf, afterValue, withValue, orNone, readChanges, withRow, orEnd, readRows, noValues, hasAll, fromFirst, undump}
 use Rattle.dumps.proofs.NumeralLaws.{spells, Digits, are-digits}
 
@@ -127,8 +127,8 @@ unfoldable pub Rows : List (List ℕ) → Type 0
 Rows [] = Unit {0}
 Rows (row ∷ rows) = ((length row ≡ 49) × Below row) × Rows rows
 
-later-none : (number : ℕ) (before : List ℕ) (rows : List (List ℕ)) → NoLine (laterRows number before rows)
-unfolding laterRows timeLine isLineOf
+later-none : (number : ℕ) (before : List ℕ) (rows : List (List ℕ)) → NoLine (laterLines number before rows)
+unfolding laterLines timeLine isLineOf
 later-none number before [] c = refl
 later-none number before (row ∷ rows) c = refl
 
@@ -137,13 +137,13 @@ no-end : (number : ℕ) (lines text : List ℕ) (rows : Option (List (List ℕ))
 unfolding timeLine
 no-end number lines text rows = refl
 
-later-read : (rows : List (List ℕ)) (most number : ℕ) (before : List ℕ) → length rows ≤ most → length before ≡ 49 → Rows rows → readRows most number before (laterRows number before rows) ≡ some rows
-unfolding readRows laterRows Rows
+later-read : (rows : List (List ℕ)) (most number : ℕ) (before : List ℕ) → length rows ≤ most → length before ≡ 49 → Rows rows → readRows most number before (laterLines number before rows) ≡ some rows
+unfolding readRows laterLines Rows
 later-read [] zero number before h l r = refl
 later-read [] (suc most) number before h l r = refl
 later-read (row ∷ rows) zero number before h l r = absurd (omega arith)
 later-read (row ∷ rows) (suc most) number before h l r =
-    let text : List ℕ = laterRows (suc number) row rows in
+    let text : List ℕ = laterLines (suc number) row rows in
     let more = later-read rows most (suc number) row (omega arith) (r .0 .0) (r .1) in
     let changed = changes-read before row text 0 (l ∙ sym (r .0 .0)) (r .0 .1) (later-none (suc number) row rows) in
     let parts : (timeLine number ++ changes 0 before row) ++ text ≡ timeLine number ++ (changes 0 before row ++ text) = append-assoc (timeLine number) (changes 0 before row) text in
@@ -163,19 +163,19 @@ below-all [] b = refl
 below-all (value ∷ row) b = rw (lt-ltb value P (b .0)) (below-all row (b .1))
 
 -- no more rows than bytes
-rows-few : (rows : List (List ℕ)) (number : ℕ) (before : List ℕ) → length rows ≤ length (laterRows number before rows)
-unfolding laterRows timeLine
+rows-few : (rows : List (List ℕ)) (number : ℕ) (before : List ℕ) → length rows ≤ length (laterLines number before rows)
+unfolding laterLines timeLine
 rows-few [] number before = omega arith
 rows-few (row ∷ rows) number before =
-    omega (arith, rows-few rows (suc number) row, length-append (timeLine number ++ changes 0 before row) (laterRows (suc number) row rows), length-append (timeLine number) (changes 0 before row))
+    omega (arith, rows-few rows (suc number) row, length-append (timeLine number ++ changes 0 before row) (laterLines (suc number) row rows), length-append (timeLine number) (changes 0 before row))
 
 -- the rows of a dump are read back
 pub dumped-read : (row : List ℕ) (rows : List (List ℕ)) → Rows (row ∷ rows) → undump (dumpRows (row ∷ rows)) ≡ some (row ∷ rows)
-unfolding undump dumpRows rowLines Rows fromFirst
+unfolding undump dumpRows dumpLines Rows fromFirst
 dumped-read row rows r =
-    let first : rowLines (row ∷ rows) ≡ laterRows 0 noValues (row ∷ rows) =
-    unfold rowLines laterRows in ap (λ (l : List ℕ). (timeLine 0 ++ l) ++ laterRows 1 row rows) (sym (values-changed row 0 49 (r .0 .0) (r .0 .1))) in
-    rw (behind-front header (rowLines (row ∷ rows)), first, later-read (row ∷ rows) (length (laterRows 0 noValues (row ∷ rows))) 0 noValues (rows-few (row ∷ rows) 0 noValues) refl r, below-all row (r .0 .1))
+    let first : dumpLines (row ∷ rows) ≡ laterLines 0 noValues (row ∷ rows) =
+    unfold dumpLines laterLines in ap (λ (l : List ℕ). (timeLine 0 ++ l) ++ laterLines 1 row rows) (sym (values-changed row 0 49 (r .0 .0) (r .0 .1))) in
+    rw (behind-front header (dumpLines (row ∷ rows)), first, later-read (row ∷ rows) (length (laterLines 0 noValues (row ∷ rows))) 0 noValues (rows-few (row ∷ rows) 0 noValues) refl r, below-all row (r .0 .1))
 
 -- WHAT IS READ IS DUMPED
 
@@ -266,14 +266,14 @@ then-of : {A B : Type 0} (o : Option A) (f : A → Option B) (y : B) → orNone 
 then-of none f y e = no-none y e
 then-of (some x) f y e = (x, refl, e)
 
-nothing-left : (number : ℕ) (before : List ℕ) (rows : List (List ℕ)) → some [] ≡ some rows → ([] ≡ laterRows number before rows) × Chain before rows
-unfolding laterRows Chain
+nothing-left : (number : ℕ) (before : List ℕ) (rows : List (List ℕ)) → some [] ≡ some rows → ([] ≡ laterLines number before rows) × Chain before rows
+unfolding laterLines Chain
 nothing-left number before rows e =
     let z : _≡_ {A = List (List ℕ)} [] rows = cc in
     rw (← z) (refl, tt)
 
-rows-sound : (most number : ℕ) (before text : List ℕ) (rows : List (List ℕ)) → length before ≡ 49 → readRows most number before text ≡ some rows → (text ≡ laterRows number before rows) × Chain before rows
-unfolding readRows laterRows Chain
+rows-sound : (most number : ℕ) (before text : List ℕ) (rows : List (List ℕ)) → length before ≡ 49 → readRows most number before text ≡ some rows → (text ≡ laterLines number before rows) × Chain before rows
+unfolding readRows laterLines Chain
 rows-sound zero number before [] rows l e = nothing-left number before rows e
 rows-sound zero number before (byte ∷ text) rows l e = no-none rows e
 rows-sound (suc most) number before [] rows l e = nothing-left number before rows e
@@ -287,7 +287,7 @@ rows-sound (suc most) number before (byte ∷ text) rows l e =
     rw e6 (
       behind-is (timeLine number) (byte ∷ text) lines e1
           ∙ ap (λ (t : List ℕ). timeLine number ++ t) (c .is-text ∙ ap (λ (t : List ℕ). changes 0 before (x .0) ++ t) f)
-          ∙ sym (append-assoc (timeLine number) (changes 0 before (x .0)) (laterRows (suc number) (x .0) more)),
+          ∙ sym (append-assoc (timeLine number) (changes 0 before (x .0)) (laterLines (suc number) (x .0) more)),
       (long, c .kept, g),
     )
 
@@ -313,8 +313,8 @@ pub record Dumped (text : List ℕ) (rows : List (List ℕ)) : Type 0 where
   pub cells : Rows rows
   pub is-dump : text ≡ dumpRows rows
 
-first-sound : (text lines : List ℕ) (rows rows′ : List (List ℕ)) → text ≡ header ++ lines → (lines ≡ laterRows 0 noValues rows) × Chain noValues rows → fromFirst rows ≡ some rows′ → Dumped text rows′
-unfolding fromFirst Chain Rows dumpRows rowLines laterRows
+first-sound : (text lines : List ℕ) (rows rows′ : List (List ℕ)) → text ≡ header ++ lines → (lines ≡ laterLines 0 noValues rows) × Chain noValues rows → fromFirst rows ≡ some rows′ → Dumped text rows′
+unfolding fromFirst Chain Rows dumpRows dumpLines laterLines
 first-sound text lines [] rows′ h c e = no-none rows′ e
 first-sound text lines (row ∷ rows) rows′ h c e = go (hasAll row) refl e
   where
@@ -327,7 +327,7 @@ first-sound text lines (row ∷ rows) rows′ h c e = go (hasAll row) refl e
         rw (← z) (record {
           some-rows = omega arith;
           cells = ((long, b), chain-rows row rows b (c .1 .2));
-          is-dump = h ∙ ap (λ (l : List ℕ). header ++ l) (c .0 ∙ ap (λ (l : List ℕ). (timeLine 0 ++ l) ++ laterRows 1 row rows) (values-changed row 0 49 long b));
+          is-dump = h ∙ ap (λ (l : List ℕ). header ++ l) (c .0 ∙ ap (λ (l : List ℕ). (timeLine 0 ++ l) ++ laterLines 1 row rows) (values-changed row 0 49 long b));
         })
 
 pub read-dumped : (text : List ℕ) (rows : List (List ℕ)) → undump text ≡ some rows → Dumped text rows

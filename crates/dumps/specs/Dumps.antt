@@ -66,17 +66,17 @@ changes column [] (value ∷ row) = []
 changes column (old ∷ before) (value ∷ row) = pick (eqb old value) [] (valueLine column value) ++ changes (suc column) before row
 
 -- the rows behind the first
-unfoldable pub laterRows : (number : ℕ) → (before : List ℕ) → List (List ℕ) → List ℕ
-laterRows number before [] = []
-laterRows number before (row ∷ rows) = timeLine number ++ changes 0 before row ++ laterRows (suc number) row rows
+unfoldable pub laterLines : (number : ℕ) → (before : List ℕ) → List (List ℕ) → List ℕ
+laterLines number before [] = []
+laterLines number before (row ∷ rows) = timeLine number ++ changes 0 before row ++ laterLines (suc number) row rows
 
-unfoldable pub rowLines : List (List ℕ) → List ℕ
-rowLines [] = []
-rowLines (row ∷ rows) = timeLine 0 ++ allValues 0 row ++ laterRows 1 row rows
+unfoldable pub dumpLines : List (List ℕ) → List ℕ
+dumpLines [] = []
+dumpLines (row ∷ rows) = timeLine 0 ++ allValues 0 row ++ laterLines 1 row rows
 
 -- the dump of rows of cells below p
 unfoldable pub dumpRows : List (List ℕ) → List ℕ
-dumpRows rows = header ++ rowLines rows
+dumpRows rows = header ++ dumpLines rows
 
 -- the dump of a buffer: that of its reduced cells
 unfoldable pub dump : (cells : List ℕ) → List ℕ

@@ -1,6 +1,6 @@
 // The calls for programs in other languages. Each passes its arguments on; its contract is that of the function it calls. A slice crosses
 // as a pointer and a length, an array behind a reference as a pointer, a struct by value; instead of a part of a slice its place is answered.
-// Every call takes any numbers and answers 0 or document 01's number of the refusal; a refused place is empty.
+// Every call takes any numbers and answers 0 or the documents' number of the refusal; a refused place is empty.
 use dump::read_text::DumpRead;
 use dump::read_text::read_dump;
 use dump::write::DumpWritten;
@@ -39,7 +39,7 @@ ghost use Rattle.field.specs.Inverse.{inverseOf};
 ghost use Rattle.groups.specs.Answer.{number, values};
 ghost use Rattle.indexes.specs.Enclosing.{enclosing};
 ghost use Rattle.index.specs.Building.{building, indexBuilt, indexAfter};
-ghost use Rattle.dump.specs.Dumping.{dumping, textAfter, readingDump, rowsRead, cellsAfter};
+ghost use Rattle.dump.specs.Dumping.{dumping, textAfter, ReadsDump};
 ghost use Rattle.exports.specs.Places.{rowStart, rowCells, blockFound, blockPlace};
 
 // The number, always 0, and the inverse.
@@ -265,8 +265,7 @@ pub extern "C" fn core_write_dump(cells: &[u64], text: &mut [u8]) -> DumpWritten
 // Reads a dump back into cells.
 #[no_mangle]
 pub extern "C" fn core_read_dump(text: &[u8], cells: &mut [u64]) -> DumpRead
-    ensures { λ r. ⌜ (r .number ≡ number (readingDump (now (text .entry)) (length (now (cells .entry))))) × (r .rows ≡ rowsRead (readingDump (now (text .entry)) (length (now (cells .entry))))) ⌝ }
-    ensures { λ _. ⌜ now (cells .exit) ≡ cellsAfter (readingDump (now (text .entry)) (length (now (cells .entry)))) (now (cells .entry)) ⌝ }
+    ensures { λ r. ⌜ ReadsDump (now (text .entry)) (now (cells .entry)) (r .number) (r .rows) (now (cells .exit)) ⌝ }
 {
     read_dump(text, cells)
 }

@@ -1,5 +1,5 @@
 // The finishing passes over a buffer of rows, each a call of its own, and one finisher that does all five.
-mod buffer;
+pub mod buffer;
 pub mod finish;
 pub mod fixup;
 pub mod halt;

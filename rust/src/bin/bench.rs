@@ -29,7 +29,7 @@ fn main() {
     for log in (10..=20).step_by(2).filter(|&log| log <= most) {
         measure::reading(1 << log);
     }
-    println!("cells rows bytes write_dump plain ratio read_dump plain ratio");
+    println!("kind rows bytes/row write_dump plain ratio read_dump plain ratio");
     for log in [10, 14, 17].into_iter().filter(|&log| log <= most) {
         measure::dumps(1 << log);
     }
@@ -177,7 +177,7 @@ mod measure {
 
     fn dumping(kind: &str, cells: &[u64]) {
         let rows = cells.len() / WIDTH;
-        let mut text = vec![0; dump_size(cells)];
+        let mut text = vec![0; dump_size(cells).expect("whole rows")];
         let mut back = vec![0; cells.len()];
         let mut best = [f64::MAX; 4];
         for _ in 0..5 {

@@ -1,6 +1,5 @@
 //! `compare [SEED [RUNS]]`: random runs by the listed Rust and by the proved library, which in every second of them is given some cells with
-//! p added, and the finished traces read by the proved library and by the checker, as they are and changed. The traces, and random buffers,
-//! are written as dumps by the proved library and in plain Rust, and read back, as they are and damaged. Writes what was compared, the
+//! p added, and the finished traces read by the proved library and by the checker, as they are and changed. Writes what was compared, the
 //! differences, and how often which side refused. Exits with 1 where there is a difference.
 
 #[cfg(not(all(listed, archive)))]
@@ -11,8 +10,7 @@ fn main() {
 #[cfg(all(listed, archive))]
 fn main() {
     use core_trace::compare::{Tally, compare_run};
-    use core_trace::dumping;
-    use core_trace::random::{Rng, any_calls, changed_run, proper_run, raised};
+    use core_trace::random::{Rng, any_calls, changed_run, proper_run};
     use core_trace::reading;
     use core_trace::words::word;
 
@@ -26,8 +24,6 @@ fn main() {
     println!("seed {seed}; {runs} runs of each kind");
     let mut bad = false;
     let mut reads = reading::Tally::default();
-    let dump_rng = Rng::new(seed.rotate_left(32));
-    let mut dumps = dumping::Tally::default();
     for (name, kind) in
         [("proper runs", proper_run as fn(&Rng, usize) -> _), ("changed runs", changed_run), ("calls of any kind", any_calls)]
     {
@@ -36,9 +32,6 @@ fn main() {
             let limit = rng.pick(&[20, 100, 400, 1500]);
             let run = kind(&rng, limit);
             if let Some(trace) = compare_run(&run, &rng, &mut tally) {
-                if dump_rng.one_in(8) {
-                    dumps.all(&dump_rng, &trace.iter().map(|&cell| raised(&dump_rng, cell)).collect::<Vec<_>>());
-                }
                 reads.all(&reader_rng, trace, run.nesting.as_deref());
             }
         }
@@ -74,9 +67,6 @@ fn main() {
         println!("  {text}");
     }
     bad |= reads.differences > 0;
-    dumps.buffers(&dump_rng, 50 * runs);
-    println!("{dumps}");
-    bad |= dumps.differences > 0;
     if bad {
         std::process::exit(1);
     }

@@ -11,11 +11,11 @@ fn main() {
     use core_trace::dumping::buffer;
     use core_trace::listing;
     use core_trace::random::{Rng, raised};
-    use core_trace::waves::{are_there, compare};
+    use core_trace::waves::{compare, missing};
     use core_trace::words::word;
 
-    if !are_there() {
-        println!("waves: left out: vcd2fst and fst2vcd (Debian's package gtkwave) are not there");
+    if !missing().is_empty() {
+        println!("waves: left out: not there (Debian's package gtkwave has them): {}", missing().join(", "));
         return;
     }
     let seed = std::env::args().nth(1).map_or(1, |word| word.parse().expect("a number"));

@@ -16,28 +16,19 @@ returns : tie.Need-returns
 returns c =
     let a = c .before .before .before .args in
     let s = now (a .cells) in
-    no-bytes (a .column) (oldAt s (a .row) (a .column)) (valueAt s (a .row) (a .column)) (c .before .same-number .ensures (c .if1 .taken))
+    no-bytes (a .column) (oldAt s (a .row) (a .column)) (valueAt s (a .row) (a .column)) (sym (c .before .unchanged .ensures) ∙ c .if1 .taken)
+
+add-result : tie.Need-add-result
+add-result c = omega (arith, c .binary-digits .ensures, few-digits 2 64 (c .before .cell .result))
 
 returns-2 : tie.Need-returns-2
 returns-2 c =
-    let o = c .before .old-value in
-    let v = c .before .before .cell in
-    let a = c .before .before .before .before .before .before .args in
-    let s = now (a .cells) in
-    no-bytes (a .column) (oldAt s (a .row) (a .column)) (valueAt s (a .row) (a .column)) (sym (o .ensures) ∙ c .if2 .taken ∙ v .ensures)
-
-add-result : tie.Need-add-result
-add-result c = omega (arith, c .binary-digits .ensures, few-digits 2 64 (c .before .before .before .cell .result))
-
-returns-3 : tie.Need-returns-3
-returns-3 c =
-    let b = c .before in
-    let o = b .before .old-value in
-    let v = b .before .before .cell in
-    let a = b .before .before .before .before .before .before .args in
+    let v = c .before .cell in
+    let b = c .before .before in
+    let a = b .before .before .before .args in
     let s = now (a .cells) in
     ap (λ (n : ℕ). 4 + n) (c .binary-digits .ensures ∙ ap (λ (n : ℕ). length (binary n)) (v .ensures))
-    ∙ some-bytes (a .column) (oldAt s (a .row) (a .column)) (valueAt s (a .row) (a .column)) (λ e. b .if2 .left (o .ensures ∙ e ∙ sym (v .ensures)))
+    ∙ some-bytes (a .column) (oldAt s (a .row) (a .column)) (valueAt s (a .row) (a .column)) (sym (b .before .unchanged .ensures) ∙ b .if1 .left)
 
 pub change-bytes-spec : {M : Type 1} → statement M
 change-bytes-spec =
@@ -49,7 +40,5 @@ change-bytes-spec =
     (λ c. search needs)
     (λ c κs. search needs)
     (λ c κs. search needs)
-    returns-2
-    (λ c κs. search needs)
     add-result
-    returns-3)
+    returns-2)

@@ -5,7 +5,7 @@ use denote.Ref.{now}
 use Rattle.dumps.specs.Dumps.{valueLine}
 use Rattle.dump.specs.Places.{oldAt, valueAt}
 use Rattle.dump.proofs.Putting.{put-none, put-is}
-use Rattle.dump.proofs.Places.{unchanged, changed}
+use Rattle.dump.proofs.Places.{no-line, a-line}
 use Rattle.dump.proofs.lines.put_change.Statement.{statement}
 use Rattle.dump.proofs.lines.put_change.Tie as tie
 
@@ -13,29 +13,18 @@ returns : tie.Need-returns
 returns c =
     let a = c .before .before .before .before .args in
     let s = now (a .cells) in
-    put-is (sym (unchanged (a .column) (oldAt s (a .row) (a .column)) (valueAt s (a .row) (a .column)) (c .before .same-number .ensures (c .if1 .taken))))
+    put-is (sym (no-line (a .column) (oldAt s (a .row) (a .column)) (valueAt s (a .row) (a .column)) (sym (c .before .unchanged .ensures) ∙ c .if1 .taken)))
     (put-none (now (a .text)) (a .at))
 
 returns-2 : tie.Need-returns-2
 returns-2 c =
-    let o = c .before .old-value in
-    let v = c .before .before .cell in
-    let a = c .before .before .before .before .before .before .before .args in
-    let s = now (a .cells) in
-    put-is (sym (unchanged (a .column) (oldAt s (a .row) (a .column)) (valueAt s (a .row) (a .column)) (sym (o .ensures) ∙ c .if2 .taken ∙ v .ensures)))
-    (put-none (now (a .text)) (a .at))
-
-returns-3 : tie.Need-returns-3
-returns-3 c =
     let p = c .before .before in
-    let b = p .before .before in
-    let o = b .before .old-value in
-    let v = b .before .before .cell in
-    let a = b .before .before .before .before .before .before .before .args in
+    let b = p .before .before .before in
+    let a = b .before .before .before .before .args in
     let s = now (a .cells) in
     put-is
-    (ap (valueLine (a .column)) (v .ensures)
-    ∙ sym (changed (a .column) (oldAt s (a .row) (a .column)) (valueAt s (a .row) (a .column)) (λ e. b .if2 .left (o .ensures ∙ e ∙ sym (v .ensures)))))
+    (ap (valueLine (a .column)) (p .before .cell .ensures)
+    ∙ sym (a-line (a .column) (oldAt s (a .row) (a .column)) (valueAt s (a .row) (a .column)) (sym (b .before .unchanged .ensures) ∙ b .if1 .left)))
     (p .put-value .ensures)
 
 pub put-change-spec : {M : Type 1} → statement M
@@ -48,7 +37,5 @@ put-change-spec =
     (λ c. search needs)
     (λ c κs. search needs)
     (λ c κs. search needs)
-    returns-2
-    (λ c κs. search needs)
     (λ c. search needs)
-    returns-3)
+    returns-2)

@@ -8,35 +8,35 @@ use lib.ListN.{length, drop}
 use denote.Ref.{now}
 use Rattle.dumps.specs.Dumps.{dump}
 use Rattle.dump.specs.Dumping.{textAfter}
-use Rattle.dump.proofs.Writing.{trace-rows, no-trace, text-short, text-fits}
+use Rattle.dump.proofs.Writing.{trace-rows, rows-wrong, text-short, text-fits}
 use Rattle.dump.proofs.write.write_dump.Statement.{statement}
 use Rattle.dump.proofs.write.write_dump.Tie as tie
 
 returns : tie.Need-returns
 unfolding textAfter
 returns c =
-    let t = c .before .no-trace in
+    let t = c .before .rows-wrong in
     let a = c .before .before .before .before .args in
-    rw (no-trace (now (a .cells)) (length (now (a .text))) (sym (t .ensures) ∙ c .if1 .taken)) ((refl, refl), refl)
+    rw (rows-wrong (now (a .cells)) (length (now (a .text))) (sym (t .ensures) ∙ c .if1 .taken)) ((refl, refl), refl)
 
 dump-bytes-requires : tie.Need-dump-bytes-requires
 dump-bytes-requires c κs =
     let a = c .before .before .before .before .args in
-    trace-rows (length (now (a .cells))) (sym (c .before .no-trace .ensures) ∙ c .if1 .left)
+    trace-rows (length (now (a .cells))) (sym (c .before .rows-wrong .ensures) ∙ c .if1 .left)
 
 returns-2 : tie.Need-returns-2
 unfolding textAfter
 returns-2 c =
     let b = c .before .before in
     let a = b .before .before .before .before .args in
-    rw (text-short (now (a .cells)) (length (now (a .text))) (sym (b .before .no-trace .ensures) ∙ b .if1 .left) (omega (arith, c .if2 .taken, c .before .dump-bytes .ensures)))
+    rw (text-short (now (a .cells)) (length (now (a .text))) (sym (b .before .rows-wrong .ensures) ∙ b .if1 .left) (omega (arith, c .if2 .taken, c .before .dump-bytes .ensures)))
     ((refl, refl), refl)
 
 put-dump-requires : tie.Need-put-dump-requires
 put-dump-requires c κs =
     let b = c .before .before .before in
     let a = b .before .before .before .before .args in
-    trace-rows (length (now (a .cells))) (sym (b .before .no-trace .ensures) ∙ b .if1 .left)
+    trace-rows (length (now (a .cells))) (sym (b .before .rows-wrong .ensures) ∙ b .if1 .left)
 
 returns-3 : tie.Need-returns-3
 unfolding textAfter
@@ -47,7 +47,7 @@ returns-3 c =
     let a = b .before .before .before .before .args in
     let e : t .before .dump-bytes .result ≡ length (dump (now (a .cells))) = t .before .dump-bytes .ensures in
     let f : q .put-dump .result ≡ length (dump (now (a .cells))) = omega (arith, q .put-dump .ensures .is-end) in
-    rw (text-fits (now (a .cells)) (length (now (a .text))) (sym (b .before .no-trace .ensures) ∙ b .if1 .left) (omega (arith, t .if2 .left, e))) (
+    rw (text-fits (now (a .cells)) (length (now (a .text))) (sym (b .before .rows-wrong .ensures) ∙ b .if1 .left) (omega (arith, t .if2 .left, e))) (
       (refl, e),
       q .put-dump .ensures .is-put (omega (arith, t .if2 .left, e, f)) ∙ ap (λ (n : ℕ). dump (now (a .cells)) ++ drop n (now (a .text))) f,
     )

@@ -1,12 +1,12 @@
--- `read_list::answered` is safe and ends: each part lent is as long as said.
+-- `write_list::write_lent` is safe and ends: each part lent is as long as said.
 use mathlib.Core.Path.{sym}
 use borrow.Author.Needs.{needs}
 use lib.Seq.{length-take-le}
-use Rattle.dump_vectors.proofs.read_list.answered.Statement.{statement}
-use Rattle.dump_vectors.proofs.read_list.answered.Tie as tie
+use Rattle.dump_vectors.proofs.write_list.write_lent.Statement.{statement}
+use Rattle.dump_vectors.proofs.write_list.write_lent.Tie as tie
 
-pub answered-spec : {M : Type 1} → statement M
-answered-spec =
+pub write-lent-spec : {M : Type 1} → statement M
+write-lent-spec =
     tie.close
     (tie.spec
     (λ c κs. search needs)
