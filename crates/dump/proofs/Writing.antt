@@ -25,8 +25,8 @@ whole cells e =
     let (c, d) = neither (ltb 0 (cells % 49)) (ltb 16777216 (cells / 49)) a in
     (ltb-false 0 (cells % 49) c, ltb-false 16777216 (cells / 49) d, ltb-false cells 49 b)
 
-pub trace-rows : (cells : ℕ) → rowsWrong cells ≡ false → (49 ≤ cells) × (cells ≤ 822083584)
-trace-rows cells e = let (a, b, c) = whole cells e in (c, omega arith)
+pub rows-within : (cells : ℕ) → rowsWrong cells ≡ false → (49 ≤ cells) × (cells ≤ 822083584)
+rows-within cells e = let (a, b, c) = whole cells e in (c, omega arith)
 
 module _ (cells : List ℕ) (lent : ℕ) where
   pub rows-wrong : rowsWrong (length cells) ≡ true → dumping cells lent ≡ refused 11

@@ -64,7 +64,7 @@ pub(crate) fn row_at(text: &[u8], at: usize, number: usize, row: &mut [u64; 49])
     Place { good: false, at: 0 }
 }
 
-// How many rows there are; `good` where the text is few enough rows up to its end, or else 0.
+// How many rows there are. `good` where the text is rows up to its end, and not too many; where not, there are 0.
 pub(crate) struct Counted {
     pub(crate) good: bool,
     pub(crate) rows: usize,

@@ -167,7 +167,7 @@ fn byte_behind(text: &[u8], at: usize) -> u8
     text[at + 1]
 }
 
-// p, which is no cell, where there are more digits than a number of 64 bits has.
+// The number that they spell; p, which is no cell, where there are more of them than a number of 64 bits has.
 fn number_of(bits: Digits) -> u64
     ensures { λ r. ⌜ r ≡ pick (ltb 64 (bits .count)) P (bits .value) ⌝ }
 {

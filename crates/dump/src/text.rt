@@ -1,4 +1,4 @@
-// Lines put into a text. Where one does not fit, the text stays, and the place behind it is answered all the same.
+// Lines put into a text. Where one does not fit, the place behind it is answered all the same, and nothing is said of the text.
 use crate::numeral::put_digits;
 ghost use Prim.Native.Nat.{_≤_, _<_};
 ghost use lib.ListN.{length};

@@ -22,7 +22,7 @@ unfoldable pub bitsIn : List ℕ → List ℕ
 bitsIn [] = []
 bitsIn (d ∷ text) = pick (eqb d 48) (d ∷ bitsIn text) (pick (eqb d 49) (d ∷ bitsIn text) [])
 
--- of a line like `b101 !`: its digits, its value and its identifier
+-- of a line like `b101 !`: its digits and its value
 abbrev pub lineBits : List ℕ → List ℕ
 lineBits text = bitsIn (drop 1 text)
 

@@ -8,7 +8,7 @@ use lib.ListN.{length, drop}
 use denote.Ref.{now}
 use Rattle.dumps.specs.Dumps.{dump}
 use Rattle.dump.specs.Dumping.{textAfter}
-use Rattle.dump.proofs.Writing.{trace-rows, rows-wrong, text-short, text-fits}
+use Rattle.dump.proofs.Writing.{rows-within, rows-wrong, text-short, text-fits}
 use Rattle.dump.proofs.write.write_dump.Statement.{statement}
 use Rattle.dump.proofs.write.write_dump.Tie as tie
 
@@ -22,7 +22,7 @@ returns c =
 dump-bytes-requires : tie.Need-dump-bytes-requires
 dump-bytes-requires c κs =
     let a = c .before .before .before .before .args in
-    trace-rows (length (now (a .cells))) (sym (c .before .rows-wrong .ensures) ∙ c .if1 .left)
+    rows-within (length (now (a .cells))) (sym (c .before .rows-wrong .ensures) ∙ c .if1 .left)
 
 returns-2 : tie.Need-returns-2
 unfolding textAfter
@@ -36,7 +36,7 @@ put-dump-requires : tie.Need-put-dump-requires
 put-dump-requires c κs =
     let b = c .before .before .before in
     let a = b .before .before .before .before .args in
-    trace-rows (length (now (a .cells))) (sym (b .before .rows-wrong .ensures) ∙ b .if1 .left)
+    rows-within (length (now (a .cells))) (sym (b .before .rows-wrong .ensures) ∙ b .if1 .left)
 
 returns-3 : tie.Need-returns-3
 unfolding textAfter
