@@ -1,5 +1,5 @@
--- Reading a dump back: a way to do it. What it must answer does not mention it (that a text is the dump of rows); that it answers this is a
--- theorem (proofs/ReadBack.antt).
+-- A way to read a dump back. Nobody has to believe it: what reading must answer is said by `dump` alone. That it finds rows exactly where the text is
+-- their dump is a theorem (proofs/ReadBack.antt).
 use mathlib.Core.Bool.{Bool, true, not, _&&_}
 use mathlib.Core.List.{List, [], _∷_}
 use mathlib.Core.Option.{Option, none, some}
