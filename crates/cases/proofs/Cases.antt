@@ -10,8 +10,8 @@ use Rattle.groups.specs.GroupOfOperation.{falling, placeIn, groupFrom, groupOf}
 use Rattle.groups.specs.GroupsLeft.{counts, sumGroups, anyAbove8, groupSum, pushes}
 use Rattle.groups.specs.Contexts.{tooLarge, consumed, opContext, contextInGroup, contextAtOp}
 use Rattle.groups.specs.Helpers.{allBelow, readRegisters, u32Values, helpersOf, helpersOfCells, helpersAnswer}
-use Rattle.passes.specs.Buffers.{rowsOf, flat}
-use Rattle.passes.specs.Passes.{lowBits, opcodeOf, flaggedEnd, bodyEnds, withCounts, anyWithoutBody, multiplied, loopWithoutBody}
+use Rattle.rows.specs.passes.Buffers.{rowsOf, flat}
+use Rattle.rows.specs.passes.Passes.{lowBits, opcodeOf, flaggedEnd, bodyEnds, withCounts, anyWithoutBody, multiplied, loopWithoutBody}
 use Rattle.readings.specs.Readings.{allRows}
 use Rattle.dumps.specs.Numerals.{numeralWithin}
 use Rattle.dumps.specs.Dumps.{bytes}

@@ -6,10 +6,10 @@ use Prim.Native.Nat.{ℕ, suc, _*_, _^_, _≤_, _<_}
 use borrow.Author.Tests.{le-ltb, lt-leb}
 use lib.ListN.{length}
 use Rattle.groups.specs.Answer.{refused}
-use Rattle.records.specs.declared.profile.Profile.{Profile}
-use Rattle.records.specs.Cells.{fragmentWrong}
-use Rattle.records.specs.Profiles.{profileWrong}
-use Rattle.passes.specs.Passes.{bufferWrong, firstOf, fragmentsWrong, refusal1, refusal2, refusal3, refusal4, refusal5, refusalAll}
+use Rattle.rows.specs.declared.records.profile.Profile.{Profile}
+use Rattle.rows.specs.records.Cells.{fragmentWrong}
+use Rattle.rows.specs.records.Profiles.{profileWrong}
+use Rattle.rows.specs.passes.Passes.{bufferWrong, firstOf, fragmentsWrong, refusal1, refusal2, refusal3, refusal4, refusal5, refusalAll}
 use Rattle.readings.specs.Answers.{readerRefusal}
 use Rattle.reader.specs.Views.{viewRefused}
 use Rattle.dump.specs.Dumping.{rowsWrong, dumping, ReadsDump}

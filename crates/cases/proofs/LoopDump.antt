@@ -5,8 +5,8 @@ use Prim.Native.Nat.{ℕ}
 use lib.ListN.{replicate, take}
 use Rattle.field.specs.Cells.{reduced}
 use Rattle.groups.specs.Answer.{accepted, refused}
-use Rattle.passes.specs.Buffers.{rowsOf, flat}
-use Rattle.passes.specs.Passes.{bufferWrong}
+use Rattle.rows.specs.passes.Buffers.{rowsOf, flat}
+use Rattle.rows.specs.passes.Passes.{bufferWrong}
 use Rattle.readings.specs.Readings.{allRows}
 use Rattle.dumps.specs.Numerals.{numeralWithin, spelled}
 use Rattle.dumps.specs.Dumps.{bytes, columns, varLines, header, timeLine, valueLine, allValues, changes, laterLines, dumpLines, dumpRows, dump}

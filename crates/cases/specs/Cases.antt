@@ -10,8 +10,8 @@ use Rattle.groups.specs.Flags.{batchFlags}
 use Rattle.groups.specs.Contexts.{contextAtOp}
 use Rattle.groups.specs.declared.helpers.OperationHelperRegisters.the-variants.{U32Split}
 use Rattle.groups.specs.Helpers.{six, helpersAnswer}
-use Rattle.records.specs.declared.profile.Profile.{Profile}
-use Rattle.passes.specs.Passes.{multiplied, loopWithoutBody}
+use Rattle.rows.specs.declared.records.profile.Profile.{Profile}
+use Rattle.rows.specs.passes.Passes.{multiplied, loopWithoutBody}
 use Rattle.cases.specs.Listing.{textLines, listing}
 use Rattle.cases.specs.LoopRun.{profile, loopTrace}
 

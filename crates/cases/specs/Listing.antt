@@ -4,9 +4,9 @@ use Prim.Native.Nat.{ℕ, suc}
 use Prim.Native.String.{String}
 use lib.Dec.{eqb}
 use Rattle.groups.specs.Answer.{pick}
-use Rattle.records.specs.declared.profile.Profile.{Profile}
-use Rattle.passes.specs.Buffers.{addrOf}
-use Rattle.passes.specs.Passes.{opcodeOf}
+use Rattle.rows.specs.declared.records.profile.Profile.{Profile}
+use Rattle.rows.specs.passes.Buffers.{addrOf}
+use Rattle.rows.specs.passes.Passes.{opcodeOf}
 use Rattle.readings.specs.Tokens.{countOf}
 use Rattle.readings.specs.Readings.{allRows}
 use Rattle.dumps.specs.Numerals.{decimal}

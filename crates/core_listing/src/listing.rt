@@ -3,10 +3,10 @@ use field::cell::cell;
 use io::print_decimal;
 use io::write_all;
 use libc::STDOUT_FILENO;
-use passes::multiplicity::opcode_at;
 use reader::view::row;
-use records::profile::Profile;
-use records::profile::opcodes_of;
+use rows::passes::multiplicity::opcode_at;
+use rows::records::profile::Profile;
+use rows::records::profile::opcodes_of;
 
 fn wide(x: u8) -> u64 {
     x as u64

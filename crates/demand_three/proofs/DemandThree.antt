@@ -4,10 +4,10 @@ use mathlib.Core.List.{List}
 use mathlib.Core.Logic.{_↔_}
 use Prim.Native.Nat.{ℕ, _/_, _≤_}
 use lib.ListN.{length}
-use Rattle.records.specs.declared.profile.Profile.{Profile}
-use Rattle.records.specs.Forests.{Forest}
-use Rattle.records.specs.Addresses.{Queues}
-use Rattle.rows.specs.Made.{Place}
+use Rattle.rows.specs.declared.records.profile.Profile.{Profile}
+use Rattle.rows.specs.records.Forests.{Forest}
+use Rattle.rows.specs.records.Addresses.{Queues}
+use Rattle.rows.specs.cycles.Made.{Place}
 use Rattle.readings.specs.Readings.{Block, programRows, Trace}
 use Rattle.readings.specs.Answers.{Answer, accepted, Right, numberOf, rowOf, programRowsOf, depthsAfter}
 use Rattle.readings.specs.Parser.{answer}

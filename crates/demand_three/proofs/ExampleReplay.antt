@@ -16,23 +16,23 @@ use Rattle.groups.specs.GroupOfOperation.{falling, placeIn, groupFrom, groupOf}
 use Rattle.groups.specs.GroupsLeft.{counts, doubled, roundUp, groupsOf, sumGroups, anyAbove8, groupSum, pushes}
 use Rattle.groups.specs.Contexts.{tooLarge, consumed, opContext, contextInGroup, contextAtOp}
 use Rattle.groups.specs.Helpers.{allBelow, readRegisters, u32Values, helpersOf, helpersOfCells, helpersAnswer}
-use Rattle.records.specs.Profiles.{opcodes, isOneOf, twoEqual, lacksBits, profileWrong}
-use Rattle.records.specs.Forests.{Forest, isSlot, nodeOf, nodeAt, digestAt, opcodeAt, blockOf}
-use Rattle.records.specs.Addresses.{Queues, entryAt, startedAt, endAt, readState}
-use Rattle.records.specs.Captured.{readCaptured}
-use Rattle.records.specs.DecoderRows.{controlFlow, basicBlockBatch, operation, decoderCells}
-use Rattle.records.specs.Built.{builtSystem, builtStack, noSystem, noStack, systemCells, stackCells, readSystem, readStack}
-use Rattle.rows.specs.Made.{Place, startBlock, startOne, startKind, startNode, blockKind, entryKind, finished, bodyOf, repeated, finishLoop, operationMade, resumed, made}
-use Rattle.records.specs.Cells.{rowCells, putRow}
-use Rattle.rows.specs.Scans.{anyBigOpcode, anyLongBlock, anyLargeBatch, forestTooLarge, scanOf}
-use Rattle.records.specs.Cells.{fragmentWrong}
-use Rattle.rows.specs.Cycles.{fresh, storedIn, cycleWith, leftAfter, tracerAfter, lastSystem, lastStack, fragmentAfter, finalState}
-use Rattle.rows.specs.Calls.{partsAt, window, forestIn, forestOf, callDone, callWritten, through, written, ending, nextState, nextPositions, told, scanned, replayed, replayedFragment}
-use Rattle.records.specs.CallRecords.{namesNoKind, of32, conditionIn, calleeIn, infoIn, resumeIn, continuationOn, continuationIn, namesNothing, storedInRecord, systemIn, stackIn, fewCells, manyCells, registersIn, finishIn, callIn, recordAt}
-use Rattle.rows.specs.Calls as replays
-use Rattle.records.specs.CallRecords as records
-use Rattle.passes.specs.Buffers.{rowsOf, flat, onRows, lastRow, addrOf}
-use Rattle.passes.specs.Passes.{withSides, firstRow, laterRows, fixedUp, builtOf, lowBits, opcodeOf, flaggedEnd, bodyEnds, withCounts, anyWithoutBody, multiplied, loopWithoutBody, inverted, haltDecoder, haltStack, haltRow, halted, paddingRow, paddingRows, padded, bufferWrong, fewerRows, sumOf, anyAbove, notFull, firstOf, fragmentsWrong, heightWrong, refusalAll, lastBuilt, allPasses}
+use Rattle.rows.specs.records.Profiles.{opcodes, isOneOf, twoEqual, lacksBits, profileWrong}
+use Rattle.rows.specs.records.Forests.{Forest, isSlot, nodeOf, nodeAt, digestAt, opcodeAt, blockOf}
+use Rattle.rows.specs.records.Addresses.{Queues, entryAt, startedAt, endAt, readState}
+use Rattle.rows.specs.records.Captured.{readCaptured}
+use Rattle.rows.specs.records.DecoderRows.{controlFlow, basicBlockBatch, operation, decoderCells}
+use Rattle.rows.specs.records.Built.{builtSystem, builtStack, noSystem, noStack, systemCells, stackCells, readSystem, readStack}
+use Rattle.rows.specs.cycles.Made.{Place, startBlock, startOne, startKind, startNode, blockKind, entryKind, finished, bodyOf, repeated, finishLoop, operationMade, resumed, made}
+use Rattle.rows.specs.records.Cells.{rowCells, putRow}
+use Rattle.rows.specs.cycles.Scans.{anyBigOpcode, anyLongBlock, anyLargeBatch, forestTooLarge, scanOf}
+use Rattle.rows.specs.records.Cells.{fragmentWrong}
+use Rattle.rows.specs.cycles.Cycles.{fresh, storedIn, cycleWith, leftAfter, tracerAfter, lastSystem, lastStack, fragmentAfter, finalState}
+use Rattle.rows.specs.replay.Calls.{partsAt, window, forestIn, forestOf, callDone, callWritten, through, written, ending, nextState, nextPositions, told, scanned, replayed, replayedFragment}
+use Rattle.rows.specs.records.CallRecords.{namesNoKind, of32, conditionIn, calleeIn, infoIn, resumeIn, continuationOn, continuationIn, namesNothing, storedInRecord, systemIn, stackIn, fewCells, manyCells, registersIn, finishIn, callIn, recordAt}
+use Rattle.rows.specs.replay.Calls as replays
+use Rattle.rows.specs.records.CallRecords as records
+use Rattle.rows.specs.passes.Buffers.{rowsOf, flat, onRows, lastRow, addrOf}
+use Rattle.rows.specs.passes.Passes.{withSides, firstRow, laterRows, fixedUp, builtOf, lowBits, opcodeOf, flaggedEnd, bodyEnds, withCounts, anyWithoutBody, multiplied, loopWithoutBody, inverted, haltDecoder, haltStack, haltRow, halted, paddingRow, paddingRows, padded, bufferWrong, fewerRows, sumOf, anyAbove, notFull, firstOf, fragmentsWrong, heightWrong, refusalAll, lastBuilt, allPasses}
 use Rattle.readings.specs.Tokens.{controls, controlOpcodes, isOpOpcode, countOf}
 use Rattle.readings.specs.Readings.{Ops, Block, Passes, depthOf, allRows}
 use Rattle.readings.proofs.Examples.{profile}

@@ -7,9 +7,9 @@ use native.Mathlib.Omega.{arith}
 use lib.ListN.{length, take, drop}
 use Rattle.field.specs.Cells.{cellAt}
 use Rattle.field.proofs.CellLaws.{cell-take, cell-drop}
-use Rattle.records.specs.declared.profile.Profile.{Profile}
-use Rattle.passes.specs.Buffers.{rowsOf}
-use Rattle.passes.proofs.RowLists.{length-rows, wide-rows, row-at, as-rows}
+use Rattle.rows.specs.declared.records.profile.Profile.{Profile}
+use Rattle.rows.specs.passes.Buffers.{rowsOf}
+use Rattle.rows.proofs.passes.RowLists.{length-rows, wide-rows, row-at, as-rows}
 use Rattle.readings.specs.Tokens.{Kind, Token, start, repeat, end, halt, tokenOf, tokensOf, countOf}
 use Rattle.readings.specs.Readings.{Ops, Block, Passes, Row, numbered, spellOps, spell, spellPasses, OnlyHalts, Halts, Word, Ask, flag, count, passesIn, asksOf, asksOfPasses, asks, rowAt, Meets, AllMet, Reading, allRows, Trace}
 use Rattle.demand_three.specs.Loops.{LoopIn, LoopInPasses}

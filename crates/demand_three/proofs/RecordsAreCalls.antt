@@ -10,19 +10,19 @@ use lib.ListN.{length, getD, length-append}
 use Rattle.groups.specs.Answer.{Answer, accepted, refused, andThen, pick}
 use Rattle.groups.specs.Words.{wordAt}
 use Rattle.groups.specs.declared.word.Word.{Word}
-use Rattle.records.specs.declared.ids.MastNodeId.{MastNodeId}
-use Rattle.records.specs.declared.profile.Profile.{Profile}
-use Rattle.rows.specs.declared.tracer.CoreTraceGenerationTracer.{CoreTraceGenerationTracer}
-use Rattle.records.specs.Forests.{Forest, nodeId}
-use Rattle.records.specs.Addresses.{Queues}
-use Rattle.rows.specs.Made.{Place}
-use Rattle.rows.specs.Cycles.{fresh, keeping}
-use Rattle.rows.specs.Calls as replays
-use Rattle.records.specs.CallRecords as records
-use Rattle.rows.specs.Calls.{scanned, refusing, through, ending, replayed}
-use Rattle.records.specs.CallRecords.{namesNoKind, of32, infoIn, resumeIn, respanIn, continuationOn, continuationIn, namesNothing, storedInRecord, systemIn, fewCells, manyCells, registersIn, stores, finishes, finishIn, callIn, recordAt}
-use Rattle.rows.specs.SingleCalls.{singleDone, singlyThrough}
-use Rattle.rows.proofs.CallSteps.{told-number}
+use Rattle.rows.specs.declared.records.ids.MastNodeId.{MastNodeId}
+use Rattle.rows.specs.declared.records.profile.Profile.{Profile}
+use Rattle.rows.specs.declared.cycles.tracer.CoreTraceGenerationTracer.{CoreTraceGenerationTracer}
+use Rattle.rows.specs.records.Forests.{Forest, nodeId}
+use Rattle.rows.specs.records.Addresses.{Queues}
+use Rattle.rows.specs.cycles.Made.{Place}
+use Rattle.rows.specs.cycles.Cycles.{fresh, keeping}
+use Rattle.rows.specs.replay.Calls as replays
+use Rattle.rows.specs.records.CallRecords as records
+use Rattle.rows.specs.replay.Calls.{scanned, refusing, through, ending, replayed}
+use Rattle.rows.specs.records.CallRecords.{namesNoKind, of32, infoIn, resumeIn, respanIn, continuationOn, continuationIn, namesNothing, storedInRecord, systemIn, fewCells, manyCells, registersIn, stores, finishes, finishIn, callIn, recordAt}
+use Rattle.rows.specs.replay.SingleCalls.{singleDone, singlyThrough}
+use Rattle.rows.proofs.replay.CallSteps.{told-number}
 use Rattle.runs.proofs.Answers.{Numbered}
 use Rattle.demand_three.specs.ReplayedRuns.{Lent, callOf, callsOf, fragmentOf, toldOf}
 use Rattle.demand_three.proofs.ReplayedCalls.{single-before, singly-kept}

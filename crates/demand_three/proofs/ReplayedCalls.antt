@@ -8,25 +8,25 @@ use borrow.Author.Tests.{eqb-true, eq-eqb, leb-false}
 use lib.Dec.{eqb}
 use lib.ListN.{length}
 use Rattle.groups.specs.Answer.{Answer, accepted, refused, pick, number}
-use Rattle.records.specs.declared.profile.Profile.{Profile}
-use Rattle.records.specs.declared.state.SystemState.{SystemState}
-use Rattle.records.specs.declared.state.StackState.{StackState}
-use Rattle.records.specs.declared.continuation.StoredValues.{StoredValues}
-use Rattle.rows.specs.declared.made.MadeRow.{MadeRow}
-use Rattle.rows.specs.declared.calls.Replayed.{Replayed}
-use Rattle.rows.specs.declared.tracer.CoreTraceGenerationTracer.{CoreTraceGenerationTracer}
-use Rattle.records.specs.Forests.{Forest}
-use Rattle.records.specs.Addresses.{Queues}
-use Rattle.rows.specs.Made.{Place, place}
-use Rattle.rows.specs.Cycles.{fresh, storing, storedIn, keeping, tracerAfter, fragmentAfter, finalState}
-use Rattle.rows.specs.Calls as replays
-use Rattle.records.specs.CallRecords as records
-use Rattle.rows.specs.Calls.{partsAt, forestIn, forestOf, Setting, scanned, refusing, told, nextState, nextPositions}
-use Rattle.records.specs.CallRecords.{stores, finishes, callIn, recordAt}
-use Rattle.rows.specs.SingleCalls.{singleDone, singleWritten, singlyThrough, singlyWritten}
-use Rattle.rows.proofs.CallSteps.{told-number}
-use Rattle.rows.proofs.ReplaySingly.{replay-singly}
-use Rattle.passes.proofs.RowLists.{length-put}
+use Rattle.rows.specs.declared.records.profile.Profile.{Profile}
+use Rattle.rows.specs.declared.records.state.SystemState.{SystemState}
+use Rattle.rows.specs.declared.records.state.StackState.{StackState}
+use Rattle.rows.specs.declared.records.continuation.StoredValues.{StoredValues}
+use Rattle.rows.specs.declared.cycles.made.MadeRow.{MadeRow}
+use Rattle.rows.specs.declared.replay.calls.Replayed.{Replayed}
+use Rattle.rows.specs.declared.cycles.tracer.CoreTraceGenerationTracer.{CoreTraceGenerationTracer}
+use Rattle.rows.specs.records.Forests.{Forest}
+use Rattle.rows.specs.records.Addresses.{Queues}
+use Rattle.rows.specs.cycles.Made.{Place, place}
+use Rattle.rows.specs.cycles.Cycles.{fresh, storing, storedIn, keeping, tracerAfter, fragmentAfter, finalState}
+use Rattle.rows.specs.replay.Calls as replays
+use Rattle.rows.specs.records.CallRecords as records
+use Rattle.rows.specs.replay.Calls.{partsAt, forestIn, forestOf, Setting, scanned, refusing, told, nextState, nextPositions}
+use Rattle.rows.specs.records.CallRecords.{stores, finishes, callIn, recordAt}
+use Rattle.rows.specs.replay.SingleCalls.{singleDone, singleWritten, singlyThrough, singlyWritten}
+use Rattle.rows.proofs.replay.CallSteps.{told-number}
+use Rattle.rows.proofs.replay.ReplaySingly.{replay-singly}
+use Rattle.rows.proofs.passes.RowLists.{length-put}
 use Rattle.runs.specs.Calls.{Call, store, finish, Held, after, numberOf, afterAll, Accepted, opened, closed, placeOf, AllAccepted, finalStates, cellsOf, countsOf, builtCells}
 use Rattle.runs.proofs.Answers.{came}
 use Rattle.runs.proofs.Folded.{row-wide}

@@ -1,10 +1,10 @@
 -- What is finished over replayed fragments is a trace, and its reading is the nesting of the records.
 use mathlib.Core.List.{List}
 use Prim.Native.Nat.{ℕ}
-use Rattle.records.specs.declared.profile.Profile.{Profile}
-use Rattle.records.specs.Forests.{Forest}
-use Rattle.records.specs.Addresses.{Queues}
-use Rattle.rows.specs.Made.{Place}
+use Rattle.rows.specs.declared.records.profile.Profile.{Profile}
+use Rattle.rows.specs.records.Forests.{Forest}
+use Rattle.rows.specs.records.Addresses.{Queues}
+use Rattle.rows.specs.cycles.Made.{Place}
 use Rattle.readings.specs.Readings.{Trace}
 use Rattle.runs.specs.Finished.{Runs}
 use Rattle.runs.proofs.TraceOfRun.{finisher-trace, five-trace}

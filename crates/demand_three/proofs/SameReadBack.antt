@@ -9,14 +9,14 @@ use lib.ListN.{length, getD}
 use Rattle.field.specs.Modulus.{P}
 use Rattle.field.specs.Bounds.{anyFrom}
 use Rattle.field.specs.Cells.{cellAt}
-use Rattle.records.specs.declared.profile.Profile.{Profile}
-use Rattle.records.specs.Profiles.{profileWrong}
-use Rattle.records.specs.Forests.{Forest}
-use Rattle.records.specs.Addresses.{Queues}
-use Rattle.rows.specs.Made.{Place}
-use Rattle.passes.specs.Buffers.{rowsOf}
-use Rattle.passes.specs.Passes.{sumOf, noFragment, notFull, loopWithoutBody, firstOf, fragmentsWrong, heightWrong, refusalAll}
-use Rattle.passes.proofs.Checks.{none-first}
+use Rattle.rows.specs.declared.records.profile.Profile.{Profile}
+use Rattle.rows.specs.records.Profiles.{profileWrong}
+use Rattle.rows.specs.records.Forests.{Forest}
+use Rattle.rows.specs.records.Addresses.{Queues}
+use Rattle.rows.specs.cycles.Made.{Place}
+use Rattle.rows.specs.passes.Buffers.{rowsOf}
+use Rattle.rows.specs.passes.Passes.{sumOf, noFragment, notFull, loopWithoutBody, firstOf, fragmentsWrong, heightWrong, refusalAll}
+use Rattle.rows.proofs.passes.Checks.{none-first}
 use Rattle.readings.specs.Tokens.{Kind, start, tokenOf}
 use Rattle.readings.specs.Readings.{Block, Passes, passesIn, rowAt, allRows}
 use Rattle.reductions.specs.Below.{Below}

@@ -4,7 +4,7 @@ use mathlib.Core.List.{List, _++_}
 use Prim.Native.Nat.{ℕ, _+_, _*_, _/_, _≤_, _<_}
 use lib.ListN.{length, drop}
 use Rattle.field.specs.Cells.{cellAt}
-use Rattle.records.specs.declared.profile.Profile.{Profile}
+use Rattle.rows.specs.declared.records.profile.Profile.{Profile}
 use Rattle.readings.specs.Tokens.{Kind, start, tokenOf}
 use Rattle.readings.specs.Readings.{Block, Passes, programRows, depthList, passesIn, rowAt, allRows, Trace}
 use Rattle.readings.specs.Answers.{accepted, numberOf, rowOf, programRowsOf, depthsAfter}

@@ -6,17 +6,17 @@ use mathlib.Core.List.{List, [], _∷_, _++_}
 use Prim.Native.Nat.{ℕ, zero, suc, _*_, _/_, _≤_}
 use lib.ListN.{length, take}
 use Rattle.groups.specs.Answer.{Answer, accepted, refused}
-use Rattle.records.specs.declared.profile.Profile.{Profile}
-use Rattle.rows.specs.declared.calls.Replayed.{Replayed}
-use Rattle.records.specs.Forests.{Forest}
-use Rattle.records.specs.Addresses.{Queues}
-use Rattle.records.specs.Profiles.{twoEqual}
-use Rattle.rows.specs.Made.{Place, place}
-use Rattle.rows.specs.Calls as replays
-use Rattle.records.specs.CallRecords as records
-use Rattle.rows.specs.Calls.{partsAt, forestIn, Setting, scanned, replayed, replayedFragment}
-use Rattle.records.specs.CallRecords.{stores, finishes, callIn, recordAt}
-use Rattle.passes.specs.Passes.{refusalAll}
+use Rattle.rows.specs.declared.records.profile.Profile.{Profile}
+use Rattle.rows.specs.declared.replay.calls.Replayed.{Replayed}
+use Rattle.rows.specs.records.Forests.{Forest}
+use Rattle.rows.specs.records.Addresses.{Queues}
+use Rattle.rows.specs.records.Profiles.{twoEqual}
+use Rattle.rows.specs.cycles.Made.{Place, place}
+use Rattle.rows.specs.replay.Calls as replays
+use Rattle.rows.specs.records.CallRecords as records
+use Rattle.rows.specs.replay.Calls.{partsAt, forestIn, Setting, scanned, replayed, replayedFragment}
+use Rattle.rows.specs.records.CallRecords.{stores, finishes, callIn, recordAt}
+use Rattle.rows.specs.passes.Passes.{refusalAll}
 use Rattle.readings.specs.Readings as readings
 use Rattle.runs.specs.Calls.{Call, store, finish, Fragment, OneSize}
 use Rattle.runs.specs.Happened.{cyclesOf}

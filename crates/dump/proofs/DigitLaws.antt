@@ -9,7 +9,7 @@ use lib.Dec.{eqb, ltb}
 use lib.ListN.{length, getD, drop, take, length-append, drop-of-length-le}
 use lib.Seq.{drop-cons, take-at}
 use Rattle.groups.specs.Answer.{pick}
-use Rattle.passes.proofs.Checks.{neither}
+use Rattle.rows.proofs.passes.Checks.{neither}
 use Rattle.dumps.specs.Numerals.{spelled, plain}
 use Rattle.dumps.specs.Undump.{bitsIn}
 use Rattle.dumps.proofs.NumeralLaws.{Digits}

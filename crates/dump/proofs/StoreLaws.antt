@@ -12,10 +12,10 @@ use lib.Seq.{drop-cons, take-suc, take-at, drop-at, drop-drop, take-length, leng
 use Rattle.field.specs.Cells.{reduced}
 use Rattle.field.proofs.CellLaws.{read-small}
 use Rattle.groups.specs.Answer.{pick}
-use Rattle.records.specs.Cells.{putRow, copiedIn}
-use Rattle.records.proofs.Rooms.{copied-row}
-use Rattle.passes.specs.Buffers.{flat}
-use Rattle.passes.proofs.RowLists.{Wide, length-flat, flat-app}
+use Rattle.rows.specs.records.Cells.{putRow, copiedIn}
+use Rattle.rows.proofs.records.Rooms.{copied-row}
+use Rattle.rows.specs.passes.Buffers.{flat}
+use Rattle.rows.proofs.passes.RowLists.{Wide, length-flat, flat-app}
 use Rattle.dumps.specs.Dumps.{header}
 use Rattle.dumps.specs.Undump.{behind, orNone, withRow, readRows, noValues, hasAll, fromFirst, undump}
 use Rattle.dumps.proofs.ReadBack.{Rows, Below, read-dumped}

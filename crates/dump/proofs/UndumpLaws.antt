@@ -11,8 +11,8 @@ use lib.ListN.{length, drop, getD, drop-of-length-le}
 use lib.Seq.{drop-cons}
 use Rattle.field.specs.Modulus.{P}
 use Rattle.groups.specs.Answer.{accepted, refused, pick}
-use Rattle.passes.specs.Passes.{bufferWrong}
-use Rattle.passes.proofs.Checks.{neither}
+use Rattle.rows.specs.passes.Passes.{bufferWrong}
+use Rattle.rows.proofs.passes.Checks.{neither}
 use Rattle.dumps.specs.Dumps.{header, timeLine}
 use Rattle.dumps.specs.Undump.{behind, orNone, withRow, readRows, noValues, hasAll, fromFirst, undump}
 use Rattle.dump.specs.Undumping.{fewRows, undumping, readingDump}

@@ -13,9 +13,9 @@ use lib.Seq.{take-at}
 use Rattle.field.specs.Cells.{reduced}
 use Rattle.field.proofs.CellLaws.{read-small, length-reduced}
 use Rattle.groups.specs.Answer.{Answer, accepted, refused, pick, number, values}
-use Rattle.passes.specs.Buffers.{rowsOf, flat}
-use Rattle.passes.specs.Passes.{bufferWrong}
-use Rattle.passes.proofs.RowLists.{Wide, length-flat, rows-flat}
+use Rattle.rows.specs.passes.Buffers.{rowsOf, flat}
+use Rattle.rows.specs.passes.Passes.{bufferWrong}
+use Rattle.rows.proofs.passes.RowLists.{Wide, length-flat, rows-flat}
 use Rattle.readings.specs.Readings.{allRows}
 use Rattle.dumps.specs.Dumps.{dumpRows, dump}
 use Rattle.dumps.specs.Undump.{undump}

@@ -8,8 +8,8 @@ use borrow.Author.Tests.{ltb-false, lt-ltb, le-ltb}
 use lib.Dec.{ltb}
 use lib.ListN.{length}
 use Rattle.groups.specs.Answer.{accepted, refused}
-use Rattle.passes.specs.Passes.{bufferWrong}
-use Rattle.passes.proofs.Checks.{neither}
+use Rattle.rows.specs.passes.Passes.{bufferWrong}
+use Rattle.rows.proofs.passes.Checks.{neither}
 use Rattle.dumps.specs.Dumps.{header, bytes, varLines, columns, dump}
 use Rattle.dump.specs.Dumping.{rowsWrong, dumping}
 

@@ -9,8 +9,8 @@ use lib.ListN.{length, take, drop, length-drop}
 use lib.Seq.{length-take-le, take-all}
 use Rattle.field.specs.Cells.{reduced}
 use Rattle.field.proofs.CellLaws.{length-reduced, reduced-take, reduced-drop}
-use Rattle.passes.specs.Buffers.{rowsOf, flat}
-use Rattle.passes.proofs.RowLists.{length-rows, flat-rows}
+use Rattle.rows.specs.passes.Buffers.{rowsOf, flat}
+use Rattle.rows.proofs.passes.RowLists.{length-rows, flat-rows}
 use Rattle.readings.specs.Readings.{allRows}
 use Rattle.dumps.specs.Dumps.{dump}
 use Rattle.dumps.proofs.ReadBack.{Below, Rows, Dumped}

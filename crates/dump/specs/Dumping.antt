@@ -7,7 +7,7 @@ use lib.Dec.{ltb}
 use lib.ListN.{length, drop}
 use Rattle.field.specs.Cells.{reduced}
 use Rattle.groups.specs.Answer.{Answer, accepted, refused, pick}
-use Rattle.passes.specs.Passes.{bufferWrong}
+use Rattle.rows.specs.passes.Passes.{bufferWrong}
 use Rattle.dumps.specs.Dumps.{dump}
 
 -- WRITING

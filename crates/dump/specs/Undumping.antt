@@ -5,8 +5,8 @@ use Prim.Native.Nat.{ℕ, _*_}
 use lib.Dec.{ltb}
 use lib.ListN.{length, drop}
 use Rattle.groups.specs.Answer.{Answer, accepted, refused, pick}
-use Rattle.passes.specs.Buffers.{flat}
-use Rattle.passes.specs.Passes.{bufferWrong}
+use Rattle.rows.specs.passes.Buffers.{flat}
+use Rattle.rows.specs.passes.Passes.{bufferWrong}
 use Rattle.dumps.specs.Undump.{undump}
 
 -- the rows that are read are few enough for a buffer of cells; a text with more is none that the writer gives

@@ -4,13 +4,13 @@ use crate::read::after_time;
 use crate::read::changed_at;
 use crate::scan::line_at;
 use field::felt::Felt;
-use records::row::copy_in;
+use rows::records::row::copy_in;
 ghost use mathlib.Core.Path.{_≡_};
 ghost use mathlib.Core.List.{_++_};
 ghost use Prim.Native.Nat.{_*_, _≤_};
 ghost use lib.ListN.{length, drop};
 ghost use Rattle.dumps.specs.Undump.{readChanges, noValues, readRows, undump};
-ghost use Rattle.passes.specs.Buffers.{flat};
+ghost use Rattle.rows.specs.passes.Buffers.{flat};
 ghost use Rattle.dump.specs.Undumping.{fewRows};
 ghost use Rattle.dump.specs.Reading.{RowRead, timedRow, RowsCounted, theRows, Storable};
 

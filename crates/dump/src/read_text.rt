@@ -5,7 +5,7 @@ use crate::read_rows::count_rows;
 use crate::read_rows::row_at;
 use crate::read_rows::store_rows;
 use field::felt::Felt;
-use passes::buffer::buffer_wrong;
+use rows::passes::buffer::buffer_wrong;
 ghost use mathlib.Core.Path.{_≡_};
 ghost use Prim.Native.Nat.{_≤_};
 ghost use lib.ListN.{length, drop};

@@ -2,7 +2,7 @@
 use crate::header::put_header;
 use crate::lengths::rows_bytes;
 use crate::lines::put_rows;
-use passes::buffer::buffer_wrong;
+use rows::passes::buffer::buffer_wrong;
 ghost use mathlib.Core.Path.{_≡_};
 ghost use Prim.Native.Nat.{_≤_};
 ghost use lib.ListN.{length};

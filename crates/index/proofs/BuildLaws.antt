@@ -5,7 +5,7 @@ use Prim.Native.Nat.{ℕ, _*_, _/_, _≤_, _<_}
 use native.Mathlib.Omega.{arith}
 use borrow.Author.Tests.{lt-ltb, le-ltb}
 use lib.ListN.{length, drop, replicate, length-replicate}
-use Rattle.records.specs.declared.profile.Profile.{Profile}
+use Rattle.rows.specs.declared.records.profile.Profile.{Profile}
 use Rattle.readings.specs.Readings.{Block, Word, depthOf, Reading, Trace}
 use Rattle.readings.specs.Answers.{Answer, accepted, refused, numberOf, rowOf}
 use Rattle.readings.specs.Parser.{answer}

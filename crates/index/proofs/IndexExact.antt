@@ -13,7 +13,7 @@ use lib.Seq.{take-at}
 use Rattle.field.specs.Cells.{reduced}
 use Rattle.field.proofs.CellLaws.{length-reduced}
 use Rattle.groups.specs.Answer as group
-use Rattle.records.specs.declared.profile.Profile.{Profile}
+use Rattle.rows.specs.declared.records.profile.Profile.{Profile}
 use Rattle.readings.specs.Readings.{Block, Reading, Trace, allRows}
 use Rattle.readings.specs.Answers.{Answer, accepted, refused, numberOf, rowOf}
 use Rattle.readings.specs.Parser.{answer}

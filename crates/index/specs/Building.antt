@@ -4,7 +4,7 @@ use Prim.Native.Nat.{ℕ, _*_, _/_}
 use lib.Dec.{ltb}
 use lib.ListN.{length, drop}
 use Rattle.groups.specs.Answer.{pick}
-use Rattle.records.specs.declared.profile.Profile.{Profile}
+use Rattle.rows.specs.declared.records.profile.Profile.{Profile}
 use Rattle.readings.specs.Answers.{Answer, accepted, refused, numberOf, rowOf}
 use Rattle.readings.specs.Parser.{answer}
 use Rattle.indexes.specs.Indexes.{blocksIn, index}

@@ -2,7 +2,7 @@
 use crate::change::count_starts;
 use crate::fill::fill;
 use reader::trace::validate;
-use records::profile::Profile;
+use rows::records::profile::Profile;
 ghost use mathlib.Core.Path.{_≡_};
 ghost use lib.ListN.{length};
 ghost use Rattle.readings.specs.Answers.{refused};

@@ -1,7 +1,7 @@
 // What a row does to the open blocks.
 use reader::token::RowKind;
 use reader::token::row_kind;
-use records::profile::Profile;
+use rows::records::profile::Profile;
 ghost use mathlib.Core.Path.{_≡_};
 ghost use Rattle.indexes.specs.Scan.{changeOf, oneIfBegins, starts};
 ghost use Rattle.reader.specs.Rows.{tokenAt, wordIn, rowsFrom};

@@ -1,7 +1,7 @@
 // The numbers of the index, by one scan of the rows with the places of the open blocks.
 use crate::change::Change;
 use crate::change::change_at;
-use records::profile::Profile;
+use rows::records::profile::Profile;
 ghost use mathlib.Core.Path.{_≡_};
 ghost use mathlib.Core.List.{[], _++_};
 ghost use Prim.Native.Nat.{_+_, _*_, _-_, _/_, _<_, _≤_};

@@ -1,7 +1,7 @@
 // What a vector gives: the profile, the buffer, and how much is lent.
 use lists::copies::put;
 use lists::text::item;
-use records::profile::Profile;
+use rows::records::profile::Profile;
 ghost use Prim.Native.Nat.{_≤_, _<_};
 ghost use lib.ListN.{length};
 

@@ -1,7 +1,7 @@
 // What a pass is given, each from the numbers of an input that begin at a place.
 use lists::text::item;
 use lists::text::low8;
-use records::profile::Profile;
+use rows::records::profile::Profile;
 
 // The thirteen opcodes and the step.
 pub fn profile_of(v: &[u64], at: usize) -> Profile {

@@ -6,7 +6,7 @@ use crate::given::profile_of;
 use field::cell::number_at;
 use lists::copies::copy;
 use lists::text::one_if;
-use passes::multiplicity::set_loop_body_multiplicities;
+use rows::passes::multiplicity::set_loop_body_multiplicities;
 
 const ROWS: usize = 5000;
 

@@ -14,12 +14,12 @@ use lists::copies::put;
 use lists::copies::same;
 use lists::text::item;
 use lists::text::one_if;
-use passes::finish::finish;
-use passes::fixup::fixup_stack_and_system_rows;
-use passes::halt::pad_core_row_major;
-use passes::halt::push_halt_opcode_row;
-use passes::helper_column::invert_helper_column;
-use passes::multiplicity::set_loop_body_multiplicities;
+use rows::passes::finish::finish;
+use rows::passes::fixup::fixup_stack_and_system_rows;
+use rows::passes::halt::pad_core_row_major;
+use rows::passes::halt::push_halt_opcode_row;
+use rows::passes::helper_column::invert_helper_column;
+use rows::passes::multiplicity::set_loop_body_multiplicities;
 ghost use Prim.Native.Nat.{_+_, _≤_, _<_};
 
 const SIZE: usize = 14;

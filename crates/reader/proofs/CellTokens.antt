@@ -12,11 +12,11 @@ use Rattle.field.specs.Modulus.{P}
 use Rattle.field.specs.Cells.{cellAt, reduced}
 use Rattle.field.proofs.CellLaws.{cell-drop}
 use Rattle.groups.specs.Answer.{pick}
-use Rattle.records.specs.declared.profile.Profile.{Profile}
-use Rattle.records.specs.Profiles.{isOneOf}
-use Rattle.passes.specs.Passes.{opcodeOf}
-use Rattle.passes.specs.LoopCounts.{rowAt as rowIn}
-use Rattle.passes.proofs.RowCells.{row-cell, opcode-cells}
+use Rattle.rows.specs.declared.records.profile.Profile.{Profile}
+use Rattle.rows.specs.records.Profiles.{isOneOf}
+use Rattle.rows.specs.passes.Passes.{opcodeOf}
+use Rattle.rows.specs.passes.LoopCounts.{rowAt as rowIn}
+use Rattle.rows.proofs.passes.RowCells.{row-cell, opcode-cells}
 use Rattle.readings.specs.Tokens.{Kind, Token, start, repeat, end, halt, nothing, controls, tokenBeside, controlToken, controlOpcodes, isOpOpcode, opToken, inSpanOf, opBitsOf, allBits, tokenOf}
 use Rattle.readings.specs.Readings.{rowAt, allRows}
 use Rattle.reader.specs.Rows.{kindOf, opKind}

@@ -10,10 +10,10 @@ use borrow.Author.Tests.{eqb-true, eqb-false, ltb-true, ltb-false, eq-eqb, ne-eq
 use lib.Dec.{eqb, ltb}
 use lib.ListN.{length, drop, length-drop}
 use Rattle.groups.specs.Answer.{pick}
-use Rattle.records.specs.declared.profile.Profile.{Profile}
-use Rattle.records.specs.Profiles.{profileWrong}
-use Rattle.passes.specs.Passes.{bufferWrong, firstOf}
-use Rattle.passes.proofs.Checks.{neither, none-first}
+use Rattle.rows.specs.declared.records.profile.Profile.{Profile}
+use Rattle.rows.specs.records.Profiles.{profileWrong}
+use Rattle.rows.specs.passes.Passes.{bufferWrong, firstOf}
+use Rattle.rows.proofs.passes.Checks.{neither, none-first}
 use Rattle.readings.specs.Tokens.{Token, start, repeat, end, halt, nothing}
 use Rattle.readings.specs.Readings.{Block, numbered, spell, programRows, asks, bufferRefusal, allRows}
 use Rattle.readings.specs.Answers.{Answer, accepted, refused, readerRefusal, numberOf, rowOf, programRowsOf, depthsAfter}

@@ -5,7 +5,7 @@ use mathlib.Core.List.{List, _++_}
 use mathlib.Core.Logic.{_↔_}
 use Prim.Native.Nat.{ℕ, _/_, _≤_}
 use lib.ListN.{length, drop}
-use Rattle.records.specs.declared.profile.Profile.{Profile}
+use Rattle.rows.specs.declared.records.profile.Profile.{Profile}
 use Rattle.readings.specs.Readings.{Block, programRows, depthList, Trace}
 use Rattle.readings.specs.Answers.{Answer, accepted, Right, numberOf, rowOf, programRowsOf, depthsAfter}
 use Rattle.readings.specs.Parser.{answer}

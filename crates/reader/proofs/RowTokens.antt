@@ -13,10 +13,10 @@ use native.Mathlib.Decide.{decLt}
 use borrow.Author.Tests.{eq-eqb}
 use lib.Dec.{T, eqb}
 use lib.ListN.{length, getD, take, drop}
-use Rattle.records.specs.declared.profile.Profile.{Profile}
-use Rattle.passes.specs.Buffers.{rowsOf}
-use Rattle.passes.specs.LoopCounts as buffer
-use Rattle.passes.proofs.RowLists.{length-rows, drop-rows}
+use Rattle.rows.specs.declared.records.profile.Profile.{Profile}
+use Rattle.rows.specs.passes.Buffers.{rowsOf}
+use Rattle.rows.specs.passes.LoopCounts as buffer
+use Rattle.rows.proofs.passes.RowLists.{length-rows, drop-rows}
 use Rattle.readings.specs.Tokens.{OneChild, Kind, Token, start, repeat, end, halt, nothing, tokenOf, tokensOf}
 use Rattle.readings.specs.Readings.{numbered, rowAt, allRows}
 use Rattle.readings.proofs.SpelledRows.{tokensOf-length}

@@ -5,7 +5,7 @@ use Prim.Native.Nat.{ℕ, _≤_}
 use lib.Dec.{eqb}
 use lib.ListN.{length}
 use Rattle.groups.specs.Answer.{pick}
-use Rattle.records.specs.declared.profile.Profile.{Profile}
+use Rattle.rows.specs.declared.records.profile.Profile.{Profile}
 use Rattle.readings.specs.Tokens.{Token}
 use Rattle.readings.specs.Readings.{Block, programRows, asks, allRows}
 use Rattle.readings.specs.Answers.{Answer, numberOf, rowOf, programRowsOf}

@@ -2,7 +2,7 @@
 use mathlib.Core.List.{List}
 use Prim.Native.Nat.{ℕ}
 use lib.ListN.{drop, getD}
-use Rattle.records.specs.declared.profile.Profile.{Profile}
+use Rattle.rows.specs.declared.records.profile.Profile.{Profile}
 use Rattle.readings.specs.Tokens.{Kind, Token, start, repeat, end, halt, nothing, tokensOf}
 use Rattle.readings.specs.Readings.{Row, numbered, allRows}
 use Rattle.reader.specs.declared.token.RowKind.{RowKind}

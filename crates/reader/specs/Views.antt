@@ -8,7 +8,7 @@ use Prim.Native.Nat.{ℕ, _+_, _*_, _/_}
 use lib.Dec.{leb}
 use lib.ListN.{length, take, drop}
 use Rattle.groups.specs.Answer.{pick}
-use Rattle.passes.specs.Passes.{bufferWrong}
+use Rattle.rows.specs.passes.Passes.{bufferWrong}
 
 -- Refusal 11 of a row view: "buffer no multiple of 49, over 2^24 rows, .. a row number past the end"
 unfoldable pub viewRefused : (cells number : ℕ) → Bool

@@ -1,7 +1,7 @@
 // The depth of each row of a trace, by one scan that counts the open blocks.
 use crate::token::RowKind;
 use crate::token::row_kind;
-use records::profile::Profile;
+use rows::records::profile::Profile;
 ghost use mathlib.Core.Path.{_≡_};
 ghost use mathlib.Core.List.{_++_};
 ghost use Prim.Native.Nat.{_/_, _≤_, _<_};

@@ -2,7 +2,7 @@
 use crate::token::RowKind;
 use crate::token::row_kind;
 use field::cell::cell;
-use records::profile::Profile;
+use rows::records::profile::Profile;
 ghost use mathlib.Core.Path.{_≡_};
 ghost use Prim.Native.Nat.{_/_, _<_, _≤_};
 ghost use lib.Dec.{eqb};

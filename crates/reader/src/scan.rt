@@ -1,6 +1,6 @@
 // Refusals 2 and 11 of a buffer that is read.
-use records::profile::Profile;
-use records::profile::is_wrong;
+use rows::records::profile::Profile;
+use rows::records::profile::is_wrong;
 ghost use mathlib.Core.Path.{_≡_};
 ghost use Rattle.readings.specs.Answers.{readerRefusal};
 

@@ -1,12 +1,12 @@
 // What a row is to the grammar.
 use field::cell::cell;
-use passes::multiplicity::opcode_at;
-use records::profile::Profile;
+use rows::passes::multiplicity::opcode_at;
+use rows::records::profile::Profile;
 ghost use mathlib.Core.Path.{_≡_};
 ghost use mathlib.Core.List.{_∷_};
 ghost use Prim.Native.Nat.{_/_, _<_};
 ghost use lib.ListN.{length, drop};
-ghost use Rattle.passes.specs.Passes.{opcodeOf};
+ghost use Rattle.rows.specs.passes.Passes.{opcodeOf};
 ghost use Rattle.readings.specs.Tokens.{nothing, controls, tokenBeside, controlToken, inSpanOf, opBitsOf, allBits};
 ghost use Rattle.readings.specs.Readings.{rowAt, allRows};
 ghost use Rattle.reader.specs.Rows.{kindOf, opKind, tokenAt};

@@ -6,7 +6,7 @@ use crate::grammar::block;
 use crate::scan::refusal;
 use crate::token::RowKind;
 use crate::token::row_kind;
-use records::profile::Profile;
+use rows::records::profile::Profile;
 ghost use mathlib.Core.Path.{_≡_};
 ghost use Prim.Native.Nat.{_/_, _≤_};
 ghost use lib.ListN.{length};

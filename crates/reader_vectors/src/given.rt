@@ -2,7 +2,7 @@
 use lists::copies::put;
 use lists::text::item;
 use lists::text::low8;
-use records::profile::Profile;
+use rows::records::profile::Profile;
 ghost use Prim.Native.Nat.{_<_};
 ghost use lib.ListN.{length};
 

@@ -8,12 +8,12 @@ use native.Mathlib.Omega.{arith}
 use borrow.Author.Tests.{ltb-false, le-ltb}
 use lib.Dec.{ltb}
 use lib.ListN.{length, drop}
-use Rattle.records.specs.declared.profile.Profile.{Profile}
-use Rattle.records.specs.Profiles.{profileWrong}
-use Rattle.passes.specs.Buffers.{rowsOf}
-use Rattle.passes.proofs.Checks.{none-first}
-use Rattle.passes.proofs.RowLists.{length-rows}
-use Rattle.passes.specs.Passes.{bufferWrong, firstOf}
+use Rattle.rows.specs.declared.records.profile.Profile.{Profile}
+use Rattle.rows.specs.records.Profiles.{profileWrong}
+use Rattle.rows.specs.passes.Buffers.{rowsOf}
+use Rattle.rows.proofs.passes.Checks.{none-first}
+use Rattle.rows.proofs.passes.RowLists.{length-rows}
+use Rattle.rows.specs.passes.Passes.{bufferWrong, firstOf}
 use Rattle.readings.specs.Tokens.{tokensOf}
 use Rattle.readings.specs.Readings.{Block, depthList, bufferRefusal, allRows, Trace}
 use Rattle.readings.specs.Answers.{Answer, accepted, readerRefusal, Right, badInput, noWord, tooDeep, wrongCell, trace, numberOf, depthsAfter}

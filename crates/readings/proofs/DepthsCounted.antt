@@ -4,7 +4,7 @@ use mathlib.Core.List.{List, [], _∷_}
 use Prim.Native.Nat.{ℕ, suc, pred, _-_}
 use native.Mathlib.Omega.{arith}
 use lib.ListN.{length, replicate}
-use Rattle.records.specs.declared.profile.Profile.{Profile}
+use Rattle.rows.specs.declared.records.profile.Profile.{Profile}
 use Rattle.readings.specs.Tokens.{Token, start, repeat, end, halt, nothing, tokensOf}
 use Rattle.readings.specs.Readings.{Ops, Block, Passes, Row, spellOps, spell, spellPasses, OnlyHalts, Word, depthsOfOps, depthsOf, depthsOfPasses, programRows, depthList, Reading}
 use Rattle.readings.specs.Parser.{levels}

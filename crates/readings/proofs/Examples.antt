@@ -6,12 +6,12 @@ use Prim.Native.Nat.{ℕ, _+_, _/_, _%_}
 use native.Mathlib.Omega.{arith}
 use lib.ListN.{length, take, set, replicate}
 use Rattle.field.specs.Modulus.{P}
-use Rattle.records.specs.declared.profile.Profile.{Profile}
+use Rattle.rows.specs.declared.records.profile.Profile.{Profile}
 use Rattle.field.specs.Bounds.{anyFrom}
 use Rattle.field.specs.Cells.{cellAt, reduced}
-use Rattle.records.specs.Profiles.{opcodes, isOneOf, twoEqual, profileWrong, lacksBits}
-use Rattle.passes.specs.Buffers.{rowsOf, flat}
-use Rattle.passes.specs.Passes.{opcodeOf, lowBits, bufferWrong, firstOf}
+use Rattle.rows.specs.records.Profiles.{opcodes, isOneOf, twoEqual, profileWrong, lacksBits}
+use Rattle.rows.specs.passes.Buffers.{rowsOf, flat}
+use Rattle.rows.specs.passes.Passes.{opcodeOf, lowBits, bufferWrong, firstOf}
 use Rattle.readings.specs.Tokens.{split, call, syscall, dyncall, Kind, Token, start, repeat, end, halt, controls, tokenBeside, controlToken, controlOpcodes, isOpOpcode, opToken, allBits, tokenOf, tokensOf}
 use Rattle.readings.specs.Readings.{Ops, Block, Passes, numbered, spellOps, spell, depthsOfOps, depthsOf, programRows, depthList, passesIn, endRowOf, asksOf, asks, allRows, Trace}
 use Rattle.readings.specs.Answers.{Answer, accepted, refused, readerRefusal, rowAsked}

@@ -3,7 +3,7 @@ use mathlib.Core.Path.{_≡_, _∙_, sym}
 use mathlib.Core.List.{List, []}
 use Prim.Native.Nat.{ℕ, max}
 use native.Mathlib.Omega.{arith}
-use Rattle.records.specs.declared.profile.Profile.{Profile}
+use Rattle.rows.specs.declared.records.profile.Profile.{Profile}
 use Rattle.readings.specs.Tokens.{Token, tokensOf}
 use Rattle.readings.specs.Readings.{Block, Row, spell, Word, depthOf, Reading, allRows, Trace}
 use Rattle.readings.specs.Parser.{need, live, done, parse}

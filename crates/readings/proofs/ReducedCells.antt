@@ -11,9 +11,9 @@ use lib.ListN.{length}
 use Rattle.field.specs.Cells.{cellAt, reduced}
 use Rattle.field.proofs.CellLaws.{length-reduced, cell-reduced}
 use Rattle.groups.specs.Answer.{pick}
-use Rattle.records.specs.declared.profile.Profile.{Profile}
-use Rattle.passes.specs.Buffers.{rowsOf}
-use Rattle.passes.proofs.ReducedRows.{bits-reduced, opcode-reduced, rows-reduced}
+use Rattle.rows.specs.declared.records.profile.Profile.{Profile}
+use Rattle.rows.specs.passes.Buffers.{rowsOf}
+use Rattle.rows.proofs.passes.ReducedRows.{bits-reduced, opcode-reduced, rows-reduced}
 use Rattle.readings.specs.Tokens.{Token, tokenOf, tokensOf}
 use Rattle.readings.specs.Readings.{Block, Ask, flag, count, asks, rowAt, allRows, Trace}
 use Rattle.readings.specs.Answers.{accepted, readerRefusal, rowAsked}

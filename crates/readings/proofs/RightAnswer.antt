@@ -3,7 +3,7 @@ use mathlib.Core.Path.{_≡_, _∙_, refl, sym, ap}
 use mathlib.Core.List.{List, []}
 use mathlib.Core.Option.{Option, none, some}
 use Prim.Native.Nat.{ℕ, zero, suc}
-use Rattle.records.specs.declared.profile.Profile.{Profile}
+use Rattle.rows.specs.declared.records.profile.Profile.{Profile}
 use Rattle.readings.specs.Tokens.{Token, tokensOf}
 use Rattle.readings.specs.Readings.{Block, Word, asks, Reading, allRows}
 use Rattle.readings.specs.Answers.{Answer, readerRefusal, WordWithin, Right, badInput, noWord, tooDeep, wrongCell, trace}

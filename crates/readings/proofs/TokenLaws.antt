@@ -9,11 +9,11 @@ use lib.Dec.{leb, eqb}
 use lib.ListN.{length, getD}
 use Rattle.field.specs.Modulus.{P}
 use Rattle.groups.specs.Answer.{pick}
-use Rattle.records.specs.declared.profile.Profile.{Profile}
+use Rattle.rows.specs.declared.records.profile.Profile.{Profile}
 use Rattle.field.specs.Bounds.{anyFrom}
-use Rattle.records.specs.Profiles.{opcodes, isOneOf, twoEqual, profileWrong, lacksBits}
-use Rattle.passes.proofs.Checks.{neither}
-use Rattle.passes.specs.Passes.{opcodeOf}
+use Rattle.rows.specs.records.Profiles.{opcodes, isOneOf, twoEqual, profileWrong, lacksBits}
+use Rattle.rows.proofs.passes.Checks.{neither}
+use Rattle.rows.specs.passes.Passes.{opcodeOf}
 use Rattle.readings.specs.Tokens.{split, call, syscall, dyn, dyncall, Kind, Token, start, repeat, end, halt, nothing, opcodeOfKind, controls, tokenBeside, controlToken, isOpOpcode, opToken, inSpanOf, opBitsOf, allBits, tokenOf}
 
 -- a row's opcode is the one that its token names

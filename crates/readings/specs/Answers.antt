@@ -5,9 +5,9 @@ use mathlib.Core.List.{List, [], _∷_, _++_, List·Memᴰ}
 use Prim.Native.Nat.{ℕ, suc, pred, _/_, _≤_, _<_}
 use lib.Dec.{ltb}
 use lib.ListN.{length, drop}
-use Rattle.records.specs.declared.profile.Profile.{Profile}
-use Rattle.records.specs.Profiles.{profileWrong}
-use Rattle.passes.specs.Passes.{bufferWrong, firstOf}
+use Rattle.rows.specs.declared.records.profile.Profile.{Profile}
+use Rattle.rows.specs.records.Profiles.{profileWrong}
+use Rattle.rows.specs.passes.Passes.{bufferWrong, firstOf}
 use Rattle.readings.specs.Tokens.{Kind, Token, start, repeat, end, halt, nothing, tokensOf}
 use Rattle.readings.specs.Readings.{Block, Word, depthOf, programRows, depthList, Ask, flag, count, asks, Meets, Reading, allRows}
 

@@ -7,8 +7,8 @@ use Prim.Native.Nat.{ℕ, zero, suc, pred}
 use lib.Dec.{eqb}
 use lib.ListN.{length}
 use Rattle.groups.specs.Answer.{pick}
-use Rattle.records.specs.declared.profile.Profile.{Profile}
-use Rattle.passes.specs.Buffers.{h4Of}
+use Rattle.rows.specs.declared.records.profile.Profile.{Profile}
+use Rattle.rows.specs.passes.Buffers.{h4Of}
 use Rattle.readings.specs.Tokens.{OneChild, Kind, Token, start, repeat, end, halt, nothing, countOf, tokensOf}
 use Rattle.readings.specs.Readings.{Ops, Block, Passes, Row, numbered, Ask, flag, count, asks, rowAt, allRows}
 use Rattle.readings.specs.Answers.{Answer, accepted, refused, readerRefusal, rowAsked}

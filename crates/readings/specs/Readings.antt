@@ -3,10 +3,10 @@ use mathlib.Core.Path.{_≡_}
 use mathlib.Core.List.{List, [], _∷_, List·Memᴰ}
 use Prim.Native.Nat.{ℕ, suc, _-_, _/_, _≤_, max}
 use lib.ListN.{length, getD, replicate}
-use Rattle.records.specs.declared.profile.Profile.{Profile}
-use Rattle.records.specs.Profiles.{profileWrong}
-use Rattle.passes.specs.Buffers.{rowsOf, h4Of}
-use Rattle.passes.specs.Passes.{bufferWrong, firstOf}
+use Rattle.rows.specs.declared.records.profile.Profile.{Profile}
+use Rattle.rows.specs.records.Profiles.{profileWrong}
+use Rattle.rows.specs.passes.Buffers.{rowsOf, h4Of}
+use Rattle.rows.specs.passes.Passes.{bufferWrong, firstOf}
 use Rattle.readings.specs.Tokens.{OneChild, Kind, Token, start, repeat, end, halt, opcodeOfKind, countOf, tokensOf}
 
 -- TREES

@@ -6,9 +6,9 @@ use lib.Dec.{ltb, eqb}
 use lib.ListN.{take, drop}
 use Rattle.field.specs.Cells.{cellAt, reduced}
 use Rattle.groups.specs.Answer.{pick}
-use Rattle.records.specs.declared.profile.Profile.{Profile}
-use Rattle.records.specs.Profiles.{isOneOf}
-use Rattle.passes.specs.Passes.{opcodeOf}
+use Rattle.rows.specs.declared.records.profile.Profile.{Profile}
+use Rattle.rows.specs.records.Profiles.{isOneOf}
+use Rattle.rows.specs.passes.Passes.{opcodeOf}
 
 -- "SPLIT, CALL, SYSCALL, DYN or DYNCALL, then Block END": the kinds of one child
 pub data OneChild : Type 0 where

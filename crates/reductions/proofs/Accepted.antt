@@ -4,7 +4,7 @@ use mathlib.Core.Bool.{Bool, true, false}
 use Prim.Native.Nat.{ℕ}
 use native.Mathlib.Omega.{arith}
 use Rattle.groups.specs.Answer.{Answer, accepted, refused, andThen, pick}
-use Rattle.rows.specs.Cycles.{refuseIf}
+use Rattle.rows.specs.cycles.Cycles.{refuseIf}
 
 -- a refusal is no accepted answer
 pub never : {A : Type 0} {B : Type 0} (n : ℕ) (x : A) → refused n ≡ accepted x → B

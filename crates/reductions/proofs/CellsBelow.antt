@@ -12,10 +12,10 @@ use Rattle.field.specs.Inverse.{inverseOf}
 use Rattle.field.proofs.CellLaws.{read-below}
 use Rattle.field.proofs.InverseLaws.{inverse-below}
 use Rattle.groups.specs.Answer.{pick}
-use Rattle.records.specs.declared.profile.Profile.{Profile}
-use Rattle.records.specs.Built.{reversed16}
-use Rattle.passes.specs.Buffers.{flat, lastRow, addrOf}
-use Rattle.passes.specs.Passes.{withSides, firstRow, laterRows, fixedUp, opcodeOf, flaggedEnd, bodyEnds, withCounts, multiplied, inverted, haltRow, halted, paddingRow, paddingRows, padded}
+use Rattle.rows.specs.declared.records.profile.Profile.{Profile}
+use Rattle.rows.specs.records.Built.{reversed16}
+use Rattle.rows.specs.passes.Buffers.{flat, lastRow, addrOf}
+use Rattle.rows.specs.passes.Passes.{withSides, firstRow, laterRows, fixedUp, opcodeOf, flaggedEnd, bodyEnds, withCounts, multiplied, inverted, haltRow, halted, paddingRow, paddingRows, padded}
 use Rattle.reductions.specs.Below.{Below, BelowAll}
 
 -- reduced cells are below p

@@ -12,31 +12,31 @@ use Rattle.field.proofs.CellLaws.{read-twice, getD-reduced}
 use Rattle.groups.specs.Answer.{Answer, accepted, refused, andThen, pick, number}
 use Rattle.groups.specs.Helpers.{readRegisters}
 use Rattle.groups.specs.declared.helpers.OperationHelperRegisters.{OperationHelperRegisters}
-use Rattle.records.specs.declared.profile.Profile.{Profile}
-use Rattle.records.specs.declared.replay.DecoderState.{DecoderState}
-use Rattle.records.specs.declared.replay.Positions.{Positions}
-use Rattle.records.specs.declared.state.SystemState.{SystemState}
-use Rattle.records.specs.declared.state.StackState.{StackState}
-use Rattle.records.specs.declared.state.SystemCols.{SystemCols}
-use Rattle.records.specs.declared.state.StackCols.{StackCols}
-use Rattle.records.specs.declared.decoder_row.DecoderRow.{DecoderRow}
-use Rattle.records.specs.declared.continuation.CalleeWord.{CalleeWord}
-use Rattle.records.specs.declared.continuation.ContextInfo.{ContextInfo}
-use Rattle.records.specs.declared.continuation.Captured.{Captured}
-use Rattle.records.specs.declared.continuation.StoredValues.{StoredValues}
-use Rattle.records.specs.declared.continuation.Used.{Used}
-use Rattle.rows.specs.declared.made.MadeRow.{MadeRow}
-use Rattle.rows.specs.declared.scan.Scan.{Scan}
-use Rattle.rows.specs.declared.tracer.CoreTraceGenerationTracer.{CoreTraceGenerationTracer}
-use Rattle.records.specs.Forests.{Forest}
-use Rattle.records.specs.Addresses.{Queues, readState}
-use Rattle.records.specs.Captured.{readCallee, readInfo, readCaptured}
-use Rattle.records.specs.Built.{builtSystem, builtStack, noSystem, noStack, readSystem, readStack, systemCells, stackCells, read16, reversed16}
-use Rattle.records.specs.DecoderRows.{decoderCells}
-use Rattle.records.specs.Cells.{rowCells, putRow, fragmentWrong}
-use Rattle.rows.specs.Made.{place, made}
-use Rattle.rows.specs.Scans.{scanOf}
-use Rattle.rows.specs.Cycles.{fresh, storing, storedIn, continuationOf, refuseIf, cycleWith, cycle, leftAfter, tracerAfter, lastSystem, lastStack, fragmentAfter, finalState}
+use Rattle.rows.specs.declared.records.profile.Profile.{Profile}
+use Rattle.rows.specs.declared.records.replay.DecoderState.{DecoderState}
+use Rattle.rows.specs.declared.records.replay.Positions.{Positions}
+use Rattle.rows.specs.declared.records.state.SystemState.{SystemState}
+use Rattle.rows.specs.declared.records.state.StackState.{StackState}
+use Rattle.rows.specs.declared.records.state.SystemCols.{SystemCols}
+use Rattle.rows.specs.declared.records.state.StackCols.{StackCols}
+use Rattle.rows.specs.declared.records.decoder_row.DecoderRow.{DecoderRow}
+use Rattle.rows.specs.declared.records.continuation.CalleeWord.{CalleeWord}
+use Rattle.rows.specs.declared.records.continuation.ContextInfo.{ContextInfo}
+use Rattle.rows.specs.declared.records.continuation.Captured.{Captured}
+use Rattle.rows.specs.declared.records.continuation.StoredValues.{StoredValues}
+use Rattle.rows.specs.declared.records.continuation.Used.{Used}
+use Rattle.rows.specs.declared.cycles.made.MadeRow.{MadeRow}
+use Rattle.rows.specs.declared.cycles.scan.Scan.{Scan}
+use Rattle.rows.specs.declared.cycles.tracer.CoreTraceGenerationTracer.{CoreTraceGenerationTracer}
+use Rattle.rows.specs.records.Forests.{Forest}
+use Rattle.rows.specs.records.Addresses.{Queues, readState}
+use Rattle.rows.specs.records.Captured.{readCallee, readInfo, readCaptured}
+use Rattle.rows.specs.records.Built.{builtSystem, builtStack, noSystem, noStack, readSystem, readStack, systemCells, stackCells, read16, reversed16}
+use Rattle.rows.specs.records.DecoderRows.{decoderCells}
+use Rattle.rows.specs.records.Cells.{rowCells, putRow, fragmentWrong}
+use Rattle.rows.specs.cycles.Made.{place, made}
+use Rattle.rows.specs.cycles.Scans.{scanOf}
+use Rattle.rows.specs.cycles.Cycles.{fresh, storing, storedIn, continuationOf, refuseIf, cycleWith, cycle, leftAfter, tracerAfter, lastSystem, lastStack, fragmentAfter, finalState}
 use Rattle.reductions.specs.Inputs.{readForest, readQueues, readSystemState, readStackState, readValues, readTracer, readRow, readMade, readAnswer}
 use Rattle.reductions.proofs.LentReduced.{word-twice}
 use Rattle.reductions.proofs.StatesRead.{read-is}

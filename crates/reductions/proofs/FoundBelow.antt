@@ -30,17 +30,17 @@ use Rattle.groups.specs.declared.helpers.UserOpHelpers.{UserOpHelpers}
 use Rattle.groups.specs.declared.helpers.OperationHelperRegisters.{OperationHelperRegisters}
 use Rattle.groups.specs.declared.helpers.OperationHelperRegisters.the-variants.{Eq, U32Split, Eqz, Expacc, FriExt2Fold4, U32Add, U32Add3, U32Sub, U32Mul, U32Madd, U32Div, U32Assert2, HPerm, MerklePath, HornerEvalBase, HornerEvalExt, LogDeferred, Empty}
 use Rattle.groups.specs.declared.batch.Block.{Block}
-use Rattle.records.specs.declared.replay.DecoderState.{DecoderState}
-use Rattle.records.specs.declared.replay.Positions.{Positions}
-use Rattle.records.specs.declared.replay.NodeEndData.{NodeEndData}
-use Rattle.records.specs.declared.forest.Node.{Node}
-use Rattle.records.specs.declared.forest.NodeEntry.{NodeEntry}
-use Rattle.records.specs.declared.decoder_row.DecoderRow.{DecoderRow}
-use Rattle.records.specs.Forests.{isSlot, nodeId, nodeEntry, nodeOf, slotBlock, nodeAt, digestAt, blockOf}
-use Rattle.records.specs.Addresses.{startedAt, endAt}
-use Rattle.records.specs.DecoderRows.{wordCells, decoderCells}
-use Rattle.records.proofs.Bits.{bit-mul}
-use Rattle.passes.proofs.Checks.{neither}
+use Rattle.rows.specs.declared.records.replay.DecoderState.{DecoderState}
+use Rattle.rows.specs.declared.records.replay.Positions.{Positions}
+use Rattle.rows.specs.declared.records.replay.NodeEndData.{NodeEndData}
+use Rattle.rows.specs.declared.records.forest.Node.{Node}
+use Rattle.rows.specs.declared.records.forest.NodeEntry.{NodeEntry}
+use Rattle.rows.specs.declared.records.decoder_row.DecoderRow.{DecoderRow}
+use Rattle.rows.specs.records.Forests.{isSlot, nodeId, nodeEntry, nodeOf, slotBlock, nodeAt, digestAt, blockOf}
+use Rattle.rows.specs.records.Addresses.{startedAt, endAt}
+use Rattle.rows.specs.records.DecoderRows.{wordCells, decoderCells}
+use Rattle.rows.proofs.records.Bits.{bit-mul}
+use Rattle.rows.proofs.passes.Checks.{neither}
 use Rattle.reductions.specs.Below.{Below}
 use Rattle.reductions.proofs.Accepted.{never, came, passed, held}
 use Rattle.reductions.proofs.StatesRead.{IsCell, IsRead, Gives, current-is, parent-is, started-read}

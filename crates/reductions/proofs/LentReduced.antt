@@ -18,11 +18,11 @@ use Rattle.groups.specs.declared.batch.Batch.{Batch}
 use Rattle.groups.specs.declared.group.OpPlace.{OpPlace}
 use Rattle.groups.specs.declared.helpers.OperationHelperRegisters.{OperationHelperRegisters}
 use Rattle.groups.specs.declared.helpers.OperationHelperRegisters.the-variants.{Eq, U32Split, Eqz, Expacc, FriExt2Fold4, U32Add, U32Add3, U32Sub, U32Mul, U32Madd, U32Div, U32Assert2, HPerm, MerklePath, HornerEvalBase, HornerEvalExt, LogDeferred, Empty}
-use Rattle.records.specs.declared.replay.Positions.{Positions}
-use Rattle.records.specs.declared.replay.DecoderState.{DecoderState}
-use Rattle.records.specs.declared.replay.NodeEndData.{NodeEndData}
-use Rattle.records.specs.Forests.{isSlot, nodeAt, digestAt}
-use Rattle.records.specs.Addresses.{readState, entryAt, startedAt, endAt, startTold, startStep, endTold, endStep, respanStep}
+use Rattle.rows.specs.declared.records.replay.Positions.{Positions}
+use Rattle.rows.specs.declared.records.replay.DecoderState.{DecoderState}
+use Rattle.rows.specs.declared.records.replay.NodeEndData.{NodeEndData}
+use Rattle.rows.specs.records.Forests.{isSlot, nodeAt, digestAt}
+use Rattle.rows.specs.records.Addresses.{readState, entryAt, startedAt, endAt, startTold, startStep, endTold, endStep, respanStep}
 
 -- WORDS
 

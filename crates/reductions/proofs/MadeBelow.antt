@@ -17,23 +17,23 @@ use Rattle.groups.specs.declared.context.OpContext.{OpContext}
 use Rattle.groups.specs.declared.flags.BatchFlags.{BatchFlags}
 use Rattle.groups.specs.declared.helpers.OperationHelperRegisters.{OperationHelperRegisters}
 use Rattle.groups.specs.declared.batch.Block.{Block}
-use Rattle.records.specs.declared.ids.MastNodeId.{MastNodeId}
-use Rattle.records.specs.declared.profile.Profile.{Profile}
-use Rattle.records.specs.declared.decoder_row.EndBlockStackEntryKind.{EndBlockStackEntryKind}
-use Rattle.records.specs.declared.continuation.Continuation.{Continuation}
-use Rattle.records.specs.declared.continuation.CalleeWord.{CalleeWord}
-use Rattle.records.specs.declared.continuation.ContextInfo.{ContextInfo}
-use Rattle.records.specs.declared.continuation.Captured.{Captured}
-use Rattle.records.specs.declared.continuation.ExecutionContextInfo.{ExecutionContextInfo}
-use Rattle.records.specs.declared.continuation.Used.{Used}
-use Rattle.records.specs.declared.forest.Node.{Node}
-use Rattle.records.specs.declared.decoder_row.DecoderRow.{DecoderRow}
-use Rattle.records.specs.Forests.{Forest, nodeAt, digestAt, opcodeAt, blockOf}
-use Rattle.records.specs.Addresses.{Queues, startedAt, afterStart, endAt, stateAfterEnd, afterEnd, respanStep}
-use Rattle.records.specs.DecoderRows.{noWord, wordCells, controlFlow, basicBlockBatch, operation, flagWord}
-use Rattle.rows.specs.declared.made.MadeRow.{MadeRow}
-use Rattle.rows.specs.declared.made.Finish.{Finish}
-use Rattle.rows.specs.Made.{Place, madeRow, startBlock, startTwo, startOne, startDyn, calleeOf, infoOf, startDyncall, startKind, place, startNode, entryKind, finished, bodyOf, repeated, conditionOf, finishLoop, operationMade, resumed, respanned, made}
+use Rattle.rows.specs.declared.records.ids.MastNodeId.{MastNodeId}
+use Rattle.rows.specs.declared.records.profile.Profile.{Profile}
+use Rattle.rows.specs.declared.records.decoder_row.EndBlockStackEntryKind.{EndBlockStackEntryKind}
+use Rattle.rows.specs.declared.records.continuation.Continuation.{Continuation}
+use Rattle.rows.specs.declared.records.continuation.CalleeWord.{CalleeWord}
+use Rattle.rows.specs.declared.records.continuation.ContextInfo.{ContextInfo}
+use Rattle.rows.specs.declared.records.continuation.Captured.{Captured}
+use Rattle.rows.specs.declared.records.continuation.ExecutionContextInfo.{ExecutionContextInfo}
+use Rattle.rows.specs.declared.records.continuation.Used.{Used}
+use Rattle.rows.specs.declared.records.forest.Node.{Node}
+use Rattle.rows.specs.declared.records.decoder_row.DecoderRow.{DecoderRow}
+use Rattle.rows.specs.records.Forests.{Forest, nodeAt, digestAt, opcodeAt, blockOf}
+use Rattle.rows.specs.records.Addresses.{Queues, startedAt, afterStart, endAt, stateAfterEnd, afterEnd, respanStep}
+use Rattle.rows.specs.records.DecoderRows.{noWord, wordCells, controlFlow, basicBlockBatch, operation, flagWord}
+use Rattle.rows.specs.declared.cycles.made.MadeRow.{MadeRow}
+use Rattle.rows.specs.declared.cycles.made.Finish.{Finish}
+use Rattle.rows.specs.cycles.Made.{Place, madeRow, startBlock, startTwo, startOne, startDyn, calleeOf, infoOf, startDyncall, startKind, place, startNode, entryKind, finished, bodyOf, repeated, conditionOf, finishLoop, operationMade, resumed, respanned, made}
 use Rattle.reductions.specs.Below.{Below}
 use Rattle.reductions.specs.BeforeN2.{calleeCells, infoCells, depthIn, Narrow32}
 use Rattle.reductions.proofs.Accepted.{never, came}

@@ -11,21 +11,21 @@ use Rattle.groups.specs.Batches.{batchAt}
 use Rattle.groups.specs.Contexts.{contextAtOp, contextAtBatchStart}
 use Rattle.groups.specs.Helpers.{readRegisters, helpersAnswer}
 use Rattle.groups.specs.declared.helpers.OperationHelperRegisters.{OperationHelperRegisters}
-use Rattle.records.specs.declared.ids.MastNodeId.{MastNodeId}
-use Rattle.records.specs.declared.profile.Profile.{Profile}
-use Rattle.records.specs.declared.forest.Node.{Node}
-use Rattle.records.specs.declared.continuation.Continuation.{Continuation}
-use Rattle.records.specs.declared.continuation.CalleeWord.{CalleeWord}
-use Rattle.records.specs.declared.continuation.ContextInfo.{ContextInfo}
-use Rattle.records.specs.declared.continuation.Captured.{Captured}
-use Rattle.records.specs.declared.continuation.Used.{Used}
-use Rattle.rows.specs.declared.made.MadeRow.{MadeRow}
-use Rattle.rows.specs.declared.made.Finish.{Finish}
-use Rattle.records.specs.Forests.{Forest, nodeAt, digestAt, opcodeAt, blockOf}
-use Rattle.records.specs.Addresses.{Queues, readState, startedAt, respanStep}
-use Rattle.records.specs.Captured.{readCallee, readInfo, readCaptured}
-use Rattle.records.specs.DecoderRows.{controlFlow, basicBlockBatch, operation}
-use Rattle.rows.specs.Made.{Place, conditionOf, startBlock, startTwo, startOne, startDyn, startDyncall, startKind, startNode, finished, bodyOf, repeated, finishLoop, operationMade, resumed, respanned, made}
+use Rattle.rows.specs.declared.records.ids.MastNodeId.{MastNodeId}
+use Rattle.rows.specs.declared.records.profile.Profile.{Profile}
+use Rattle.rows.specs.declared.records.forest.Node.{Node}
+use Rattle.rows.specs.declared.records.continuation.Continuation.{Continuation}
+use Rattle.rows.specs.declared.records.continuation.CalleeWord.{CalleeWord}
+use Rattle.rows.specs.declared.records.continuation.ContextInfo.{ContextInfo}
+use Rattle.rows.specs.declared.records.continuation.Captured.{Captured}
+use Rattle.rows.specs.declared.records.continuation.Used.{Used}
+use Rattle.rows.specs.declared.cycles.made.MadeRow.{MadeRow}
+use Rattle.rows.specs.declared.cycles.made.Finish.{Finish}
+use Rattle.rows.specs.records.Forests.{Forest, nodeAt, digestAt, opcodeAt, blockOf}
+use Rattle.rows.specs.records.Addresses.{Queues, readState, startedAt, respanStep}
+use Rattle.rows.specs.records.Captured.{readCallee, readInfo, readCaptured}
+use Rattle.rows.specs.records.DecoderRows.{controlFlow, basicBlockBatch, operation}
+use Rattle.rows.specs.cycles.Made.{Place, conditionOf, startBlock, startTwo, startOne, startDyn, startDyncall, startKind, startNode, finished, bodyOf, repeated, finishLoop, operationMade, resumed, respanned, made}
 use Rattle.reductions.specs.Inputs.{readForest, readQueues, readPlace, readRow, readMade, readAnswer}
 use Rattle.reductions.proofs.LentReduced.{word-twice, node-reduced, digest-reduced, batch-reduced, op-context-reduced, batch-context-reduced, helpers-reduced, started-reduced, ended-reduced, grown}
 

@@ -16,17 +16,17 @@ use Rattle.field.specs.Inverse.{inverseOf}
 use Rattle.field.proofs.CellLaws.{length-reduced}
 use Rattle.field.proofs.InverseLaws.{inverse-below}
 use Rattle.groups.specs.Answer.{pick}
-use Rattle.records.specs.declared.profile.Profile.{Profile}
-use Rattle.records.specs.DecoderRows.{controlFlow, decoderCells}
-use Rattle.records.specs.Built.{reversed16}
-use Rattle.passes.specs.Buffers.{rowsOf, flat, onRows, lastRow, addrOf}
-use Rattle.passes.specs.Passes.{withSides, firstRow, laterRows, fixedUp, builtOf, opcodeOf, bodyEnds, withCounts, multiplied, inverted}
-use Rattle.passes.specs.Passes.{haltDecoder, haltStack, haltRow, halted, paddingRow, paddingRows, padded, lastBuilt, allPasses}
-use Rattle.passes.specs.Passes.{sumOf, refusal1, refusal2, refusal3, refusal4, refusal5, refusalAll, unlessRefused}
-use Rattle.passes.proofs.Counts.{fits, passed}
-use Rattle.passes.proofs.Finishing.{Ready, ready, held-2, passed-all, sum-uncapped}
-use Rattle.passes.proofs.Refusals.{fits4, fits5}
-use Rattle.passes.proofs.RowLists.{Wide, length-rows, wide-rows, as-rows, drop-rows, length-last}
+use Rattle.rows.specs.declared.records.profile.Profile.{Profile}
+use Rattle.rows.specs.records.DecoderRows.{controlFlow, decoderCells}
+use Rattle.rows.specs.records.Built.{reversed16}
+use Rattle.rows.specs.passes.Buffers.{rowsOf, flat, onRows, lastRow, addrOf}
+use Rattle.rows.specs.passes.Passes.{withSides, firstRow, laterRows, fixedUp, builtOf, opcodeOf, bodyEnds, withCounts, multiplied, inverted}
+use Rattle.rows.specs.passes.Passes.{haltDecoder, haltStack, haltRow, halted, paddingRow, paddingRows, padded, lastBuilt, allPasses}
+use Rattle.rows.specs.passes.Passes.{sumOf, refusal1, refusal2, refusal3, refusal4, refusal5, refusalAll, unlessRefused}
+use Rattle.rows.proofs.passes.Counts.{fits, passed}
+use Rattle.rows.proofs.passes.Finishing.{Ready, ready, held-2, passed-all, sum-uncapped}
+use Rattle.rows.proofs.passes.Refusals.{fits4, fits5}
+use Rattle.rows.proofs.passes.RowLists.{Wide, length-rows, wide-rows, as-rows, drop-rows, length-last}
 use Rattle.reductions.specs.Below.{Below}
 use Rattle.reductions.specs.Left.{Kept, left1, left2, left3, left4, left5, leftAll}
 use Rattle.reductions.proofs.CellsBelow.{below-reduced, below-take, below-drop, ends-most}

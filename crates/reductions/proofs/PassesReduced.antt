@@ -12,16 +12,16 @@ use Rattle.field.specs.Inverse.{inverseOf}
 use Rattle.field.proofs.CellLaws.{read-small, length-reduced, getD-reduced, cell-reduced, reduced-append, reduced-twice, reduced-take, reduced-drop}
 use Rattle.field.proofs.InverseLaws.{inverse-below, inverse-reduced}
 use Rattle.groups.specs.Answer.{pick}
-use Rattle.records.specs.declared.profile.Profile.{Profile}
-use Rattle.records.specs.DecoderRows.{controlFlow, decoderCells}
-use Rattle.records.specs.Built.{reversed16}
-use Rattle.passes.specs.Buffers.{rowsOf, flat, onRows, lastRow, addrOf}
-use Rattle.passes.specs.Passes.{withSides, firstRow, laterRows, fixedUp, builtOf, flaggedEnd, bodyEnds, withCounts, anyWithoutBody, multiplied, loopWithoutBody, inverted}
-use Rattle.passes.specs.Passes.{haltDecoder, haltStack, haltRow, halted, paddingRow, paddingRows, padded, lastBuilt, allPasses}
-use Rattle.passes.specs.Passes.{sumOf, fragmentsWrong, refusal1, refusal2, refusal3, refusal4, refusal5, refusalAll, unlessRefused}
-use Rattle.passes.proofs.RowLists.{length-rows}
-use Rattle.passes.proofs.ReducedRows.{opcode-reduced, rows-reduced}
-use Rattle.passes.proofs.Finishing.{held-2, sum-held, passed-all}
+use Rattle.rows.specs.declared.records.profile.Profile.{Profile}
+use Rattle.rows.specs.records.DecoderRows.{controlFlow, decoderCells}
+use Rattle.rows.specs.records.Built.{reversed16}
+use Rattle.rows.specs.passes.Buffers.{rowsOf, flat, onRows, lastRow, addrOf}
+use Rattle.rows.specs.passes.Passes.{withSides, firstRow, laterRows, fixedUp, builtOf, flaggedEnd, bodyEnds, withCounts, anyWithoutBody, multiplied, loopWithoutBody, inverted}
+use Rattle.rows.specs.passes.Passes.{haltDecoder, haltStack, haltRow, halted, paddingRow, paddingRows, padded, lastBuilt, allPasses}
+use Rattle.rows.specs.passes.Passes.{sumOf, fragmentsWrong, refusal1, refusal2, refusal3, refusal4, refusal5, refusalAll, unlessRefused}
+use Rattle.rows.proofs.passes.RowLists.{length-rows}
+use Rattle.rows.proofs.passes.ReducedRows.{opcode-reduced, rows-reduced}
+use Rattle.rows.proofs.passes.Finishing.{held-2, sum-held, passed-all}
 use Rattle.reductions.specs.Left.{left1, left2, left3, left4, left5, leftAll}
 use Rattle.reductions.proofs.CellsBelow.{ends-most}
 

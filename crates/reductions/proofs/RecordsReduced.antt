@@ -12,7 +12,7 @@ use Rattle.field.specs.Cells.{read, cellAt}
 use Rattle.field.proofs.CellLaws.{read-twice}
 use Rattle.groups.specs.Answer.{pick}
 use Rattle.groups.specs.Words.{wordAt}
-use Rattle.records.specs.CallRecords.{conditionIn, calleeIn, infoIn, resumeIn, respanIn, continuationOn, continuationIn, namesNothing, storedInRecord, systemIn, stackIn, registersIn, finishIn, storing, callIn, recordAt}
+use Rattle.rows.specs.records.CallRecords.{conditionIn, calleeIn, infoIn, resumeIn, respanIn, continuationOn, continuationIn, namesNothing, storedInRecord, systemIn, stackIn, registersIn, finishIn, storing, callIn, recordAt}
 use Rattle.reductions.specs.Inputs.{readPlaces, storingCell, finishCell, readRecord, readRecords}
 
 -- ONE PLACE

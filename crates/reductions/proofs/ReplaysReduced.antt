@@ -10,16 +10,16 @@ use lib.ListN.{length, take, drop}
 use Rattle.field.specs.Cells.{reduced}
 use Rattle.field.proofs.CellLaws.{reduced-twice, reduced-take, reduced-drop}
 use Rattle.groups.specs.Answer.{Answer, accepted, refused, pick}
-use Rattle.records.specs.declared.profile.Profile.{Profile}
-use Rattle.records.specs.declared.replay.DecoderState.{DecoderState}
-use Rattle.records.specs.declared.replay.Positions.{Positions}
-use Rattle.records.specs.Forests.{Forest}
-use Rattle.records.specs.Addresses.{Queues, readState}
-use Rattle.records.specs.CallRecords.{Call, stores, finishes, callIn, recordAt}
-use Rattle.rows.specs.declared.tracer.CoreTraceGenerationTracer.{CoreTraceGenerationTracer}
-use Rattle.rows.specs.declared.directory.Parts.{Parts}
-use Rattle.rows.specs.Cycles.{fresh, storing, storedIn, keeping, finalState}
-use Rattle.rows.specs.Calls.{window, forestIn, partsAt, Setting, setting, forestOf, refusing, callDone, callWritten, through, written, ending, nextState, nextPositions, told, scanned, replayed, replayedFragment}
+use Rattle.rows.specs.declared.records.profile.Profile.{Profile}
+use Rattle.rows.specs.declared.records.replay.DecoderState.{DecoderState}
+use Rattle.rows.specs.declared.records.replay.Positions.{Positions}
+use Rattle.rows.specs.records.Forests.{Forest}
+use Rattle.rows.specs.records.Addresses.{Queues, readState}
+use Rattle.rows.specs.records.CallRecords.{Call, stores, finishes, callIn, recordAt}
+use Rattle.rows.specs.declared.cycles.tracer.CoreTraceGenerationTracer.{CoreTraceGenerationTracer}
+use Rattle.rows.specs.declared.replay.directory.Parts.{Parts}
+use Rattle.rows.specs.cycles.Cycles.{fresh, storing, storedIn, keeping, finalState}
+use Rattle.rows.specs.replay.Calls.{window, forestIn, partsAt, Setting, setting, forestOf, refusing, callDone, callWritten, through, written, ending, nextState, nextPositions, told, scanned, replayed, replayedFragment}
 use Rattle.reductions.specs.Inputs.{readForest, readQueues, readTracer, readCall, readAnswer, readAllRecords}
 use Rattle.reductions.proofs.StatesRead.{IsRead, read-is, read-moved, cycle-with-moves, after-moves}
 use Rattle.reductions.proofs.CyclesReduced.{cycle-with-reduced, same-tracer, same-fragment, tracer-twice, storing-reduced, fresh-reduced, final-reduced}

@@ -15,19 +15,19 @@ use Rattle.groups.specs.Words.{wordAt, readWord}
 use Rattle.groups.specs.Helpers.{readRegisters}
 use Rattle.groups.specs.declared.word.Word.{Word}
 use Rattle.groups.specs.declared.helpers.OperationHelperRegisters.{OperationHelperRegisters}
-use Rattle.records.specs.declared.ids.MastNodeId.{MastNodeId}
-use Rattle.records.specs.declared.state.SystemState.{SystemState}
-use Rattle.records.specs.declared.continuation.Continuation.{Continuation}
-use Rattle.records.specs.declared.continuation.CalleeWord.{CalleeWord}
-use Rattle.records.specs.declared.continuation.ContextInfo.{ContextInfo}
-use Rattle.records.specs.declared.continuation.StoredValues.{StoredValues}
-use Rattle.records.specs.declared.call_record.InfoFound.{InfoFound}
-use Rattle.records.specs.declared.call_record.SystemFound.{SystemFound}
-use Rattle.records.specs.Forests.{nodeId}
-use Rattle.records.specs.DecoderRows.{wordCells}
-use Rattle.records.specs.Built.{cells16}
-use Rattle.records.specs.CallRecords.{Call, stores, finishes, of32, conditionIn, calleeIn, infoIn, continuationOn, namesNoKind, continuationIn, namesNothing, storedInRecord, systemIn, stackIn, fewCells, manyCells, registersIn, finishIn, storing, callIn, toldInfo, toldSystem}
-use Rattle.passes.specs.Passes.{wordIn}
+use Rattle.rows.specs.declared.records.ids.MastNodeId.{MastNodeId}
+use Rattle.rows.specs.declared.records.state.SystemState.{SystemState}
+use Rattle.rows.specs.declared.records.continuation.Continuation.{Continuation}
+use Rattle.rows.specs.declared.records.continuation.CalleeWord.{CalleeWord}
+use Rattle.rows.specs.declared.records.continuation.ContextInfo.{ContextInfo}
+use Rattle.rows.specs.declared.records.continuation.StoredValues.{StoredValues}
+use Rattle.rows.specs.declared.records.call_record.InfoFound.{InfoFound}
+use Rattle.rows.specs.declared.records.call_record.SystemFound.{SystemFound}
+use Rattle.rows.specs.records.Forests.{nodeId}
+use Rattle.rows.specs.records.DecoderRows.{wordCells}
+use Rattle.rows.specs.records.Built.{cells16}
+use Rattle.rows.specs.records.CallRecords.{Call, stores, finishes, of32, conditionIn, calleeIn, infoIn, continuationOn, namesNoKind, continuationIn, namesNothing, storedInRecord, systemIn, stackIn, fewCells, manyCells, registersIn, finishIn, storing, callIn, toldInfo, toldSystem}
+use Rattle.rows.specs.passes.Passes.{wordIn}
 use Rattle.reductions.specs.Below.{Below}
 use Rattle.reductions.specs.Inputs.{readAnswer}
 use Rattle.reductions.specs.BeforeN2.{registerCells, calleeCells, infoCells, stateCells, calleeInBefore, infoInBefore, continuationInBefore, storedInRecordBefore, systemInBefore, stackInBefore, registersInBefore, finishInBefore, callInBefore, callCells, toldInfoBefore, toldSystemBefore}

@@ -31,17 +31,17 @@ use Rattle.groups.specs.declared.group.OpPlace.{OpPlace}
 use Rattle.groups.specs.declared.helpers.UserOpHelpers.{UserOpHelpers}
 use Rattle.groups.specs.declared.helpers.OperationHelperRegisters.{OperationHelperRegisters}
 use Rattle.groups.specs.declared.helpers.OperationHelperRegisters.the-variants.{Eq, U32Split, Eqz, Expacc, FriExt2Fold4, U32Add, U32Add3, U32Sub, U32Mul, U32Madd, U32Div, U32Assert2, HPerm, MerklePath, HornerEvalBase, HornerEvalExt, LogDeferred, Empty}
-use Rattle.records.specs.declared.state.SystemState.{SystemState}
-use Rattle.records.specs.declared.state.StackState.{StackState}
-use Rattle.records.specs.declared.state.SystemCols.{SystemCols}
-use Rattle.records.specs.declared.state.StackCols.{StackCols}
-use Rattle.records.specs.declared.decoder_row.DecoderRow.{DecoderRow}
-use Rattle.records.specs.Addresses.{entryAt, endAt}
-use Rattle.records.specs.DecoderRows.{wordCells, decoderCells}
-use Rattle.records.specs.Built.{builtSystem, builtStack, reversed16, read16, cells16, systemCells, stackCells}
-use Rattle.records.specs.Cells.{rowCells, copiedIn, putIn}
-use Rattle.passes.specs.Passes.{wordIn}
-use Rattle.passes.proofs.Checks.{neither}
+use Rattle.rows.specs.declared.records.state.SystemState.{SystemState}
+use Rattle.rows.specs.declared.records.state.StackState.{StackState}
+use Rattle.rows.specs.declared.records.state.SystemCols.{SystemCols}
+use Rattle.rows.specs.declared.records.state.StackCols.{StackCols}
+use Rattle.rows.specs.declared.records.decoder_row.DecoderRow.{DecoderRow}
+use Rattle.rows.specs.records.Addresses.{entryAt, endAt}
+use Rattle.rows.specs.records.DecoderRows.{wordCells, decoderCells}
+use Rattle.rows.specs.records.Built.{builtSystem, builtStack, reversed16, read16, cells16, systemCells, stackCells}
+use Rattle.rows.specs.records.Cells.{rowCells, copiedIn, putIn}
+use Rattle.rows.specs.passes.Passes.{wordIn}
+use Rattle.rows.proofs.passes.Checks.{neither}
 use Rattle.reductions.specs.Below.{Below}
 use Rattle.reductions.specs.BeforeN2.{inverseNumber, inverseValue, beyond, batchOfBefore, batchAtBefore, bigGroup, groupCells, registerCells}
 use Rattle.reductions.proofs.Accepted.{came, passed, held}

@@ -15,33 +15,33 @@ use Rattle.field.specs.Bounds.{anyFrom}
 use Rattle.field.proofs.CellLaws.{read-small}
 use Rattle.groups.specs.Answer.{accepted, pick}
 use Rattle.groups.specs.declared.helpers.OperationHelperRegisters.{OperationHelperRegisters}
-use Rattle.records.specs.declared.profile.Profile.{Profile}
-use Rattle.records.specs.declared.replay.DecoderState.{DecoderState}
-use Rattle.records.specs.declared.replay.Positions.{Positions}
-use Rattle.records.specs.declared.state.SystemState.{SystemState}
-use Rattle.records.specs.declared.state.StackState.{StackState}
-use Rattle.records.specs.declared.state.SystemCols.{SystemCols}
-use Rattle.records.specs.declared.state.StackCols.{StackCols}
-use Rattle.records.specs.declared.continuation.LoopCondition.{LoopCondition}
-use Rattle.records.specs.declared.continuation.CalleeWord.{CalleeWord}
-use Rattle.records.specs.declared.continuation.ContextInfo.{ContextInfo}
-use Rattle.records.specs.declared.continuation.Captured.{Captured}
-use Rattle.records.specs.declared.continuation.StoredValues.{StoredValues}
-use Rattle.records.specs.Forests.{Forest}
-use Rattle.records.specs.Addresses.{Queues, readState}
-use Rattle.records.specs.Captured.{readCallee, readInfo, readCaptured}
-use Rattle.records.specs.Built.{noSystem, noStack, readSystem, readStack, cells16, systemCells, stackCells}
-use Rattle.records.specs.CallRecords.{finishes}
-use Rattle.records.proofs.Windows.{all-16}
-use Rattle.rows.specs.declared.made.MadeRow.{MadeRow}
-use Rattle.rows.specs.declared.scan.Scan.{Scan}
-use Rattle.rows.specs.declared.tracer.StoredContinuation.{StoredContinuation}
-use Rattle.rows.specs.declared.tracer.CoreTraceGenerationTracer.{CoreTraceGenerationTracer}
-use Rattle.rows.specs.Scans.{anyBigOpcode, anyLongBlock, anyLargeBatch, forestTooLarge, scanOf}
-use Rattle.rows.specs.Cycles.{fresh, storing, continuationOf, cycleWith, cycle, tracerAfter, lastSystem, lastStack, fragmentAfter, finalState}
-use Rattle.rows.specs.Calls.{Setting, setting, forestOf, callDone, callWritten, scanned}
-use Rattle.rows.specs.SingleCalls.{singleDone, singleWritten}
-use Rattle.passes.proofs.Checks.{neither}
+use Rattle.rows.specs.declared.records.profile.Profile.{Profile}
+use Rattle.rows.specs.declared.records.replay.DecoderState.{DecoderState}
+use Rattle.rows.specs.declared.records.replay.Positions.{Positions}
+use Rattle.rows.specs.declared.records.state.SystemState.{SystemState}
+use Rattle.rows.specs.declared.records.state.StackState.{StackState}
+use Rattle.rows.specs.declared.records.state.SystemCols.{SystemCols}
+use Rattle.rows.specs.declared.records.state.StackCols.{StackCols}
+use Rattle.rows.specs.declared.records.continuation.LoopCondition.{LoopCondition}
+use Rattle.rows.specs.declared.records.continuation.CalleeWord.{CalleeWord}
+use Rattle.rows.specs.declared.records.continuation.ContextInfo.{ContextInfo}
+use Rattle.rows.specs.declared.records.continuation.Captured.{Captured}
+use Rattle.rows.specs.declared.records.continuation.StoredValues.{StoredValues}
+use Rattle.rows.specs.records.Forests.{Forest}
+use Rattle.rows.specs.records.Addresses.{Queues, readState}
+use Rattle.rows.specs.records.Captured.{readCallee, readInfo, readCaptured}
+use Rattle.rows.specs.records.Built.{noSystem, noStack, readSystem, readStack, cells16, systemCells, stackCells}
+use Rattle.rows.specs.records.CallRecords.{finishes}
+use Rattle.rows.proofs.records.Windows.{all-16}
+use Rattle.rows.specs.declared.cycles.made.MadeRow.{MadeRow}
+use Rattle.rows.specs.declared.cycles.scan.Scan.{Scan}
+use Rattle.rows.specs.declared.cycles.tracer.StoredContinuation.{StoredContinuation}
+use Rattle.rows.specs.declared.cycles.tracer.CoreTraceGenerationTracer.{CoreTraceGenerationTracer}
+use Rattle.rows.specs.cycles.Scans.{anyBigOpcode, anyLongBlock, anyLargeBatch, forestTooLarge, scanOf}
+use Rattle.rows.specs.cycles.Cycles.{fresh, storing, continuationOf, cycleWith, cycle, tracerAfter, lastSystem, lastStack, fragmentAfter, finalState}
+use Rattle.rows.specs.replay.Calls.{Setting, setting, forestOf, callDone, callWritten, scanned}
+use Rattle.rows.specs.replay.SingleCalls.{singleDone, singleWritten}
+use Rattle.rows.proofs.passes.Checks.{neither}
 use Rattle.reductions.specs.Below.{Below}
 use Rattle.reductions.specs.BeforeN2.{LentBelow, lentBig, calleeCells, infoCells, cycleCells, cycleBig, scanOfBefore, cycleWithBefore, cycleBefore}
 use Rattle.reductions.proofs.Accepted.{came, unrefused}

@@ -10,13 +10,13 @@ use lib.Dec.{ltb, eqb}
 use lib.ListN.{length, take, drop, getD}
 use Rattle.field.specs.Modulus.{P}
 use Rattle.field.specs.Bounds.{anyFrom}
-use Rattle.records.specs.declared.profile.Profile.{Profile}
-use Rattle.records.specs.Profiles.{profileWrong}
-use Rattle.records.specs.DecoderRows.{noWord, wordCells, controlFlow}
-use Rattle.records.specs.Built.{reversed16}
-use Rattle.passes.specs.Buffers.{rowsOf, addrOf, h4Of}
-use Rattle.passes.specs.Passes.{withSides, firstRow, builtOf, lowBits, opcodeOf, loopWithoutBody, firstHalf, haltDecoder, haltStack, haltRow, paddingRow, bufferWrong, fewerRows, sumOf, notFull, noFragment, firstOf, fragmentsWrong, refusal1, refusal2, refusal3, refusal4, refusal5, heightWrong, refusalAll}
-use Rattle.passes.proofs.Checks.{neither, none-first}
+use Rattle.rows.specs.declared.records.profile.Profile.{Profile}
+use Rattle.rows.specs.records.Profiles.{profileWrong}
+use Rattle.rows.specs.records.DecoderRows.{noWord, wordCells, controlFlow}
+use Rattle.rows.specs.records.Built.{reversed16}
+use Rattle.rows.specs.passes.Buffers.{rowsOf, addrOf, h4Of}
+use Rattle.rows.specs.passes.Passes.{withSides, firstRow, builtOf, lowBits, opcodeOf, loopWithoutBody, firstHalf, haltDecoder, haltStack, haltRow, paddingRow, bufferWrong, fewerRows, sumOf, notFull, noFragment, firstOf, fragmentsWrong, refusal1, refusal2, refusal3, refusal4, refusal5, heightWrong, refusalAll}
+use Rattle.rows.proofs.passes.Checks.{neither, none-first}
 use Rattle.reductions.specs.Below.{Below}
 use Rattle.reductions.specs.BeforeN2.{rowsBig}
 use Rattle.reductions.proofs.CellsBelow.{below-app, below-take, below-drop}

@@ -8,10 +8,10 @@ use lib.Dec.{ltb}
 use lib.ListN.{length, take, drop, getD}
 use Rattle.field.specs.Modulus.{P}
 use Rattle.field.specs.Bounds.{anyFrom}
-use Rattle.records.specs.declared.profile.Profile.{Profile}
-use Rattle.records.specs.Profiles.{profileWrong}
-use Rattle.passes.specs.Passes.{bufferWrong, firstOf}
-use Rattle.passes.proofs.Checks.{none-first}
+use Rattle.rows.specs.declared.records.profile.Profile.{Profile}
+use Rattle.rows.specs.records.Profiles.{profileWrong}
+use Rattle.rows.specs.passes.Passes.{bufferWrong, firstOf}
+use Rattle.rows.proofs.passes.Checks.{none-first}
 use Rattle.reductions.specs.Below.{Below}
 use Rattle.reductions.proofs.SameCells.{below-of, of-below, same-cellAt, same-reduced}
 use Rattle.readings.specs.Tokens.{inSpanOf, countOf, opBitsOf}

@@ -8,19 +8,19 @@ use native.Mathlib.Omega.{arith}
 use lib.Dec.{leb, ltb, eqb}
 use Rattle.groups.specs.Answer.{accepted, pick}
 use Rattle.groups.specs.declared.helpers.OperationHelperRegisters.{OperationHelperRegisters}
-use Rattle.records.specs.declared.profile.Profile.{Profile}
-use Rattle.records.specs.declared.state.SystemState.{SystemState}
-use Rattle.records.specs.declared.state.StackState.{StackState}
-use Rattle.records.specs.declared.continuation.Continuation.{Continuation}
-use Rattle.records.specs.Forests.{Forest}
-use Rattle.records.specs.Addresses.{Queues}
-use Rattle.records.specs.DecoderRows.{wordCells, decoderCells}
-use Rattle.records.specs.Built.{builtSystem, builtStack, noSystem, noStack, reversed16, cells16, systemCells, stackCells}
-use Rattle.records.specs.Cells.{fragmentWrong, putRow}
-use Rattle.rows.specs.declared.made.MadeRow.{MadeRow}
-use Rattle.rows.specs.declared.tracer.CoreTraceGenerationTracer.{CoreTraceGenerationTracer}
-use Rattle.rows.specs.Made.{place, made}
-use Rattle.rows.specs.Cycles.{continuationOf, cycle, lastSystem, lastStack, fragmentAfter}
+use Rattle.rows.specs.declared.records.profile.Profile.{Profile}
+use Rattle.rows.specs.declared.records.state.SystemState.{SystemState}
+use Rattle.rows.specs.declared.records.state.StackState.{StackState}
+use Rattle.rows.specs.declared.records.continuation.Continuation.{Continuation}
+use Rattle.rows.specs.records.Forests.{Forest}
+use Rattle.rows.specs.records.Addresses.{Queues}
+use Rattle.rows.specs.records.DecoderRows.{wordCells, decoderCells}
+use Rattle.rows.specs.records.Built.{builtSystem, builtStack, noSystem, noStack, reversed16, cells16, systemCells, stackCells}
+use Rattle.rows.specs.records.Cells.{fragmentWrong, putRow}
+use Rattle.rows.specs.declared.cycles.made.MadeRow.{MadeRow}
+use Rattle.rows.specs.declared.cycles.tracer.CoreTraceGenerationTracer.{CoreTraceGenerationTracer}
+use Rattle.rows.specs.cycles.Made.{place, made}
+use Rattle.rows.specs.cycles.Cycles.{continuationOf, cycle, lastSystem, lastStack, fragmentAfter}
 use Rattle.reductions.specs.Below.{Below}
 use Rattle.reductions.specs.BeforeN2.{calleeCells, infoCells, stateCells, tracerCells, fixedCells, registerCells, cycleCells, cycleBig, cycleWithBefore, cycleBefore, scanOfBefore, Narrow32}
 use Rattle.reductions.proofs.CellsBelow.{below-app}

@@ -15,27 +15,27 @@ use Rattle.groups.specs.Flags.{batchFlags}
 use Rattle.groups.specs.Contexts.{contextAtOp, contextAtBatchStart}
 use Rattle.groups.specs.Helpers.{helpersAnswer}
 use Rattle.groups.specs.declared.helpers.OperationHelperRegisters.{OperationHelperRegisters}
-use Rattle.records.specs.declared.ids.MastNodeId.{MastNodeId}
-use Rattle.records.specs.declared.profile.Profile.{Profile}
-use Rattle.records.specs.declared.forest.Node.{Node}
-use Rattle.records.specs.declared.replay.DecoderState.{DecoderState}
-use Rattle.records.specs.declared.replay.Positions.{Positions}
-use Rattle.records.specs.declared.replay.NodeEndData.{NodeEndData}
-use Rattle.records.specs.declared.state.SystemState.{SystemState}
-use Rattle.records.specs.declared.state.StackState.{StackState}
-use Rattle.records.specs.declared.continuation.Continuation.{Continuation}
-use Rattle.records.specs.declared.continuation.Captured.{Captured}
-use Rattle.records.specs.declared.continuation.Used.{Used}
-use Rattle.rows.specs.declared.made.MadeRow.{MadeRow}
-use Rattle.rows.specs.declared.made.Finish.{Finish}
-use Rattle.rows.specs.declared.scan.Scan.{Scan}
-use Rattle.rows.specs.declared.tracer.CoreTraceGenerationTracer.{CoreTraceGenerationTracer}
-use Rattle.records.specs.Forests.{Forest, nodeAt, digestAt, opcodeAt, blockOf}
-use Rattle.records.specs.Addresses.{Queues, readState, entryAt, startedAt, endAt, afterStart, stateAfterEnd, respanStep}
-use Rattle.rows.specs.Made.{Place, place, calleeOf, infoOf, conditionOf, startBlock, startTwo, startOne, startDyn, startDyncall, startKind, startNode, entryKind, finished, bodyOf, repeated, finishLoop, operationMade, resumed, respanned, made}
-use Rattle.records.specs.Cells.{fragmentWrong}
-use Rattle.rows.specs.Scans.{scanOf}
-use Rattle.rows.specs.Cycles.{continuationOf, refuseIf, cycleWith, cycle, tracerAfter}
+use Rattle.rows.specs.declared.records.ids.MastNodeId.{MastNodeId}
+use Rattle.rows.specs.declared.records.profile.Profile.{Profile}
+use Rattle.rows.specs.declared.records.forest.Node.{Node}
+use Rattle.rows.specs.declared.records.replay.DecoderState.{DecoderState}
+use Rattle.rows.specs.declared.records.replay.Positions.{Positions}
+use Rattle.rows.specs.declared.records.replay.NodeEndData.{NodeEndData}
+use Rattle.rows.specs.declared.records.state.SystemState.{SystemState}
+use Rattle.rows.specs.declared.records.state.StackState.{StackState}
+use Rattle.rows.specs.declared.records.continuation.Continuation.{Continuation}
+use Rattle.rows.specs.declared.records.continuation.Captured.{Captured}
+use Rattle.rows.specs.declared.records.continuation.Used.{Used}
+use Rattle.rows.specs.declared.cycles.made.MadeRow.{MadeRow}
+use Rattle.rows.specs.declared.cycles.made.Finish.{Finish}
+use Rattle.rows.specs.declared.cycles.scan.Scan.{Scan}
+use Rattle.rows.specs.declared.cycles.tracer.CoreTraceGenerationTracer.{CoreTraceGenerationTracer}
+use Rattle.rows.specs.records.Forests.{Forest, nodeAt, digestAt, opcodeAt, blockOf}
+use Rattle.rows.specs.records.Addresses.{Queues, readState, entryAt, startedAt, endAt, afterStart, stateAfterEnd, respanStep}
+use Rattle.rows.specs.cycles.Made.{Place, place, calleeOf, infoOf, conditionOf, startBlock, startTwo, startOne, startDyn, startDyncall, startKind, startNode, entryKind, finished, bodyOf, repeated, finishLoop, operationMade, resumed, respanned, made}
+use Rattle.rows.specs.records.Cells.{fragmentWrong}
+use Rattle.rows.specs.cycles.Scans.{scanOf}
+use Rattle.rows.specs.cycles.Cycles.{continuationOf, refuseIf, cycleWith, cycle, tracerAfter}
 
 -- an address state that reading leaves as it is: both addresses are below p
 abbrev pub IsRead : DecoderState → Type 0

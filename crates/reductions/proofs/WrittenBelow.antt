@@ -13,29 +13,29 @@ use Rattle.field.specs.Cells.{cellAt, reduced}
 use Rattle.field.proofs.CellLaws.{read-twice, read-small}
 use Rattle.groups.specs.Answer.{Answer, accepted, refused, pick}
 use Rattle.groups.specs.declared.helpers.OperationHelperRegisters.{OperationHelperRegisters}
-use Rattle.records.specs.declared.profile.Profile.{Profile}
-use Rattle.records.specs.declared.replay.DecoderState.{DecoderState}
-use Rattle.records.specs.declared.replay.Positions.{Positions}
-use Rattle.records.specs.declared.state.SystemState.{SystemState}
-use Rattle.records.specs.declared.state.StackState.{StackState}
-use Rattle.records.specs.declared.continuation.Captured.{Captured}
-use Rattle.records.specs.declared.continuation.StoredValues.{StoredValues}
-use Rattle.records.specs.declared.continuation.Used.{Used}
-use Rattle.rows.specs.declared.made.MadeRow.{MadeRow}
-use Rattle.rows.specs.declared.scan.Scan.{Scan}
-use Rattle.rows.specs.declared.tracer.CoreTraceGenerationTracer.{CoreTraceGenerationTracer}
-use Rattle.rows.specs.declared.tracer.TracerFinalState.{TracerFinalState}
-use Rattle.records.specs.Forests.{Forest}
-use Rattle.records.specs.Addresses.{Queues}
-use Rattle.records.specs.Captured.{readCaptured}
-use Rattle.records.specs.Built.{builtSystem, builtStack, noSystem, noStack, readSystem, readStack, systemCells, stackCells}
-use Rattle.records.specs.DecoderRows.{decoderCells}
-use Rattle.records.specs.Cells.{rowCells, putRow, fragmentWrong}
-use Rattle.records.specs.CallRecords.{Call, stores, finishes, callIn, recordAt}
-use Rattle.rows.specs.Made.{place, made}
-use Rattle.rows.specs.Scans.{scanOf}
-use Rattle.rows.specs.Cycles.{fresh, storing, storedIn, continuationOf, refuseIf, cycleWith, cycle, leftAfter, tracerAfter, lastSystem, lastStack, fragmentAfter, finalState}
-use Rattle.rows.specs.Calls.{Setting, forestOf, callWritten, through, written, builtCells, replayed, replayedFragment}
+use Rattle.rows.specs.declared.records.profile.Profile.{Profile}
+use Rattle.rows.specs.declared.records.replay.DecoderState.{DecoderState}
+use Rattle.rows.specs.declared.records.replay.Positions.{Positions}
+use Rattle.rows.specs.declared.records.state.SystemState.{SystemState}
+use Rattle.rows.specs.declared.records.state.StackState.{StackState}
+use Rattle.rows.specs.declared.records.continuation.Captured.{Captured}
+use Rattle.rows.specs.declared.records.continuation.StoredValues.{StoredValues}
+use Rattle.rows.specs.declared.records.continuation.Used.{Used}
+use Rattle.rows.specs.declared.cycles.made.MadeRow.{MadeRow}
+use Rattle.rows.specs.declared.cycles.scan.Scan.{Scan}
+use Rattle.rows.specs.declared.cycles.tracer.CoreTraceGenerationTracer.{CoreTraceGenerationTracer}
+use Rattle.rows.specs.declared.cycles.tracer.TracerFinalState.{TracerFinalState}
+use Rattle.rows.specs.records.Forests.{Forest}
+use Rattle.rows.specs.records.Addresses.{Queues}
+use Rattle.rows.specs.records.Captured.{readCaptured}
+use Rattle.rows.specs.records.Built.{builtSystem, builtStack, noSystem, noStack, readSystem, readStack, systemCells, stackCells}
+use Rattle.rows.specs.records.DecoderRows.{decoderCells}
+use Rattle.rows.specs.records.Cells.{rowCells, putRow, fragmentWrong}
+use Rattle.rows.specs.records.CallRecords.{Call, stores, finishes, callIn, recordAt}
+use Rattle.rows.specs.cycles.Made.{place, made}
+use Rattle.rows.specs.cycles.Scans.{scanOf}
+use Rattle.rows.specs.cycles.Cycles.{fresh, storing, storedIn, continuationOf, refuseIf, cycleWith, cycle, leftAfter, tracerAfter, lastSystem, lastStack, fragmentAfter, finalState}
+use Rattle.rows.specs.replay.Calls.{Setting, forestOf, callWritten, through, written, builtCells, replayed, replayedFragment}
 use Rattle.reductions.specs.Below.{Below}
 use Rattle.reductions.specs.Inputs.{readTracer}
 use Rattle.reductions.specs.Left.{Kept}

@@ -18,33 +18,33 @@ use Rattle.groups.specs.declared.batch.Block.{Block}
 use Rattle.groups.specs.declared.batch.Batch.{Batch}
 use Rattle.groups.specs.declared.helpers.OperationHelperRegisters.{OperationHelperRegisters}
 use Rattle.groups.specs.declared.helpers.OperationHelperRegisters.the-variants.{Eq, U32Split, Eqz, Expacc, FriExt2Fold4, U32Add, U32Add3, U32Sub, U32Mul, U32Madd, U32Div, U32Assert2, HPerm, MerklePath, HornerEvalBase, HornerEvalExt, LogDeferred, Empty}
-use Rattle.records.specs.declared.profile.Profile.{Profile}
-use Rattle.records.specs.declared.replay.DecoderState.{DecoderState}
-use Rattle.records.specs.declared.state.SystemState.{SystemState}
-use Rattle.records.specs.declared.state.StackState.{StackState}
-use Rattle.records.specs.declared.state.SystemCols.{SystemCols}
-use Rattle.records.specs.declared.state.StackCols.{StackCols}
-use Rattle.records.specs.declared.continuation.Continuation.{Continuation}
-use Rattle.records.specs.declared.continuation.CalleeWord.{CalleeWord}
-use Rattle.records.specs.declared.continuation.ContextInfo.{ContextInfo}
-use Rattle.records.specs.declared.continuation.Captured.{Captured}
-use Rattle.records.specs.declared.continuation.StoredValues.{StoredValues}
-use Rattle.records.specs.declared.call_record.InfoFound.{InfoFound}
-use Rattle.records.specs.declared.call_record.SystemFound.{SystemFound}
-use Rattle.records.specs.Profiles.{profileWrong}
-use Rattle.records.specs.Forests.{Forest, nodeId}
-use Rattle.records.specs.Addresses.{Queues}
-use Rattle.records.specs.DecoderRows.{wordCells}
-use Rattle.records.specs.Built.{systemCells, cells16, stackCells}
-use Rattle.records.specs.Cells.{fragmentWrong}
-use Rattle.records.specs.CallRecords.{Call, stores, finishes, of32, conditionIn, continuationOn, namesNothing, manyCells, storing}
-use Rattle.rows.specs.declared.made.MadeRow.{MadeRow}
-use Rattle.rows.specs.declared.scan.Scan.{Scan}
-use Rattle.rows.specs.declared.tracer.CoreTraceGenerationTracer.{CoreTraceGenerationTracer}
-use Rattle.rows.specs.Made.{place, made}
-use Rattle.rows.specs.Scans.{forestTooLarge}
-use Rattle.rows.specs.Cycles.{continuationOf, refuseIf}
-use Rattle.passes.specs.Passes.{wordIn}
+use Rattle.rows.specs.declared.records.profile.Profile.{Profile}
+use Rattle.rows.specs.declared.records.replay.DecoderState.{DecoderState}
+use Rattle.rows.specs.declared.records.state.SystemState.{SystemState}
+use Rattle.rows.specs.declared.records.state.StackState.{StackState}
+use Rattle.rows.specs.declared.records.state.SystemCols.{SystemCols}
+use Rattle.rows.specs.declared.records.state.StackCols.{StackCols}
+use Rattle.rows.specs.declared.records.continuation.Continuation.{Continuation}
+use Rattle.rows.specs.declared.records.continuation.CalleeWord.{CalleeWord}
+use Rattle.rows.specs.declared.records.continuation.ContextInfo.{ContextInfo}
+use Rattle.rows.specs.declared.records.continuation.Captured.{Captured}
+use Rattle.rows.specs.declared.records.continuation.StoredValues.{StoredValues}
+use Rattle.rows.specs.declared.records.call_record.InfoFound.{InfoFound}
+use Rattle.rows.specs.declared.records.call_record.SystemFound.{SystemFound}
+use Rattle.rows.specs.records.Profiles.{profileWrong}
+use Rattle.rows.specs.records.Forests.{Forest, nodeId}
+use Rattle.rows.specs.records.Addresses.{Queues}
+use Rattle.rows.specs.records.DecoderRows.{wordCells}
+use Rattle.rows.specs.records.Built.{systemCells, cells16, stackCells}
+use Rattle.rows.specs.records.Cells.{fragmentWrong}
+use Rattle.rows.specs.records.CallRecords.{Call, stores, finishes, of32, conditionIn, continuationOn, namesNothing, manyCells, storing}
+use Rattle.rows.specs.declared.cycles.made.MadeRow.{MadeRow}
+use Rattle.rows.specs.declared.cycles.scan.Scan.{Scan}
+use Rattle.rows.specs.declared.cycles.tracer.CoreTraceGenerationTracer.{CoreTraceGenerationTracer}
+use Rattle.rows.specs.cycles.Made.{place, made}
+use Rattle.rows.specs.cycles.Scans.{forestTooLarge}
+use Rattle.rows.specs.cycles.Cycles.{continuationOf, refuseIf}
+use Rattle.rows.specs.passes.Passes.{wordIn}
 use Rattle.reductions.specs.Below.{Below}
 
 -- THE INVERSE FOR OTHER LANGUAGES

@@ -9,18 +9,18 @@ use Rattle.field.specs.Cells.{read, reduced}
 use Rattle.groups.specs.Answer.{Answer, accepted, refused, pick}
 use Rattle.groups.specs.Words.{readWord}
 use Rattle.groups.specs.Helpers.{readRegisters}
-use Rattle.records.specs.declared.decoder_row.DecoderRow.{DecoderRow}
-use Rattle.records.specs.declared.state.SystemState.{SystemState}
-use Rattle.records.specs.declared.state.StackState.{StackState}
-use Rattle.records.specs.declared.continuation.StoredValues.{StoredValues}
-use Rattle.records.specs.Forests.{Forest}
-use Rattle.records.specs.Addresses.{Queues, readState}
-use Rattle.records.specs.Captured.{readCaptured}
-use Rattle.records.specs.Built.{readSystem, readStack}
-use Rattle.records.specs.CallRecords.{Call, stores, finishes}
-use Rattle.rows.specs.declared.made.MadeRow.{MadeRow}
-use Rattle.rows.specs.declared.tracer.CoreTraceGenerationTracer.{CoreTraceGenerationTracer}
-use Rattle.rows.specs.Made.{Place, place}
+use Rattle.rows.specs.declared.records.decoder_row.DecoderRow.{DecoderRow}
+use Rattle.rows.specs.declared.records.state.SystemState.{SystemState}
+use Rattle.rows.specs.declared.records.state.StackState.{StackState}
+use Rattle.rows.specs.declared.records.continuation.StoredValues.{StoredValues}
+use Rattle.rows.specs.records.Forests.{Forest}
+use Rattle.rows.specs.records.Addresses.{Queues, readState}
+use Rattle.rows.specs.records.Captured.{readCaptured}
+use Rattle.rows.specs.records.Built.{readSystem, readStack}
+use Rattle.rows.specs.records.CallRecords.{Call, stores, finishes}
+use Rattle.rows.specs.declared.cycles.made.MadeRow.{MadeRow}
+use Rattle.rows.specs.declared.cycles.tracer.CoreTraceGenerationTracer.{CoreTraceGenerationTracer}
+use Rattle.rows.specs.cycles.Made.{Place, place}
 
 -- WHAT IS LENT
 

@@ -5,9 +5,9 @@ use mathlib.Core.List.{List}
 use Prim.Native.Nat.{ℕ, _-_, _<_}
 use lib.ListN.{length, getD}
 use Rattle.field.specs.Modulus.{P}
-use Rattle.records.specs.declared.profile.Profile.{Profile}
-use Rattle.passes.specs.Buffers.{onRows}
-use Rattle.passes.specs.Passes.{fixedUp, builtOf, multiplied, inverted, halted, padded, sumOf, allPasses, unlessRefused, refusal1, refusal2, refusal3, refusal4, refusal5, refusalAll}
+use Rattle.rows.specs.declared.records.profile.Profile.{Profile}
+use Rattle.rows.specs.passes.Buffers.{onRows}
+use Rattle.rows.specs.passes.Passes.{fixedUp, builtOf, multiplied, inverted, halted, padded, sumOf, allPasses, unlessRefused, refusal1, refusal2, refusal3, refusal4, refusal5, refusalAll}
 
 -- pass 1, `fixup_stack_and_system_rows`
 unfoldable pub left1 : (size : ℕ) → (counts built top : List ℕ) → (buffer : List ℕ) → List ℕ

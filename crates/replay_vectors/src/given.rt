@@ -1,10 +1,10 @@
 // What a run is given, each from the numbers of a list that begin at a place.
 use lists::text::item;
 use lists::text::low8;
-use records::profile::Profile;
-use records::replay::DecoderState;
-use records::replay::Positions;
-use rows::calls::Replayed;
+use rows::records::profile::Profile;
+use rows::records::replay::DecoderState;
+use rows::records::replay::Positions;
+use rows::replay::calls::Replayed;
 
 // The thirteen opcodes and the step.
 pub fn profile_of(v: &[u64], at: usize) -> Profile {

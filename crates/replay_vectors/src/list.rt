@@ -18,10 +18,10 @@ use lists::copies::same;
 use lists::text::item;
 use lists::text::low32;
 use lists::text::one_if;
-use passes::finish::finish;
-use records::profile::Profile;
-use rows::calls::Replayed;
-use rows::calls::replay_calls;
+use rows::passes::finish::finish;
+use rows::records::profile::Profile;
+use rows::replay::calls::Replayed;
+use rows::replay::calls::replay_calls;
 ghost use Prim.Native.Nat.{_≤_};
 ghost use lib.ListN.{length};
 

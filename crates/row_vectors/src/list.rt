@@ -24,9 +24,9 @@ use lists::copies::put_all;
 use lists::copies::same;
 use lists::text::item;
 use lists::text::one_if;
-use rows::cycle::Finished;
-use rows::cycle::finalize_clock_cycle;
-use rows::tracer::CoreTraceGenerationTracer;
+use rows::cycles::cycle::Finished;
+use rows::cycles::cycle::finalize_clock_cycle;
+use rows::cycles::tracer::CoreTraceGenerationTracer;
 ghost use Prim.Native.Nat.{_≤_, _<_};
 
 const NODES: usize = 15;

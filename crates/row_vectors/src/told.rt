@@ -1,13 +1,13 @@
 // The numbers of a tracer and of a final state, in the order of the lists.
 use groups::word::Word;
-use records::continuation::CalleeWord;
-use records::continuation::ContextInfo;
-use records::continuation::Continuation;
-use records::continuation::LoopCondition;
-use records::ids::MastNodeId;
-use rows::tracer::CoreTraceGenerationTracer;
-use rows::tracer::StoredContinuation;
-use rows::tracer::TracerFinalState;
+use rows::cycles::tracer::CoreTraceGenerationTracer;
+use rows::cycles::tracer::StoredContinuation;
+use rows::cycles::tracer::TracerFinalState;
+use rows::records::continuation::CalleeWord;
+use rows::records::continuation::ContextInfo;
+use rows::records::continuation::Continuation;
+use rows::records::continuation::LoopCondition;
+use rows::records::ids::MastNodeId;
 
 // A continuation's number and its three.
 struct Four(u64, u64, u64, u64);

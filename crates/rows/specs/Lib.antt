@@ -1,5 +1,5 @@
-pub mod Made
-pub mod Scans
-pub mod Cycles
-pub mod Calls
-pub mod SingleCalls
+pub mod records
+pub mod cycles
+pub mod replay
+pub mod sorted
+pub mod passes

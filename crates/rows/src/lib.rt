@@ -1,7 +1,6 @@
-// Rows: from a stored continuation to a row of a fragment; storings, cycles, the final state, and replay of lent calls.
-pub mod calls;
-pub mod cycle;
-mod directory;
-mod made;
-mod scan;
-pub mod tracer;
+// Rows and passes: the records that rows are made from, rows one by one, replay, the finishing passes over a buffer of rows.
+pub mod cycles;
+pub mod passes;
+pub mod records;
+pub mod replay;
+mod sorted;

@@ -17,28 +17,28 @@ use Rattle.groups.specs.declared.word.Word.{Word}
 use Rattle.groups.specs.declared.batch.Batch.{Batch}
 use Rattle.groups.specs.declared.helpers.OperationHelperRegisters.{OperationHelperRegisters}
 use Rattle.groups.specs.declared.batch.Block.{Block}
-use Rattle.records.specs.declared.ids.MastNodeId.{MastNodeId}
-use Rattle.records.specs.declared.profile.Profile.{Profile}
-use Rattle.records.specs.declared.forest.Node.{Node}
-use Rattle.records.specs.declared.replay.Positions.{Positions}
-use Rattle.records.specs.declared.continuation.LoopCondition.{LoopCondition}
-use Rattle.records.specs.declared.continuation.CalleeWord.{CalleeWord}
-use Rattle.records.specs.declared.continuation.ContextInfo.{ContextInfo}
-use Rattle.records.specs.declared.continuation.Continuation.{Continuation}
-use Rattle.records.specs.declared.continuation.Captured.{Captured}
-use Rattle.records.specs.declared.continuation.Used.{Used}
-use Rattle.rows.specs.declared.made.MadeRow.{MadeRow}
-use Rattle.rows.specs.declared.made.Finish.{Finish}
-use Rattle.records.specs.declared.state.StackState.{StackState}
-use Rattle.rows.specs.declared.tracer.StoredContinuation.{StoredContinuation}
-use Rattle.rows.specs.declared.tracer.CoreTraceGenerationTracer.{CoreTraceGenerationTracer}
-use Rattle.records.specs.Forests.{Forest, isSlot, nodeOf, nodeAt, digestAt, opcodeAt, blockOf}
-use Rattle.records.specs.Addresses.{Queues, entryAt, startedAt, afterStart, endAt}
-use Rattle.records.specs.Profiles.{profileWrong}
-use Rattle.rows.specs.Scans.{anyBigOpcode, forestTooLarge, scanOf}
-use Rattle.records.specs.Cells.{fragmentWrong}
-use Rattle.rows.specs.Made.{Place, place, calleeOf, infoOf, conditionOf, startBlock, startTwo, startOne, startDyn, startDyncall, startKind, startNode, callKind, dynKind, blockKind, entryKind, finished, bodyOf, repeated, finishLoop, operationMade, resumed, respanned, made}
-use Rattle.rows.specs.Cycles.{continuationOf, refuseIf, cycleWith, cycle}
+use Rattle.rows.specs.declared.records.ids.MastNodeId.{MastNodeId}
+use Rattle.rows.specs.declared.records.profile.Profile.{Profile}
+use Rattle.rows.specs.declared.records.forest.Node.{Node}
+use Rattle.rows.specs.declared.records.replay.Positions.{Positions}
+use Rattle.rows.specs.declared.records.continuation.LoopCondition.{LoopCondition}
+use Rattle.rows.specs.declared.records.continuation.CalleeWord.{CalleeWord}
+use Rattle.rows.specs.declared.records.continuation.ContextInfo.{ContextInfo}
+use Rattle.rows.specs.declared.records.continuation.Continuation.{Continuation}
+use Rattle.rows.specs.declared.records.continuation.Captured.{Captured}
+use Rattle.rows.specs.declared.records.continuation.Used.{Used}
+use Rattle.rows.specs.declared.cycles.made.MadeRow.{MadeRow}
+use Rattle.rows.specs.declared.cycles.made.Finish.{Finish}
+use Rattle.rows.specs.declared.records.state.StackState.{StackState}
+use Rattle.rows.specs.declared.cycles.tracer.StoredContinuation.{StoredContinuation}
+use Rattle.rows.specs.declared.cycles.tracer.CoreTraceGenerationTracer.{CoreTraceGenerationTracer}
+use Rattle.rows.specs.records.Forests.{Forest, isSlot, nodeOf, nodeAt, digestAt, opcodeAt, blockOf}
+use Rattle.rows.specs.records.Addresses.{Queues, entryAt, startedAt, afterStart, endAt}
+use Rattle.rows.specs.records.Profiles.{profileWrong}
+use Rattle.rows.specs.cycles.Scans.{anyBigOpcode, forestTooLarge, scanOf}
+use Rattle.rows.specs.records.Cells.{fragmentWrong}
+use Rattle.rows.specs.cycles.Made.{Place, place, calleeOf, infoOf, conditionOf, startBlock, startTwo, startOne, startDyn, startDyncall, startKind, startNode, callKind, dynKind, blockKind, entryKind, finished, bodyOf, repeated, finishLoop, operationMade, resumed, respanned, made}
+use Rattle.rows.specs.cycles.Cycles.{continuationOf, refuseIf, cycleWith, cycle}
 use Rattle.reductions.proofs.Accepted as accepts
 
 pub then-accepted : {A B : Type 0} (a : Answer A) (f : A → Answer B) (y : B) → andThen a f ≡ accepted y → (x : A) × (a ≡ accepted x) × (f x ≡ accepted y)

@@ -9,14 +9,14 @@ use lib.Dec.{eqb}
 use Rattle.field.specs.Modulus.{P}
 use Rattle.groups.specs.Answer.{pick}
 use Rattle.groups.specs.declared.batch.Block.{Block}
-use Rattle.records.specs.declared.profile.Profile.{Profile}
-use Rattle.records.specs.declared.replay.DecoderState.{DecoderState}
-use Rattle.records.specs.Forests.{Forest}
-use Rattle.records.specs.Addresses.{Queues, respanStep, readState}
-use Rattle.records.specs.Profiles.{opcodes, profileWrong}
-use Rattle.rows.specs.Made.{Place}
-use Rattle.passes.specs.Buffers.{addrOf, h4Of}
-use Rattle.passes.specs.Passes.{opcodeOf, bodyEnds, anyWithoutBody, loopWithoutBody}
+use Rattle.rows.specs.declared.records.profile.Profile.{Profile}
+use Rattle.rows.specs.declared.records.replay.DecoderState.{DecoderState}
+use Rattle.rows.specs.records.Forests.{Forest}
+use Rattle.rows.specs.records.Addresses.{Queues, respanStep, readState}
+use Rattle.rows.specs.records.Profiles.{opcodes, profileWrong}
+use Rattle.rows.specs.cycles.Made.{Place}
+use Rattle.rows.specs.passes.Buffers.{addrOf, h4Of}
+use Rattle.rows.specs.passes.Passes.{opcodeOf, bodyEnds, anyWithoutBody, loopWithoutBody}
 use Rattle.readings.specs.Tokens.{countOf}
 use Rattle.runs.specs.Calls.{Fragment}
 use Rattle.runs.specs.Happened.{Cycle, cyclesOf}

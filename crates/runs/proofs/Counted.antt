@@ -7,12 +7,12 @@ use native.Mathlib.Omega.{arith}
 use Rattle.field.specs.Modulus.{P}
 use Rattle.field.specs.Cells.{reduced}
 use Rattle.groups.specs.declared.batch.Block.{Block}
-use Rattle.records.specs.declared.profile.Profile.{Profile}
-use Rattle.records.specs.declared.replay.DecoderState.{DecoderState}
-use Rattle.records.specs.Forests.{Forest}
-use Rattle.records.specs.Profiles.{twoEqual}
-use Rattle.records.specs.Addresses.{respanStep}
-use Rattle.records.specs.DecoderRows.{bit}
+use Rattle.rows.specs.declared.records.profile.Profile.{Profile}
+use Rattle.rows.specs.declared.records.replay.DecoderState.{DecoderState}
+use Rattle.rows.specs.records.Forests.{Forest}
+use Rattle.rows.specs.records.Profiles.{twoEqual}
+use Rattle.rows.specs.records.Addresses.{respanStep}
+use Rattle.rows.specs.records.DecoderRows.{bit}
 use Rattle.readings.specs.Readings.{Ask, passesIn, endRowOf, asksOf, asksOfPasses}
 use Rattle.runs.specs.Happened.{Cycle}
 use Rattle.runs.specs.ProperRuns.{withLoop, loopStarts, InBlock, Run, RunPasses, opsFrom, treeFrom, passesFrom}

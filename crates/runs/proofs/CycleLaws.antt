@@ -13,23 +13,23 @@ use Rattle.groups.specs.declared.word.Word.{Word}
 use Rattle.groups.specs.declared.batch.Block.{Block}
 use Rattle.groups.specs.declared.batch.Batch.{Batch}
 use Rattle.groups.specs.declared.helpers.OperationHelperRegisters.{OperationHelperRegisters}
-use Rattle.records.specs.declared.ids.MastNodeId.{MastNodeId}
-use Rattle.records.specs.declared.profile.Profile.{Profile}
-use Rattle.records.specs.declared.forest.Node.{Node}
-use Rattle.records.specs.declared.forest.NodeEntry.{NodeEntry}
-use Rattle.records.specs.declared.replay.DecoderState.{DecoderState}
-use Rattle.records.specs.declared.replay.Positions.{Positions}
-use Rattle.records.specs.declared.decoder_row.DecoderRow.{DecoderRow}
-use Rattle.records.specs.declared.decoder_row.EndBlockStackEntryKind.{EndBlockStackEntryKind}
-use Rattle.records.specs.declared.continuation.Continuation.{Continuation}
-use Rattle.records.specs.declared.continuation.Captured.{Captured}
-use Rattle.records.specs.declared.continuation.Used.{Used}
-use Rattle.rows.specs.declared.made.MadeRow.{MadeRow}
-use Rattle.rows.specs.declared.made.Finish.{Finish}
-use Rattle.records.specs.Forests.{Forest, nodeAt, digestAt, opcodeAt, blockOf}
-use Rattle.records.specs.Addresses.{Queues, startedAt, afterStart, endAt, stateAfterEnd, afterEnd, respanStep}
-use Rattle.records.specs.DecoderRows.{noWord, controlFlow, basicBlockBatch, operation, bit, flagWord}
-use Rattle.rows.specs.Made.{Place, place, madeRow, startBlock, startTwo, startOne, calleeOf, infoOf, conditionOf, startDyn, startDyncall, startKind, startNode, entryKind, finished, bodyOf, repeated, finishLoop, operationMade, resumed, respanned, made}
+use Rattle.rows.specs.declared.records.ids.MastNodeId.{MastNodeId}
+use Rattle.rows.specs.declared.records.profile.Profile.{Profile}
+use Rattle.rows.specs.declared.records.forest.Node.{Node}
+use Rattle.rows.specs.declared.records.forest.NodeEntry.{NodeEntry}
+use Rattle.rows.specs.declared.records.replay.DecoderState.{DecoderState}
+use Rattle.rows.specs.declared.records.replay.Positions.{Positions}
+use Rattle.rows.specs.declared.records.decoder_row.DecoderRow.{DecoderRow}
+use Rattle.rows.specs.declared.records.decoder_row.EndBlockStackEntryKind.{EndBlockStackEntryKind}
+use Rattle.rows.specs.declared.records.continuation.Continuation.{Continuation}
+use Rattle.rows.specs.declared.records.continuation.Captured.{Captured}
+use Rattle.rows.specs.declared.records.continuation.Used.{Used}
+use Rattle.rows.specs.declared.cycles.made.MadeRow.{MadeRow}
+use Rattle.rows.specs.declared.cycles.made.Finish.{Finish}
+use Rattle.rows.specs.records.Forests.{Forest, nodeAt, digestAt, opcodeAt, blockOf}
+use Rattle.rows.specs.records.Addresses.{Queues, startedAt, afterStart, endAt, stateAfterEnd, afterEnd, respanStep}
+use Rattle.rows.specs.records.DecoderRows.{noWord, controlFlow, basicBlockBatch, operation, bit, flagWord}
+use Rattle.rows.specs.cycles.Made.{Place, place, madeRow, startBlock, startTwo, startOne, calleeOf, infoOf, conditionOf, startDyn, startDyncall, startKind, startNode, entryKind, finished, bodyOf, repeated, finishLoop, operationMade, resumed, respanned, made}
 use Rattle.readings.specs.Tokens.{OneChild, Kind, opcodeOfKind}
 use Rattle.runs.specs.Happened.{Ending, Did, InForce, startOf, operationAt, finishOf, didBy, usedBy, positionsAfter}
 use Rattle.runs.proofs.Answers.{then-accepted}

@@ -7,19 +7,19 @@ use lib.ListN.{length, take, drop}
 use Rattle.field.specs.Cells.{reduced}
 use Rattle.groups.specs.Answer.{accepted}
 use Rattle.groups.specs.declared.helpers.OperationHelperRegisters.{OperationHelperRegisters}
-use Rattle.records.specs.declared.profile.Profile.{Profile}
-use Rattle.records.specs.declared.state.StackState.{StackState}
-use Rattle.records.specs.declared.continuation.Continuation.{Continuation}
-use Rattle.rows.specs.declared.made.MadeRow.{MadeRow}
-use Rattle.rows.specs.declared.tracer.StoredContinuation.{StoredContinuation}
-use Rattle.rows.specs.declared.tracer.CoreTraceGenerationTracer.{CoreTraceGenerationTracer}
-use Rattle.records.specs.Forests.{Forest}
-use Rattle.records.specs.Addresses.{Queues}
-use Rattle.records.specs.DecoderRows.{decoderCells}
-use Rattle.records.specs.Built.{systemCells, stackCells}
-use Rattle.rows.specs.Made.{Place, place, made}
-use Rattle.records.specs.Cells.{rowCells}
-use Rattle.rows.specs.Cycles.{cycle, lastSystem, lastStack}
+use Rattle.rows.specs.declared.records.profile.Profile.{Profile}
+use Rattle.rows.specs.declared.records.state.StackState.{StackState}
+use Rattle.rows.specs.declared.records.continuation.Continuation.{Continuation}
+use Rattle.rows.specs.declared.cycles.made.MadeRow.{MadeRow}
+use Rattle.rows.specs.declared.cycles.tracer.StoredContinuation.{StoredContinuation}
+use Rattle.rows.specs.declared.cycles.tracer.CoreTraceGenerationTracer.{CoreTraceGenerationTracer}
+use Rattle.rows.specs.records.Forests.{Forest}
+use Rattle.rows.specs.records.Addresses.{Queues}
+use Rattle.rows.specs.records.DecoderRows.{decoderCells}
+use Rattle.rows.specs.records.Built.{systemCells, stackCells}
+use Rattle.rows.specs.cycles.Made.{Place, place, made}
+use Rattle.rows.specs.records.Cells.{rowCells}
+use Rattle.rows.specs.cycles.Cycles.{cycle, lastSystem, lastStack}
 use Rattle.runs.specs.Calls.{Handed, Call, store, finish, Fragment, Held, answered, after, numberOf, afterAll, Accepted, opened, closed, placeOf, AllAccepted}
 use Rattle.runs.specs.SameCalls.{AlikeCalls, AlikeFragments}
 use Rattle.runs.specs.Happened.{InForce, did, stored, leftBy}

@@ -12,12 +12,12 @@ use Rattle.groups.specs.Batches.{isBatch, batchAt}
 use Rattle.groups.specs.Words.{wordAt}
 use Rattle.groups.specs.declared.batch.Block.{Block}
 use Rattle.groups.specs.declared.batch.Batch.{Batch}
-use Rattle.records.specs.declared.ids.MastNodeId.{MastNodeId}
-use Rattle.records.specs.declared.profile.Profile.{Profile}
-use Rattle.records.specs.declared.forest.Node.{Node}
-use Rattle.records.specs.declared.forest.NodeEntry.{NodeEntry}
-use Rattle.records.specs.Forests.{Forest, isSlot, nodeId, nodeOf, nodeAt, opcodeAt}
-use Rattle.records.specs.Profiles.{isOneOf}
+use Rattle.rows.specs.declared.records.ids.MastNodeId.{MastNodeId}
+use Rattle.rows.specs.declared.records.profile.Profile.{Profile}
+use Rattle.rows.specs.declared.records.forest.Node.{Node}
+use Rattle.rows.specs.declared.records.forest.NodeEntry.{NodeEntry}
+use Rattle.rows.specs.records.Forests.{Forest, isSlot, nodeId, nodeOf, nodeAt, opcodeAt}
+use Rattle.rows.specs.records.Profiles.{isOneOf}
 use Rattle.readings.specs.Tokens.{OneChild, split, call, syscall, dyn, dyncall, Kind, controls, controlOpcodes, isOpOpcode}
 use Rattle.readings.proofs.Examples.{profile}
 use Rattle.runs.specs.Happened.{Ending, Did, started, operated, respanned, repeated, finished, Cycle}

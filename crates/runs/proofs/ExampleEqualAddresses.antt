@@ -16,24 +16,24 @@ use Rattle.groups.specs.GroupsLeft.{counts, doubled, roundUp, groupsOf, sumGrou
 use Rattle.groups.specs.Contexts.{tooLarge, consumed, opContext, contextInGroup, contextAtOp}
 use Rattle.groups.specs.Helpers.{allBelow, readRegisters, u32Values, helpersOf, helpersOfCells, helpersAnswer}
 use Rattle.groups.specs.declared.helpers.OperationHelperRegisters.{OperationHelperRegisters}
-use Rattle.records.specs.declared.continuation.Continuation.{Continuation}
-use Rattle.records.specs.declared.continuation.LoopCondition.{LoopCondition}
-use Rattle.records.specs.declared.continuation.CalleeWord.{CalleeWord}
-use Rattle.records.specs.declared.continuation.ContextInfo.{ContextInfo}
+use Rattle.rows.specs.declared.records.continuation.Continuation.{Continuation}
+use Rattle.rows.specs.declared.records.continuation.LoopCondition.{LoopCondition}
+use Rattle.rows.specs.declared.records.continuation.CalleeWord.{CalleeWord}
+use Rattle.rows.specs.declared.records.continuation.ContextInfo.{ContextInfo}
 use Rattle.field.specs.Bounds.{anyFrom}
-use Rattle.records.specs.Profiles.{opcodes, isOneOf, twoEqual, lacksBits, profileWrong}
-use Rattle.records.specs.Forests.{Forest, isSlot, nodeId, nodeOf, nodeAt, digestAt, opcodeAt, blockOf}
-use Rattle.records.specs.Addresses.{Queues, entryAt, startedAt, endAt, readState}
-use Rattle.records.specs.Captured.{readCaptured}
-use Rattle.records.specs.DecoderRows.{controlFlow, basicBlockBatch, operation, decoderCells}
-use Rattle.records.specs.Built.{builtSystem, builtStack, noSystem, noStack, systemCells, stackCells, readSystem, readStack}
-use Rattle.rows.specs.Made.{Place, startBlock, startTwo, startOne, startKind, startNode, blockKind, entryKind, finished, bodyOf, repeated, finishLoop, operationMade, resumed, made}
-use Rattle.records.specs.Cells.{rowCells, putRow}
-use Rattle.rows.specs.Scans.{anyBigOpcode, anyLongBlock, anyLargeBatch, forestTooLarge, scanOf}
-use Rattle.records.specs.Cells.{fragmentWrong}
-use Rattle.rows.specs.Cycles.{fresh, storedIn, cycleWith, cycle, leftAfter, tracerAfter, lastSystem, lastStack, fragmentAfter, finalState}
-use Rattle.passes.specs.Buffers.{rowsOf, flat, onRows, lastRow}
-use Rattle.passes.specs.Passes.{withSides, firstRow, laterRows, fixedUp, builtOf, lowBits, opcodeOf, flaggedEnd, bodyEnds, withCounts, anyWithoutBody, multiplied, loopWithoutBody, inverted, haltDecoder, haltStack, haltRow, halted, paddingRow, paddingRows, padded, bufferWrong, fewerRows, sumOf, anyAbove, notFull, firstOf, fragmentsWrong, heightWrong, refusalAll, lastBuilt, allPasses}
+use Rattle.rows.specs.records.Profiles.{opcodes, isOneOf, twoEqual, lacksBits, profileWrong}
+use Rattle.rows.specs.records.Forests.{Forest, isSlot, nodeId, nodeOf, nodeAt, digestAt, opcodeAt, blockOf}
+use Rattle.rows.specs.records.Addresses.{Queues, entryAt, startedAt, endAt, readState}
+use Rattle.rows.specs.records.Captured.{readCaptured}
+use Rattle.rows.specs.records.DecoderRows.{controlFlow, basicBlockBatch, operation, decoderCells}
+use Rattle.rows.specs.records.Built.{builtSystem, builtStack, noSystem, noStack, systemCells, stackCells, readSystem, readStack}
+use Rattle.rows.specs.cycles.Made.{Place, startBlock, startTwo, startOne, startKind, startNode, blockKind, entryKind, finished, bodyOf, repeated, finishLoop, operationMade, resumed, made}
+use Rattle.rows.specs.records.Cells.{rowCells, putRow}
+use Rattle.rows.specs.cycles.Scans.{anyBigOpcode, anyLongBlock, anyLargeBatch, forestTooLarge, scanOf}
+use Rattle.rows.specs.records.Cells.{fragmentWrong}
+use Rattle.rows.specs.cycles.Cycles.{fresh, storedIn, cycleWith, cycle, leftAfter, tracerAfter, lastSystem, lastStack, fragmentAfter, finalState}
+use Rattle.rows.specs.passes.Buffers.{rowsOf, flat, onRows, lastRow}
+use Rattle.rows.specs.passes.Passes.{withSides, firstRow, laterRows, fixedUp, builtOf, lowBits, opcodeOf, flaggedEnd, bodyEnds, withCounts, anyWithoutBody, multiplied, loopWithoutBody, inverted, haltDecoder, haltStack, haltRow, halted, paddingRow, paddingRows, padded, bufferWrong, fewerRows, sumOf, anyAbove, notFull, firstOf, fragmentsWrong, heightWrong, refusalAll, lastBuilt, allPasses}
 use Rattle.readings.specs.Tokens.{controls, tokenBeside, controlToken, controlOpcodes, isOpOpcode, opToken, allBits, tokenOf, tokensOf}
 use Rattle.readings.specs.Readings.{Block, depthOf, numbered, passesIn, endRowOf, asksOf, asks, allRows, Trace}
 use Rattle.readings.specs.Answers.{refused, readerRefusal, rowAsked}

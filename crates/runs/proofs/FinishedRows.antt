@@ -10,14 +10,14 @@ use lib.ListN.{length, getD, length-append}
 use Rattle.field.specs.Modulus.{P}
 use Rattle.field.specs.Cells.{reduced}
 use Rattle.groups.specs.Answer.{pick}
-use Rattle.records.specs.declared.profile.Profile.{Profile}
-use Rattle.records.specs.declared.replay.DecoderState.{DecoderState}
-use Rattle.records.specs.Forests.{Forest}
-use Rattle.records.specs.Profiles.{twoEqual, profileWrong}
-use Rattle.passes.specs.Buffers.{lastRow, h4Of}
-use Rattle.passes.specs.Passes.{fixedUp, opcodeOf, multiplied, inverted, haltRow, halted, paddingRows, padded}
-use Rattle.passes.proofs.RowLists.{Wide, wide-app}
-use Rattle.passes.proofs.FirstRows.{Cells25}
+use Rattle.rows.specs.declared.records.profile.Profile.{Profile}
+use Rattle.rows.specs.declared.records.replay.DecoderState.{DecoderState}
+use Rattle.rows.specs.records.Forests.{Forest}
+use Rattle.rows.specs.records.Profiles.{twoEqual, profileWrong}
+use Rattle.rows.specs.passes.Buffers.{lastRow, h4Of}
+use Rattle.rows.specs.passes.Passes.{fixedUp, opcodeOf, multiplied, inverted, haltRow, halted, paddingRows, padded}
+use Rattle.rows.proofs.passes.RowLists.{Wide, wide-app}
+use Rattle.rows.proofs.passes.FirstRows.{Cells25}
 use Rattle.readings.specs.Tokens.{Token, countOf, tokenOf, tokensOf}
 use Rattle.readings.specs.Readings.{numbered, OnlyHalts, Halts, Word, depthOf, Ask, asks, Meets, AllMet, Reading}
 use Rattle.runs.specs.Happened.{Cycle}

@@ -10,27 +10,27 @@ use lib.ListN.{length, drop, getD, length-append, drop-of-length-le}
 use Rattle.groups.specs.Answer.{Answer, accepted, refused, pick}
 use Rattle.groups.specs.Batches.{batchAt}
 use Rattle.groups.specs.declared.batch.Batch.{Batch}
-use Rattle.records.specs.declared.profile.Profile.{Profile}
-use Rattle.records.specs.declared.forest.Node.{Node}
-use Rattle.records.specs.declared.replay.DecoderState.{DecoderState}
-use Rattle.records.specs.declared.continuation.Continuation.{Continuation}
-use Rattle.records.specs.declared.continuation.StoredValues.{StoredValues}
-use Rattle.rows.specs.declared.made.MadeRow.{MadeRow}
-use Rattle.rows.specs.declared.tracer.StoredContinuation.{StoredContinuation}
-use Rattle.rows.specs.declared.tracer.CoreTraceGenerationTracer.{CoreTraceGenerationTracer}
-use Rattle.records.specs.Forests.{Forest, nodeAt, opcodeAt, blockOf}
-use Rattle.records.specs.Addresses.{Queues, startedAt, endAt, readState}
+use Rattle.rows.specs.declared.records.profile.Profile.{Profile}
+use Rattle.rows.specs.declared.records.forest.Node.{Node}
+use Rattle.rows.specs.declared.records.replay.DecoderState.{DecoderState}
+use Rattle.rows.specs.declared.records.continuation.Continuation.{Continuation}
+use Rattle.rows.specs.declared.records.continuation.StoredValues.{StoredValues}
+use Rattle.rows.specs.declared.cycles.made.MadeRow.{MadeRow}
+use Rattle.rows.specs.declared.cycles.tracer.StoredContinuation.{StoredContinuation}
+use Rattle.rows.specs.declared.cycles.tracer.CoreTraceGenerationTracer.{CoreTraceGenerationTracer}
+use Rattle.rows.specs.records.Forests.{Forest, nodeAt, opcodeAt, blockOf}
+use Rattle.rows.specs.records.Addresses.{Queues, startedAt, endAt, readState}
 use Rattle.field.specs.Bounds.{anyFrom}
 use Rattle.field.specs.Cells.{reduced}
-use Rattle.rows.specs.Scans.{anyBigOpcode}
-use Rattle.rows.specs.Made.{Place, conditionOf}
-use Rattle.records.specs.DecoderRows.{decoderCells}
-use Rattle.records.specs.Built.{systemCells, stackCells}
-use Rattle.records.specs.Cells.{rowCells, putRow}
-use Rattle.passes.specs.Buffers.{flat}
-use Rattle.passes.specs.Passes.{sumOf}
-use Rattle.rows.specs.Cycles.{fresh, storing, storedIn, tracerAfter, fragmentAfter, finalState, lastSystem, lastStack}
-use Rattle.passes.proofs.RowLists.{Wide, wide-app, flat-app, put-behind}
+use Rattle.rows.specs.cycles.Scans.{anyBigOpcode}
+use Rattle.rows.specs.cycles.Made.{Place, conditionOf}
+use Rattle.rows.specs.records.DecoderRows.{decoderCells}
+use Rattle.rows.specs.records.Built.{systemCells, stackCells}
+use Rattle.rows.specs.records.Cells.{rowCells, putRow}
+use Rattle.rows.specs.passes.Buffers.{flat}
+use Rattle.rows.specs.passes.Passes.{sumOf}
+use Rattle.rows.specs.cycles.Cycles.{fresh, storing, storedIn, tracerAfter, fragmentAfter, finalState, lastSystem, lastStack}
+use Rattle.rows.proofs.passes.RowLists.{Wide, wide-app, flat-app, put-behind}
 use Rattle.runs.specs.Calls.{Handed, Call, store, finish, Fragment, Held, answered, after, numberOf, afterAll, Accepted, opened, closed, placeOf, AllAccepted, finalStates, cellsOf, countsOf, OneSize}
 use Rattle.runs.specs.Happened.{Ending, Did, Cycle, InForce, nothingStored, orNothing, startOf, operationAt, finishOf, didBy, didStored, did, stored, leftBy, inForceAfter, inForceAfterAll, cyclesIn, cyclesOf}
 use Rattle.runs.specs.Written.{rowMade, rowsIn, rowsRun}

@@ -6,8 +6,8 @@ use mathlib.Core.Logic.{_⊎_, inl, inr}
 use Prim.Native.Nat.{ℕ, zero, suc}
 use native.Mathlib.Omega.{arith}
 use lib.ListN.{length, getD}
-use Rattle.records.specs.declared.profile.Profile.{Profile}
-use Rattle.records.specs.Forests.{Forest}
+use Rattle.rows.specs.declared.records.profile.Profile.{Profile}
+use Rattle.rows.specs.records.Forests.{Forest}
 use Rattle.readings.specs.Tokens.{OneChild, split, call, syscall, Kind}
 use Rattle.readings.proofs.Examples.{profile}
 use Rattle.runs.specs.Happened.{Ending, Did, started, operated, respanned, repeated, finished, Cycle}

@@ -10,23 +10,23 @@ use lib.Dec.{leb, ltb, eqb}
 use lib.ListN.{length, replicate, length-replicate}
 use Rattle.groups.specs.Answer.{Answer, accepted, andThen, number}
 use Rattle.groups.specs.declared.helpers.OperationHelperRegisters.{OperationHelperRegisters}
-use Rattle.records.specs.declared.profile.Profile.{Profile}
-use Rattle.records.specs.declared.state.StackState.{StackState}
-use Rattle.records.specs.declared.continuation.Continuation.{Continuation}
-use Rattle.records.specs.declared.continuation.StoredValues.{StoredValues}
-use Rattle.rows.specs.declared.made.MadeRow.{MadeRow}
-use Rattle.rows.specs.declared.tracer.StoredContinuation.{StoredContinuation}
-use Rattle.rows.specs.declared.tracer.CoreTraceGenerationTracer.{CoreTraceGenerationTracer}
-use Rattle.records.specs.Forests.{Forest}
-use Rattle.records.specs.Addresses.{Queues, readState}
-use Rattle.records.specs.Profiles.{profileWrong}
-use Rattle.rows.specs.Scans.{anyBigOpcode, forestTooLarge, scanOf}
-use Rattle.records.specs.Cells.{fragmentWrong}
-use Rattle.rows.specs.Made.{Place, place, made}
-use Rattle.rows.specs.Cycles.{fresh, continuationOf, refuseIf, cycleWith, cycle}
-use Rattle.passes.specs.Passes.{fixedUp, builtOf}
-use Rattle.passes.proofs.Checks.{neither}
-use Rattle.passes.proofs.RowLists.{length-put}
+use Rattle.rows.specs.declared.records.profile.Profile.{Profile}
+use Rattle.rows.specs.declared.records.state.StackState.{StackState}
+use Rattle.rows.specs.declared.records.continuation.Continuation.{Continuation}
+use Rattle.rows.specs.declared.records.continuation.StoredValues.{StoredValues}
+use Rattle.rows.specs.declared.cycles.made.MadeRow.{MadeRow}
+use Rattle.rows.specs.declared.cycles.tracer.StoredContinuation.{StoredContinuation}
+use Rattle.rows.specs.declared.cycles.tracer.CoreTraceGenerationTracer.{CoreTraceGenerationTracer}
+use Rattle.rows.specs.records.Forests.{Forest}
+use Rattle.rows.specs.records.Addresses.{Queues, readState}
+use Rattle.rows.specs.records.Profiles.{profileWrong}
+use Rattle.rows.specs.cycles.Scans.{anyBigOpcode, forestTooLarge, scanOf}
+use Rattle.rows.specs.records.Cells.{fragmentWrong}
+use Rattle.rows.specs.cycles.Made.{Place, place, made}
+use Rattle.rows.specs.cycles.Cycles.{fresh, continuationOf, refuseIf, cycleWith, cycle}
+use Rattle.rows.specs.passes.Passes.{fixedUp, builtOf}
+use Rattle.rows.proofs.passes.Checks.{neither}
+use Rattle.rows.proofs.passes.RowLists.{length-put}
 use Rattle.runs.specs.Calls.{Handed, Call, store, finish, Fragment, Held, answered, after, numberOf, afterAll, Accepted, opened, closed, placeOf, AllAccepted, finalStates, countsOf, builtCells, OneSize}
 use Rattle.runs.specs.SameCalls.{allCalls, inOne, cyclesAmong}
 use Rattle.runs.specs.Happened.{InForce}

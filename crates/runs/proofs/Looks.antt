@@ -12,17 +12,17 @@ use Rattle.field.specs.Modulus.{P}
 use Rattle.field.specs.Cells.{cellAt, reduced}
 use Rattle.field.proofs.CellLaws.{read-twice, read-small}
 use Rattle.groups.specs.Answer.{pick}
-use Rattle.records.specs.declared.profile.Profile.{Profile}
-use Rattle.records.specs.declared.replay.DecoderState.{DecoderState}
-use Rattle.records.specs.declared.decoder_row.DecoderRow.{DecoderRow}
-use Rattle.records.specs.declared.state.SystemCols.{SystemCols}
-use Rattle.records.specs.declared.state.StackCols.{StackCols}
-use Rattle.records.specs.Profiles.{opcodes, profileWrong}
-use Rattle.records.specs.DecoderRows.{bit, opBits, decoderCells}
-use Rattle.records.specs.Built.{systemCells, stackCells}
-use Rattle.records.specs.Cells.{rowCells}
-use Rattle.passes.specs.Buffers.{addrOf, h4Of}
-use Rattle.passes.specs.Passes.{lowBits, opcodeOf}
+use Rattle.rows.specs.declared.records.profile.Profile.{Profile}
+use Rattle.rows.specs.declared.records.replay.DecoderState.{DecoderState}
+use Rattle.rows.specs.declared.records.decoder_row.DecoderRow.{DecoderRow}
+use Rattle.rows.specs.declared.records.state.SystemCols.{SystemCols}
+use Rattle.rows.specs.declared.records.state.StackCols.{StackCols}
+use Rattle.rows.specs.records.Profiles.{opcodes, profileWrong}
+use Rattle.rows.specs.records.DecoderRows.{bit, opBits, decoderCells}
+use Rattle.rows.specs.records.Built.{systemCells, stackCells}
+use Rattle.rows.specs.records.Cells.{rowCells}
+use Rattle.rows.specs.passes.Buffers.{addrOf, h4Of}
+use Rattle.rows.specs.passes.Passes.{lowBits, opcodeOf}
 use Rattle.readings.specs.Tokens.{OneChild, Kind, Token, opcodeOfKind, controlToken, isOpOpcode, opToken, countOf, allBits, tokenOf}
 use Rattle.readings.proofs.TokenLaws.{kind-token, respan-token, repeat-token, end-token, halt-token}
 use Rattle.runs.specs.Happened.{Did, Cycle}

@@ -7,10 +7,10 @@ use native.Mathlib.Omega.{arith}
 use borrow.Author.Tests.{leb-false, eqb-false, ne-eqb, not-true}
 use lib.Dec.{leb, eqb}
 use lib.ListN.{length, getD}
-use Rattle.records.specs.declared.profile.Profile.{Profile}
+use Rattle.rows.specs.declared.records.profile.Profile.{Profile}
 use Rattle.field.specs.Bounds.{anyFrom}
-use Rattle.records.specs.Profiles.{opcodes, isOneOf, twoEqual, profileWrong}
-use Rattle.passes.proofs.Checks.{neither}
+use Rattle.rows.specs.records.Profiles.{opcodes, isOneOf, twoEqual, profileWrong}
+use Rattle.rows.proofs.passes.Checks.{neither}
 use Rattle.readings.specs.Tokens.{controls, controlOpcodes, isOpOpcode}
 
 -- numbers below a limit

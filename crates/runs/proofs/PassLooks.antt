@@ -14,15 +14,15 @@ use Rattle.field.specs.Cells.{cellAt, reduced}
 use Rattle.field.specs.Inverse.{inverseOf}
 use Rattle.field.proofs.CellLaws.{read-small, length-reduced, reduced-take, reduced-drop, cell-take, cell-drop}
 use Rattle.groups.specs.Answer.{pick}
-use Rattle.records.specs.declared.profile.Profile.{Profile}
-use Rattle.records.specs.Profiles.{opcodes, profileWrong}
-use Rattle.records.specs.DecoderRows.{noWord, controlFlow, decoderCells}
-use Rattle.records.specs.Built.{reversed16, noSystem, noStack, systemCells, stackCells}
-use Rattle.records.specs.Cells.{rowCells}
-use Rattle.passes.specs.Buffers.{addrOf, h4Of}
-use Rattle.passes.specs.Passes.{withSides, firstRow, laterRows, fixedUp, lowBits, opcodeOf, flaggedEnd, bodyEnds, withCounts, multiplied, inverted, firstHalf, haltDecoder, haltStack, haltRow, paddingRow, paddingRows}
-use Rattle.passes.proofs.RowLists.{Wide}
-use Rattle.passes.proofs.FirstRows.{Cells25}
+use Rattle.rows.specs.declared.records.profile.Profile.{Profile}
+use Rattle.rows.specs.records.Profiles.{opcodes, profileWrong}
+use Rattle.rows.specs.records.DecoderRows.{noWord, controlFlow, decoderCells}
+use Rattle.rows.specs.records.Built.{reversed16, noSystem, noStack, systemCells, stackCells}
+use Rattle.rows.specs.records.Cells.{rowCells}
+use Rattle.rows.specs.passes.Buffers.{addrOf, h4Of}
+use Rattle.rows.specs.passes.Passes.{withSides, firstRow, laterRows, fixedUp, lowBits, opcodeOf, flaggedEnd, bodyEnds, withCounts, multiplied, inverted, firstHalf, haltDecoder, haltStack, haltRow, paddingRow, paddingRows}
+use Rattle.rows.proofs.passes.RowLists.{Wide}
+use Rattle.rows.proofs.passes.FirstRows.{Cells25}
 use Rattle.readings.specs.Tokens.{Token, controlToken, opToken, countOf, allBits, tokenOf}
 use Rattle.reductions.proofs.CellsBelow.{ends-most}
 use Rattle.runs.proofs.Opcodes.{apart-at}

@@ -8,15 +8,15 @@ use lib.Dec.{ltb, eqb}
 use lib.ListN.{length, take}
 use Rattle.field.specs.Modulus.{P}
 use Rattle.field.specs.Bounds.{anyFrom}
-use Rattle.records.specs.declared.profile.Profile.{Profile}
-use Rattle.records.specs.declared.continuation.StoredValues.{StoredValues}
-use Rattle.records.specs.Profiles.{profileWrong}
-use Rattle.records.specs.Addresses.{Queues}
-use Rattle.rows.specs.declared.tracer.StoredContinuation.{StoredContinuation}
-use Rattle.rows.specs.Made.{Place}
-use Rattle.passes.specs.Buffers.{rowsOf, onRows}
-use Rattle.passes.specs.Passes.{fixedUp, builtOf, halted, sumOf, lastBuilt, firstOf, fragmentsWrong, noFragment, notFull, bufferWrong, fewerRows, heightWrong, loopWithoutBody, unlessRefused, refusal1, refusal2, refusal3, refusal4, refusal5, refusalAll, allPasses}
-use Rattle.passes.proofs.Checks.{none-first}
+use Rattle.rows.specs.declared.records.profile.Profile.{Profile}
+use Rattle.rows.specs.declared.records.continuation.StoredValues.{StoredValues}
+use Rattle.rows.specs.records.Profiles.{profileWrong}
+use Rattle.rows.specs.records.Addresses.{Queues}
+use Rattle.rows.specs.declared.cycles.tracer.StoredContinuation.{StoredContinuation}
+use Rattle.rows.specs.cycles.Made.{Place}
+use Rattle.rows.specs.passes.Buffers.{rowsOf, onRows}
+use Rattle.rows.specs.passes.Passes.{fixedUp, builtOf, halted, sumOf, lastBuilt, firstOf, fragmentsWrong, noFragment, notFull, bufferWrong, fewerRows, heightWrong, loopWithoutBody, unlessRefused, refusal1, refusal2, refusal3, refusal4, refusal5, refusalAll, allPasses}
+use Rattle.rows.proofs.passes.Checks.{none-first}
 use Rattle.reductions.specs.Below.{Below}
 use Rattle.reductions.specs.BeforeN2.{LentBelow, calleeCells, infoCells, cycleCells, cycleBefore, rowsBig}
 use Rattle.reductions.proofs.SameCycles.{same-readCaptured, same-cycle}

@@ -4,10 +4,10 @@ use mathlib.Core.Bool.{Bool}
 use mathlib.Core.List.{List, [], _∷_, _++_}
 use Prim.Native.Nat.{ℕ, suc}
 use Rattle.groups.specs.declared.batch.Block.{Block}
-use Rattle.records.specs.declared.profile.Profile.{Profile}
-use Rattle.records.specs.declared.replay.DecoderState.{DecoderState}
-use Rattle.records.specs.Forests.{Forest}
-use Rattle.records.specs.Addresses.{respanStep}
+use Rattle.rows.specs.declared.records.profile.Profile.{Profile}
+use Rattle.rows.specs.declared.records.replay.DecoderState.{DecoderState}
+use Rattle.rows.specs.records.Forests.{Forest}
+use Rattle.rows.specs.records.Addresses.{respanStep}
 use Rattle.readings.specs.Tokens.{Kind, Token}
 use Rattle.readings.specs.Readings.{Row, numbered, spellOps, spell, spellPasses}
 use Rattle.runs.specs.Happened.{Cycle}

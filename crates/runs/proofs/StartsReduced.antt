@@ -6,14 +6,14 @@ use Prim.Native.Nat.{ℕ, _%_}
 use Rattle.field.specs.Modulus.{P}
 use Rattle.field.specs.Cells.{reduced}
 use Rattle.groups.specs.Answer.{Answer, accepted, refused, pick}
-use Rattle.records.specs.declared.forest.Node.{Node}
-use Rattle.records.specs.declared.replay.DecoderState.{DecoderState}
-use Rattle.records.specs.declared.replay.Positions.{Positions}
-use Rattle.records.specs.declared.continuation.Continuation.{Continuation}
-use Rattle.rows.specs.declared.tracer.StoredContinuation.{StoredContinuation}
-use Rattle.records.specs.Forests.{Forest, nodeAt}
-use Rattle.records.specs.Addresses.{Queues, startedAt, endAt}
-use Rattle.rows.specs.Made.{conditionOf}
+use Rattle.rows.specs.declared.records.forest.Node.{Node}
+use Rattle.rows.specs.declared.records.replay.DecoderState.{DecoderState}
+use Rattle.rows.specs.declared.records.replay.Positions.{Positions}
+use Rattle.rows.specs.declared.records.continuation.Continuation.{Continuation}
+use Rattle.rows.specs.declared.cycles.tracer.StoredContinuation.{StoredContinuation}
+use Rattle.rows.specs.records.Forests.{Forest, nodeAt}
+use Rattle.rows.specs.records.Addresses.{Queues, startedAt, endAt}
+use Rattle.rows.specs.cycles.Made.{conditionOf}
 use Rattle.runs.specs.Calls.{Call, store, finish, Fragment}
 use Rattle.runs.specs.Happened.{Ending, Did, Cycle, InForce, nothingStored, orNothing, startOf, operationAt, finishOf, didBy, didStored, stored, leftBy, inForceAfter, inForceAfterAll, cyclesIn, cyclesOf}
 use Rattle.runs.specs.ProperRuns.{withLoop, loopStarts}

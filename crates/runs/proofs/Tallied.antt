@@ -7,9 +7,9 @@ use native.Mathlib.Omega.{arith}
 use borrow.Author.Tests.{eq-eqb, eqb-false, ne-eqb}
 use lib.Dec.{eqb}
 use Rattle.groups.specs.Answer.{pick}
-use Rattle.records.specs.Profiles.{isOneOf, twoEqual}
-use Rattle.records.specs.DecoderRows.{bit}
-use Rattle.passes.proofs.Checks.{neither}
+use Rattle.rows.specs.records.Profiles.{isOneOf, twoEqual}
+use Rattle.rows.specs.records.DecoderRows.{bit}
+use Rattle.rows.proofs.passes.Checks.{neither}
 use Rattle.readings.specs.Readings.{Ask}
 use Rattle.runs.proofs.Looks.{Mark, none, flag, count, Seen, seen}
 

@@ -9,17 +9,17 @@ use lib.Dec.{leb, ltb, eqb}
 use lib.ListN.{length, take, drop, length-take, length-drop}
 use lib.Seq.{take-at}
 use Rattle.groups.specs.declared.batch.Block.{Block}
-use Rattle.records.specs.declared.profile.Profile.{Profile}
-use Rattle.records.specs.Forests.{Forest}
-use Rattle.records.specs.Addresses.{Queues, readState}
+use Rattle.rows.specs.declared.records.profile.Profile.{Profile}
+use Rattle.rows.specs.records.Forests.{Forest}
+use Rattle.rows.specs.records.Addresses.{Queues, readState}
 use Rattle.field.proofs.CellLaws.{length-reduced}
-use Rattle.records.specs.Profiles.{profileWrong}
-use Rattle.rows.specs.Made.{Place}
-use Rattle.passes.specs.Buffers.{rowsOf, flat, onRows}
-use Rattle.passes.specs.Passes.{fixedUp, builtOf, multiplied, inverted, halted, padded, sumOf, anyAbove, bufferWrong, fewerRows, noFragment, fragmentsWrong, heightWrong, firstOf, lastBuilt, refusal1, refusal2, refusal5, unlessRefused, refusalAll, allPasses}
-use Rattle.passes.proofs.Checks.{neither, none-first}
-use Rattle.passes.proofs.RowLists.{Wide, length-flat, rows-flat}
-use Rattle.passes.proofs.FirstRows.{Cells25}
+use Rattle.rows.specs.records.Profiles.{profileWrong}
+use Rattle.rows.specs.cycles.Made.{Place}
+use Rattle.rows.specs.passes.Buffers.{rowsOf, flat, onRows}
+use Rattle.rows.specs.passes.Passes.{fixedUp, builtOf, multiplied, inverted, halted, padded, sumOf, anyAbove, bufferWrong, fewerRows, noFragment, fragmentsWrong, heightWrong, firstOf, lastBuilt, refusal1, refusal2, refusal5, unlessRefused, refusalAll, allPasses}
+use Rattle.rows.proofs.passes.Checks.{neither, none-first}
+use Rattle.rows.proofs.passes.RowLists.{Wide, length-flat, rows-flat}
+use Rattle.rows.proofs.passes.FirstRows.{Cells25}
 use Rattle.readings.specs.Readings.{bufferRefusal, allRows, Trace}
 use Rattle.runs.specs.Calls.{Fragment}
 use Rattle.runs.specs.Happened.{Cycle, cyclesOf}

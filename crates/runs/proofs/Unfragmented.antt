@@ -11,23 +11,23 @@ use lib.ListN.{length, take, drop}
 use Rattle.field.specs.Cells.{cellAt, reduced}
 use Rattle.field.proofs.CellLaws.{reduced-twice}
 use Rattle.groups.specs.Answer.{Answer, accepted, refused}
-use Rattle.records.specs.declared.profile.Profile.{Profile}
-use Rattle.records.specs.declared.decoder_row.DecoderRow.{DecoderRow}
-use Rattle.records.specs.declared.state.SystemCols.{SystemCols}
-use Rattle.records.specs.declared.state.StackCols.{StackCols}
-use Rattle.records.specs.declared.continuation.Continuation.{Continuation}
-use Rattle.records.specs.declared.continuation.StoredValues.{StoredValues}
-use Rattle.rows.specs.declared.made.MadeRow.{MadeRow}
-use Rattle.rows.specs.declared.tracer.StoredContinuation.{StoredContinuation}
-use Rattle.rows.specs.declared.tracer.CoreTraceGenerationTracer.{CoreTraceGenerationTracer}
-use Rattle.rows.specs.declared.tracer.TracerFinalState.{TracerFinalState}
-use Rattle.records.specs.Addresses.{Queues, readState}
-use Rattle.rows.specs.Made.{Place}
-use Rattle.records.specs.DecoderRows.{decoderCells}
-use Rattle.records.specs.Built.{builtSystem, builtStack, noSystem, noStack, readSystem, readStack, systemCells, stackCells}
-use Rattle.records.specs.Cells.{rowCells}
-use Rattle.rows.specs.Cycles.{fresh, tracerAfter, finalState, lastSystem, lastStack}
-use Rattle.passes.specs.Passes.{withSides, firstRow, laterRows, fixedUp, builtOf}
+use Rattle.rows.specs.declared.records.profile.Profile.{Profile}
+use Rattle.rows.specs.declared.records.decoder_row.DecoderRow.{DecoderRow}
+use Rattle.rows.specs.declared.records.state.SystemCols.{SystemCols}
+use Rattle.rows.specs.declared.records.state.StackCols.{StackCols}
+use Rattle.rows.specs.declared.records.continuation.Continuation.{Continuation}
+use Rattle.rows.specs.declared.records.continuation.StoredValues.{StoredValues}
+use Rattle.rows.specs.declared.cycles.made.MadeRow.{MadeRow}
+use Rattle.rows.specs.declared.cycles.tracer.StoredContinuation.{StoredContinuation}
+use Rattle.rows.specs.declared.cycles.tracer.CoreTraceGenerationTracer.{CoreTraceGenerationTracer}
+use Rattle.rows.specs.declared.cycles.tracer.TracerFinalState.{TracerFinalState}
+use Rattle.rows.specs.records.Addresses.{Queues, readState}
+use Rattle.rows.specs.cycles.Made.{Place}
+use Rattle.rows.specs.records.DecoderRows.{decoderCells}
+use Rattle.rows.specs.records.Built.{builtSystem, builtStack, noSystem, noStack, readSystem, readStack, systemCells, stackCells}
+use Rattle.rows.specs.records.Cells.{rowCells}
+use Rattle.rows.specs.cycles.Cycles.{fresh, tracerAfter, finalState, lastSystem, lastStack}
+use Rattle.rows.specs.passes.Passes.{withSides, firstRow, laterRows, fixedUp, builtOf}
 use Rattle.runs.specs.Calls.{Handed, Call, store, finish, Fragment, Held, answered, after, numberOf, afterAll, Accepted, opened, closed, placeOf, AllAccepted, finalStates, countsOf, builtCells, OneSize}
 use Rattle.runs.specs.SameCalls.{allCalls, inOne}
 use Rattle.runs.specs.Happened.{InForce, did, stored, leftBy}

@@ -6,15 +6,15 @@ use Prim.Native.Nat.{ℕ, _+_, _*_, _<_}
 use native.Mathlib.Omega.{arith}
 use lib.ListN.{length, take}
 use Rattle.field.specs.Cells.{reduced}
-use Rattle.records.specs.declared.profile.Profile.{Profile}
-use Rattle.rows.specs.declared.tracer.CoreTraceGenerationTracer.{CoreTraceGenerationTracer}
-use Rattle.rows.specs.declared.made.MadeRow.{MadeRow}
+use Rattle.rows.specs.declared.records.profile.Profile.{Profile}
+use Rattle.rows.specs.declared.cycles.tracer.CoreTraceGenerationTracer.{CoreTraceGenerationTracer}
+use Rattle.rows.specs.declared.cycles.made.MadeRow.{MadeRow}
 use Rattle.groups.specs.Answer.{Answer, accepted, refused}
-use Rattle.records.specs.Addresses.{Queues}
-use Rattle.records.specs.Cells.{rowCells}
-use Rattle.rows.specs.Made.{Place}
-use Rattle.passes.specs.Buffers.{flat}
-use Rattle.passes.specs.Passes.{allPasses}
+use Rattle.rows.specs.records.Addresses.{Queues}
+use Rattle.rows.specs.records.Cells.{rowCells}
+use Rattle.rows.specs.cycles.Made.{Place}
+use Rattle.rows.specs.passes.Buffers.{flat}
+use Rattle.rows.specs.passes.Passes.{allPasses}
 use Rattle.runs.specs.Calls.{Call, store, finish, Fragment, Held, answered, after, opened, closed, placeOf, AllAccepted, finalStates, countsOf, OneSize}
 use Rattle.runs.specs.Written.{rowMade, rowsIn, rowsRun}
 use Rattle.runs.specs.Finished.{finisherBuffer, runCounts, runBuilt, runBuffer, writtenByFive, writtenByFinisher, FivePass, FinisherPasses}

@@ -6,18 +6,18 @@ use Prim.Native.Nat.{ℕ, _*_}
 use lib.ListN.{length}
 use Rattle.groups.specs.Answer.{Answer, number}
 use Rattle.groups.specs.declared.helpers.OperationHelperRegisters.{OperationHelperRegisters}
-use Rattle.records.specs.declared.profile.Profile.{Profile}
-use Rattle.records.specs.declared.state.SystemState.{SystemState}
-use Rattle.records.specs.declared.state.StackState.{StackState}
-use Rattle.records.specs.declared.continuation.StoredValues.{StoredValues}
-use Rattle.rows.specs.declared.made.MadeRow.{MadeRow}
-use Rattle.rows.specs.declared.tracer.CoreTraceGenerationTracer.{CoreTraceGenerationTracer}
-use Rattle.rows.specs.declared.tracer.TracerFinalState.{TracerFinalState}
-use Rattle.records.specs.Forests.{Forest}
-use Rattle.records.specs.Addresses.{Queues}
-use Rattle.records.specs.Built.{systemCells, stackCells}
-use Rattle.rows.specs.Made.{Place, place}
-use Rattle.rows.specs.Cycles.{fresh, storedIn, cycle, tracerAfter, fragmentAfter, finalState}
+use Rattle.rows.specs.declared.records.profile.Profile.{Profile}
+use Rattle.rows.specs.declared.records.state.SystemState.{SystemState}
+use Rattle.rows.specs.declared.records.state.StackState.{StackState}
+use Rattle.rows.specs.declared.records.continuation.StoredValues.{StoredValues}
+use Rattle.rows.specs.declared.cycles.made.MadeRow.{MadeRow}
+use Rattle.rows.specs.declared.cycles.tracer.CoreTraceGenerationTracer.{CoreTraceGenerationTracer}
+use Rattle.rows.specs.declared.cycles.tracer.TracerFinalState.{TracerFinalState}
+use Rattle.rows.specs.records.Forests.{Forest}
+use Rattle.rows.specs.records.Addresses.{Queues}
+use Rattle.rows.specs.records.Built.{systemCells, stackCells}
+use Rattle.rows.specs.cycles.Made.{Place, place}
+use Rattle.rows.specs.cycles.Cycles.{fresh, storedIn, cycle, tracerAfter, fragmentAfter, finalState}
 
 -- what a cycle is handed: its own forest, the states and the helper registers
 pub record Handed : Type 0 where

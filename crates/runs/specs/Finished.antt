@@ -5,13 +5,13 @@ use mathlib.Core.Bool.{false}
 use mathlib.Core.List.{List, [], _++_}
 use Prim.Native.Nat.{ℕ, _+_, _-_, _*_, _≤_}
 use lib.ListN.{length, take}
-use Rattle.records.specs.declared.profile.Profile.{Profile}
-use Rattle.records.specs.Forests.{Forest}
-use Rattle.records.specs.Addresses.{Queues}
-use Rattle.records.specs.Profiles.{twoEqual}
-use Rattle.rows.specs.Made.{Place}
-use Rattle.passes.specs.Buffers.{onRows}
-use Rattle.passes.specs.Passes.{fixedUp, builtOf, multiplied, inverted, halted, padded, sumOf, lastBuilt, refusal1, refusal2, refusal3, refusal4, refusal5, unlessRefused, refusalAll, allPasses}
+use Rattle.rows.specs.declared.records.profile.Profile.{Profile}
+use Rattle.rows.specs.records.Forests.{Forest}
+use Rattle.rows.specs.records.Addresses.{Queues}
+use Rattle.rows.specs.records.Profiles.{twoEqual}
+use Rattle.rows.specs.cycles.Made.{Place}
+use Rattle.rows.specs.passes.Buffers.{onRows}
+use Rattle.rows.specs.passes.Passes.{fixedUp, builtOf, multiplied, inverted, halted, padded, sumOf, lastBuilt, refusal1, refusal2, refusal3, refusal4, refusal5, unlessRefused, refusalAll, allPasses}
 use Rattle.readings.specs.Readings as readings
 use Rattle.runs.specs.Calls.{Fragment, AllAccepted, finalStates, cellsOf, countsOf, builtCells, OneSize}
 use Rattle.runs.specs.Happened.{cyclesOf}

@@ -5,21 +5,21 @@ use mathlib.Core.List.{List, [], _∷_, _++_}
 use Prim.Native.Nat.{ℕ}
 use Rattle.groups.specs.Answer.{Answer, accepted, refused, andThen, pick}
 use Rattle.groups.specs.Batches.{batchAt}
-use Rattle.records.specs.declared.forest.Node.{Node}
-use Rattle.records.specs.declared.replay.Positions.{Positions}
-use Rattle.records.specs.declared.continuation.Continuation.{Continuation}
-use Rattle.records.specs.declared.continuation.Captured.{Captured}
-use Rattle.records.specs.declared.continuation.LoopCondition.{LoopCondition}
-use Rattle.records.specs.declared.continuation.CalleeWord.{CalleeWord}
-use Rattle.records.specs.declared.continuation.ContextInfo.{ContextInfo}
-use Rattle.records.specs.declared.continuation.StoredValues.{StoredValues}
-use Rattle.records.specs.declared.continuation.Used.{Used}
-use Rattle.rows.specs.declared.tracer.StoredContinuation.{StoredContinuation}
-use Rattle.records.specs.Forests.{Forest, nodeAt, opcodeAt, blockOf}
-use Rattle.records.specs.Addresses.{Queues, startedAt, afterStart, endAt, afterEnd}
-use Rattle.records.specs.Captured.{readCaptured}
-use Rattle.rows.specs.Made.{conditionOf}
-use Rattle.rows.specs.Cycles.{leftAfter}
+use Rattle.rows.specs.declared.records.forest.Node.{Node}
+use Rattle.rows.specs.declared.records.replay.Positions.{Positions}
+use Rattle.rows.specs.declared.records.continuation.Continuation.{Continuation}
+use Rattle.rows.specs.declared.records.continuation.Captured.{Captured}
+use Rattle.rows.specs.declared.records.continuation.LoopCondition.{LoopCondition}
+use Rattle.rows.specs.declared.records.continuation.CalleeWord.{CalleeWord}
+use Rattle.rows.specs.declared.records.continuation.ContextInfo.{ContextInfo}
+use Rattle.rows.specs.declared.records.continuation.StoredValues.{StoredValues}
+use Rattle.rows.specs.declared.records.continuation.Used.{Used}
+use Rattle.rows.specs.declared.cycles.tracer.StoredContinuation.{StoredContinuation}
+use Rattle.rows.specs.records.Forests.{Forest, nodeAt, opcodeAt, blockOf}
+use Rattle.rows.specs.records.Addresses.{Queues, startedAt, afterStart, endAt, afterEnd}
+use Rattle.rows.specs.records.Captured.{readCaptured}
+use Rattle.rows.specs.cycles.Made.{conditionOf}
+use Rattle.rows.specs.cycles.Cycles.{leftAfter}
 use Rattle.readings.specs.Tokens.{split, call, syscall, dyn, dyncall, Kind}
 use Rattle.runs.specs.Calls.{Call, store, finish, Fragment}
 

@@ -10,10 +10,10 @@ use Rattle.groups.specs.Batches.{batchAt}
 use Rattle.groups.specs.declared.word.Word.{Word}
 use Rattle.groups.specs.declared.batch.Block.{Block}
 use Rattle.groups.specs.declared.batch.Batch.{Batch}
-use Rattle.records.specs.declared.ids.MastNodeId.{MastNodeId}
-use Rattle.records.specs.declared.profile.Profile.{Profile}
-use Rattle.records.specs.declared.forest.Node.{Node}
-use Rattle.records.specs.Forests.{Forest, nodeAt, nodeEntry, opcodeAt}
+use Rattle.rows.specs.declared.records.ids.MastNodeId.{MastNodeId}
+use Rattle.rows.specs.declared.records.profile.Profile.{Profile}
+use Rattle.rows.specs.declared.records.forest.Node.{Node}
+use Rattle.rows.specs.records.Forests.{Forest, nodeAt, nodeEntry, opcodeAt}
 use Rattle.readings.specs.Tokens.{OneChild, split, call, syscall, dyn, dyncall, Kind, isOpOpcode}
 use Rattle.readings.specs.Readings as readings
 use Rattle.runs.specs.Happened.{Ending, Did, started, operated, respanned, repeated, finished, Cycle}

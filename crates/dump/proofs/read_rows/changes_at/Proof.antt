@@ -9,7 +9,7 @@ use borrow.Author.Tests.{not-true, not-false, ltb-false}
 use lib.Dec.{ltb}
 use lib.ListN.{length}
 use denote.Ref.{now}
-use Rattle.passes.proofs.Checks.{neither}
+use Rattle.rows.proofs.passes.Checks.{neither}
 use Rattle.dump.proofs.RowLaws.{RowTo, row-none, row-all, row-end, line-more, line-stop}
 use Rattle.dump.proofs.read_rows.changes_at.Statement.{statement}
 use Rattle.dump.proofs.read_rows.changes_at.Tie as tie

@@ -1,0 +1,3 @@
+pub mod PartScans
+pub mod Picks
+pub mod Steps

@@ -1,0 +1,100 @@
+-- The cells of a buffer's row, and what rows of two buffers that are alike have in common.
+use mathlib.Core.Path.{_≡_, refl, sym, ap, _∙_}
+use mathlib.Core.Bool.{false, and-true, and-false}
+use mathlib.Core.List.{List, [], _∷_}
+use Prim.Native.Nat.{ℕ, zero, suc, _+_, _*_, _/_, _%_, _<_, _≤_}
+use native.Mathlib.Omega.{arith}
+use lib.Dec.{eqb}
+use lib.ListN.{length, getD, set, take, drop, length-set}
+use lib.Seq.{getD-take, getD-drop, getD-set-other}
+use borrow.Author.Tests.{eq-eqb, ne-eqb}
+use Rattle.field.specs.Modulus.{P}
+use Rattle.field.specs.Cells.{cellAt, reduced}
+use Rattle.field.proofs.CellLaws.{getD-reduced, reduced-take}
+use Rattle.rows.specs.declared.records.profile.Profile.{Profile}
+use Rattle.rows.specs.passes.Buffers.{h4Of}
+use Rattle.rows.specs.passes.Passes.{lowBits, opcodeOf, flaggedEnd}
+use Rattle.rows.specs.passes.LoopCounts.{rowAt, Alike}
+
+pub row-cell : (c : List ℕ) (i k : ℕ) → k < 49 → getD (rowAt i c) k 0 ≡ getD c (49 * i + k) 0
+unfolding rowAt
+row-cell c i k h = getD-take 49 (drop (49 * i) c) k 0 h ∙ getD-drop (49 * i) c k 0
+
+-- the same, as it is read
+pub row-read : (c : List ℕ) (i k : ℕ) → k < 49 → cellAt (rowAt i c) k ≡ cellAt c (49 * i + k)
+unfolding cellAt
+row-read c i k h = ap (λ x. x % P) (row-cell c i k h)
+
+seven : (l : List ℕ)
+    → lowBits (take 7 l) ≡ getD l 0 0 % 2 + 2 * (getD l 1 0 % 2) + 4 * (getD l 2 0 % 2) + 8 * (getD l 3 0 % 2) + 16 * (getD l 4 0 % 2) + 32 * (getD l 5 0 % 2) + 64 * (getD l 6 0 % 2)
+unfolding lowBits
+seven [] = refl
+seven (a ∷ []) = omega arith
+seven (a ∷ b ∷ []) = omega arith
+seven (a ∷ b ∷ c ∷ []) = omega arith
+seven (a ∷ b ∷ c ∷ d ∷ []) = omega arith
+seven (a ∷ b ∷ c ∷ d ∷ e ∷ []) = omega arith
+seven (a ∷ b ∷ c ∷ d ∷ e ∷ f ∷ []) = omega arith
+seven (a ∷ b ∷ c ∷ d ∷ e ∷ f ∷ g ∷ l) = omega arith
+
+bit : (c : List ℕ) (i k : ℕ) → 7 + k < 49 → getD (reduced (drop 7 (rowAt i c))) k 0 ≡ cellAt c (49 * i + (7 + k))
+unfolding cellAt
+bit c i k h = getD-reduced (drop 7 (rowAt i c)) k ∙ ap (λ x. x % P) (getD-drop 7 (rowAt i c) k 0 ∙ row-cell c i (7 + k) h)
+
+-- the opcode of row i from the buffer's cells
+pub opcode-cells : (c : List ℕ) (i : ℕ)
+    → opcodeOf (rowAt i c) ≡ cellAt c (49 * i + 7) % 2 + 2 * (cellAt c (49 * i + 8) % 2) + 4 * (cellAt c (49 * i + 9) % 2) + 8 * (cellAt c (49 * i + 10) % 2) + 16 * (cellAt c (49 * i + 11) % 2) + 32 * (cellAt c (49 * i + 12) % 2) + 64 * (cellAt c (49 * i + 13) % 2)
+unfolding opcodeOf
+opcode-cells c i =
+    ap lowBits (reduced-take 7 (drop 7 (rowAt i c))) ∙ seven (reduced (drop 7 (rowAt i c)))
+    ∙ rw (bit c i 0 (omega arith), bit c i 1 (omega arith), bit c i 2 (omega arith), bit c i 3 (omega arith), bit c i 4 (omega arith), bit c i 5 (omega arith), bit c i 6 (omega arith))
+
+drop-past : (n : ℕ) (c : List ℕ) → length c ≤ n → drop n c ≡ []
+drop-past zero [] h = refl
+drop-past zero (x ∷ c) h = absurd (omega arith)
+drop-past (suc n) [] h = refl
+drop-past (suc n) (x ∷ c) h = drop-past n c (omega arith)
+
+-- a row past the end has the opcode 0
+pub opcode-past : (c : List ℕ) (i : ℕ) → length c / 49 < i → 0 ≡ opcodeOf (rowAt i c)
+unfolding opcodeOf rowAt lowBits reduced
+opcode-past c i h = rw (drop-past (49 * i) c (omega arith)) refl
+
+pub flagged-yes : (p : Profile) (c : List ℕ) (i : ℕ) → cellAt c (49 * i + 18) ≡ 1 → flaggedEnd p (rowAt i c) ≡ eqb (opcodeOf (rowAt i c)) (p .end)
+unfolding flaggedEnd
+flagged-yes p c i e = rw (eq-eqb (h4Of (rowAt i c)) 1 (row-read c i 18 (omega arith) ∙ e)) (and-true (eqb (opcodeOf (rowAt i c)) (p .end)))
+
+pub flagged-no : (p : Profile) (c : List ℕ) (i : ℕ) → (cellAt c (49 * i + 18) ≡ 1 → ⊥) → flaggedEnd p (rowAt i c) ≡ false
+unfolding flaggedEnd
+flagged-no p c i n = rw (ne-eqb (h4Of (rowAt i c)) 1 (λ e. n (sym (row-read c i 18 (omega arith)) ∙ e))) (and-false (eqb (opcodeOf (rowAt i c)) (p .end)))
+
+pub alike-refl : (a : List ℕ) → Alike a a
+alike-refl a = record { size = refl; cells = λ i k h. refl }
+
+pub alike-trans : (a b c : List ℕ) → Alike a b → Alike b c → Alike a c
+alike-trans a b c g h = record { size = g .size ∙ h .size; cells = λ i k l. g .cells i k l ∙ h .cells i k l }
+
+-- another group_count changes no cell before it
+pub alike-set : (a b : List ℕ) (i v : ℕ) → Alike a b → Alike (set a (49 * i + 23) v) b
+alike-set a b i v g = record {
+  size = length-set a (49 * i + 23) v ∙ g .size;
+  cells = λ j k h. getD-set-other a (49 * i + 23) (49 * j + k) v 0 (λ e. omega arith) ∙ g .cells j k h;
+}
+
+module _ (a b : List ℕ) (g : Alike a b) (i : ℕ) where
+  read-alike : (k : ℕ) → k < 23 → cellAt a (49 * i + k) ≡ cellAt b (49 * i + k)
+  unfolding cellAt
+  read-alike k h = ap (λ x. x % P) (g .cells i k h)
+
+  pub cell-alike : (k : ℕ) → k < 23 → cellAt (rowAt i a) k ≡ cellAt (rowAt i b) k
+  cell-alike k h = row-read a i k (omega arith) ∙ read-alike k h ∙ sym (row-read b i k (omega arith))
+
+  pub opcode-alike : opcodeOf (rowAt i a) ≡ opcodeOf (rowAt i b)
+  opcode-alike =
+      opcode-cells a i
+      ∙ rw (read-alike 7 (omega arith), read-alike 8 (omega arith), read-alike 9 (omega arith), read-alike 10 (omega arith), read-alike 11 (omega arith), read-alike 12 (omega arith), read-alike 13 (omega arith))
+      (sym (opcode-cells b i))
+
+  pub flagged-alike : (p : Profile) → flaggedEnd p (rowAt i a) ≡ flaggedEnd p (rowAt i b)
+  unfolding flaggedEnd
+  flagged-alike p = rw (opcode-alike, cell-alike 18 (omega arith))

@@ -1,0 +1,3 @@
+pub mod Made
+pub mod Scans
+pub mod Cycles

@@ -1,0 +1,158 @@
+-- Document 01, "Entry: one cycle": storing, finishing and the final state.
+use mathlib.Core.Bool.{Bool, true, false, not, _||_}
+use mathlib.Core.List.{List, [], _∷_, _++_}
+use Prim.Native.Nat.{ℕ, zero, suc, _+_, _/_, _<_}
+use lib.Dec.{leb, ltb, eqb}
+use lib.ListN.{length}
+use Rattle.groups.specs.Answer.{Answer, accepted, refused, andThen, pick, number}
+use Rattle.groups.specs.declared.helpers.OperationHelperRegisters.{OperationHelperRegisters}
+use Rattle.rows.specs.declared.records.profile.Profile.{Profile}
+use Rattle.rows.specs.declared.records.replay.DecoderState.{DecoderState}
+use Rattle.rows.specs.declared.records.replay.Positions.{Positions}
+use Rattle.rows.specs.declared.records.state.SystemState.{SystemState}
+use Rattle.rows.specs.declared.records.state.StackState.{StackState}
+use Rattle.rows.specs.declared.records.state.SystemCols.{SystemCols}
+use Rattle.rows.specs.declared.records.state.StackCols.{StackCols}
+use Rattle.rows.specs.declared.records.continuation.Continuation.{Continuation}
+use Rattle.rows.specs.declared.records.continuation.LoopCondition.{LoopCondition}
+use Rattle.rows.specs.declared.records.continuation.CalleeWord.{CalleeWord}
+use Rattle.rows.specs.declared.records.continuation.ContextInfo.{ContextInfo}
+use Rattle.rows.specs.declared.records.continuation.Captured.{Captured}
+use Rattle.rows.specs.declared.records.continuation.StoredValues.{StoredValues}
+use Rattle.rows.specs.declared.records.continuation.Used.{Used}
+use Rattle.rows.specs.declared.cycles.made.MadeRow.{MadeRow}
+use Rattle.rows.specs.declared.cycles.made.Made.{Made}
+use Rattle.rows.specs.declared.cycles.scan.Scan.{Scan}
+use Rattle.rows.specs.declared.cycles.tracer.StoredContinuation.{StoredContinuation}
+use Rattle.rows.specs.declared.cycles.tracer.CoreTraceGenerationTracer.{CoreTraceGenerationTracer}
+use Rattle.rows.specs.declared.cycles.tracer.TracerFinalState.{TracerFinalState}
+use Rattle.rows.specs.records.Forests.{Forest}
+use Rattle.rows.specs.records.Addresses.{Queues, readState}
+use Rattle.rows.specs.records.Captured.{readCaptured}
+use Rattle.rows.specs.records.Built.{builtSystem, builtStack, noSystem, noStack, readSystem, readStack}
+use Rattle.rows.specs.cycles.Made.{place, made}
+use Rattle.rows.specs.records.Cells.{rowCells, putRow}
+use Rattle.rows.specs.cycles.Scans.{scanOf}
+use Rattle.rows.specs.records.Cells.{fragmentWrong}
+
+-- "a fresh tracer (nothing stored, no refusal, no row)"; the addresses are read (N2)
+unfoldable pub fresh : DecoderState → Positions → CoreTraceGenerationTracer
+fresh state at = record {
+  refusal = 0;
+  rows = 0;
+  stored = StoredContinuation.Nothing;
+  «is_loop_body» = false;
+  captured = record { condition = LoopCondition.Absent; callee = CalleeWord.Absent; info = ContextInfo.Absent };
+  state = readState state;
+  at = at;
+  system = noSystem;
+  stack = noStack;
+}
+
+-- "Storing replaces all of them and checks none."; the cells among them are read (N2)
+abbrev pub storing : CoreTraceGenerationTracer → StoredValues → CoreTraceGenerationTracer
+storing t values = record {
+  refusal = t .refusal;
+  rows = t .rows;
+  stored = StoredContinuation.Is (values .continuation);
+  «is_loop_body» = values .«is_loop_body»;
+  captured = readCaptured (values .captured);
+  state = t .state;
+  at = t .at;
+  system = t .system;
+  stack = t .stack;
+}
+
+-- "The tracer keeps a refusal's number; storing, later cycles and the final state then answer it and change nothing."
+unfoldable pub storedIn : CoreTraceGenerationTracer → StoredValues → CoreTraceGenerationTracer
+storedIn t values = pick (eqb (t .refusal) 0) (storing t values) t
+
+-- "23 if nothing is stored"
+abbrev pub continuationOf : StoredContinuation → Answer Continuation
+continuationOf (StoredContinuation.Is continuation) = accepted continuation
+continuationOf StoredContinuation.Nothing = refused 23
+
+-- a refusal that holds is answered, and else what follows
+abbrev pub refuseIf : {A : Type 0} → Bool → ℕ → Answer A → Answer A
+refuseIf true n rest = refused n
+refuseIf false n rest = rest
+
+-- "A finish checks in order: the kept refusal, 23 if nothing is stored, 1, 2, 11, 10, the continuation's own as below, 24." `cells` is
+-- the length of the fragment; the scan's answer is given
+unfoldable pub cycleWith : Scan → Profile → Forest → Queues → StackState → OperationHelperRegisters → (cells : ℕ) → CoreTraceGenerationTracer → Answer MadeRow
+cycleWith scan p f q stack registers cells t =
+    refuseIf (not (eqb (t .refusal) 0)) (t .refusal)
+    (andThen (continuationOf (t .stored)) (λ continuation.
+    refuseIf (scan .big) 1
+    (refuseIf (scan .«profile_wrong») 2
+    (refuseIf (scan .«too_large» || fragmentWrong cells (t .rows)) 11
+    (refuseIf (ltb (stack .«stack_depth») 16) 10
+    (andThen (made f q p registers continuation (t .«is_loop_body») (t .captured) (place (t .state) (t .at))) (λ row.
+    refuseIf (leb (cells / 49) (t .rows)) 24
+    (accepted row))))))))
+
+-- a row that is made has room in the fragment
+abbrev pub HasRoom : Made → (cells rows : ℕ) → Type 0
+HasRoom (Made.Row m) cells rows = rows < cells / 49
+HasRoom (Made.Refused n) cells rows = Unit {0}
+
+unfoldable pub cycle : Profile → Forest → Queues → StackState → OperationHelperRegisters → (cells : ℕ) → CoreTraceGenerationTracer → Answer MadeRow
+cycle p f q stack registers cells t = cycleWith (scanOf p (f .nodes) (f .batches) (f .ops)) p f q stack registers cells t
+
+-- "A second finish without a store reuses the continuation, without the condition, word or info already used."
+unfoldable pub leftAfter : Used → Captured → Captured
+leftAfter Used.Nothing captured = captured
+leftAfter Used.Condition captured =
+    record { condition = LoopCondition.Absent; callee = captured .callee; info = captured .info }
+leftAfter Used.Callee captured =
+    record { condition = captured .condition; callee = CalleeWord.Absent; info = captured .info }
+leftAfter Used.CalleeAndInfo captured =
+    record { condition = captured .condition; callee = CalleeWord.Absent; info = ContextInfo.Absent }
+
+-- the tracer with a refusal's number, else unchanged
+abbrev pub keeping : ℕ → CoreTraceGenerationTracer → CoreTraceGenerationTracer
+keeping n t = record {
+  refusal = n;
+  rows = t .rows;
+  stored = t .stored;
+  «is_loop_body» = t .«is_loop_body»;
+  captured = t .captured;
+  state = t .state;
+  at = t .at;
+  system = t .system;
+  stack = t .stack;
+}
+
+-- the tracer after a finish: one row more, and the cells built for the next
+unfoldable pub tracerAfter : SystemState → StackState → CoreTraceGenerationTracer → Answer MadeRow → CoreTraceGenerationTracer
+tracerAfter system stack t (refused n) = keeping n t
+tracerAfter system stack t (accepted m) = record {
+  refusal = 0;
+  rows = t .rows + 1;
+  stored = t .stored;
+  «is_loop_body» = t .«is_loop_body»;
+  captured = leftAfter (m .used) (t .captured);
+  state = m .state;
+  at = m .at;
+  system = builtSystem system;
+  stack = builtStack stack;
+}
+
+-- "System and stack cells of a row are those built at the previous row of its fragment, zero in its first."
+unfoldable pub lastSystem : CoreTraceGenerationTracer → SystemCols
+lastSystem t = pick (eqb (t .rows) 0) noSystem (t .system)
+
+unfoldable pub lastStack : CoreTraceGenerationTracer → StackCols
+lastStack t = pick (eqb (t .rows) 0) noStack (t .stack)
+
+-- the fragment after a finish
+unfoldable pub fragmentAfter : List ℕ → CoreTraceGenerationTracer → Answer MadeRow → List ℕ
+fragmentAfter fragment t (refused n) = fragment
+fragmentAfter fragment t (accepted m) = putRow fragment (t .rows) (rowCells (lastSystem t) (m .row) (lastStack t))
+
+-- "Else the final state is the last built cells (zeros without rows) and the row count."
+unfoldable pub finalState : CoreTraceGenerationTracer → TracerFinalState
+finalState t =
+    pick (eqb (t .refusal) 0)
+    (record { refusal = 0; «last_system_cols» = readSystem (lastSystem t); «last_stack_cols» = readStack (lastStack t); «num_rows_written» = t .rows })
+    (record { refusal = t .refusal; «last_system_cols» = noSystem; «last_stack_cols» = noStack; «num_rows_written» = 0 })

@@ -1,0 +1,250 @@
+-- Document 01, "Entry: one cycle": what each continuation makes, with its own refusals in their order. A row's decoder part, the address
+-- state and positions after it, and which captured values it used up. No system or stack state and no fragment goes in.
+use mathlib.Core.Bool.{Bool, true, false}
+use mathlib.Core.List.{List}
+use Prim.Native.Nat.{ℕ}
+use Rattle.groups.specs.Answer.{Answer, accepted, refused, andThen, pick}
+use Rattle.groups.specs.Batches.{batchAt}
+use Rattle.groups.specs.Flags.{batchFlags}
+use Rattle.groups.specs.Contexts.{contextAtOp, contextAtBatchStart}
+use Rattle.groups.specs.Helpers.{helpersAnswer}
+use Rattle.groups.specs.declared.word.Word.{Word}
+use Rattle.groups.specs.declared.batch.Block.{Block}
+use Rattle.groups.specs.declared.context.OpContext.{OpContext}
+use Rattle.groups.specs.declared.helpers.OperationHelperRegisters.{OperationHelperRegisters}
+use Rattle.rows.specs.declared.records.ids.MastNodeId.{MastNodeId}
+use Rattle.rows.specs.declared.records.profile.Profile.{Profile}
+use Rattle.rows.specs.declared.records.forest.Node.{Node}
+use Rattle.rows.specs.declared.records.replay.DecoderState.{DecoderState}
+use Rattle.rows.specs.declared.records.replay.Positions.{Positions}
+use Rattle.rows.specs.declared.records.decoder_row.DecoderRow.{DecoderRow}
+use Rattle.rows.specs.declared.records.decoder_row.EndBlockStackEntryKind.{EndBlockStackEntryKind}
+use Rattle.rows.specs.declared.records.continuation.Continuation.{Continuation}
+use Rattle.rows.specs.declared.records.continuation.Captured.{Captured}
+use Rattle.rows.specs.declared.records.continuation.LoopCondition.{LoopCondition}
+use Rattle.rows.specs.declared.records.continuation.CalleeWord.{CalleeWord}
+use Rattle.rows.specs.declared.records.continuation.ContextInfo.{ContextInfo}
+use Rattle.rows.specs.declared.records.continuation.ExecutionContextInfo.{ExecutionContextInfo}
+use Rattle.rows.specs.declared.records.continuation.Used.{Used}
+use Rattle.rows.specs.declared.cycles.made.MadeRow.{MadeRow}
+use Rattle.rows.specs.declared.cycles.made.Made.{Made}
+use Rattle.rows.specs.declared.cycles.made.Finish.{Finish}
+use Rattle.rows.specs.declared.cycles.made.KindFound.{KindFound}
+use Rattle.rows.specs.records.Forests.{Forest, nodeAt, digestAt, opcodeAt, blockOf}
+use Rattle.rows.specs.records.Addresses.{Queues, startedAt, afterStart, endAt, stateAfterEnd, afterEnd, respanStep}
+use Rattle.rows.specs.records.DecoderRows.{noWord, controlFlow, basicBlockBatch, operation, flagWord}
+
+-- where a cycle stands: the address state and the queue positions
+pub record Place : Type 0 where
+  pub state : DecoderState
+  pub at : Positions
+
+abbrev pub place : DecoderState → Positions → Place
+place state at = record { state = state; at = at }
+
+abbrev pub madeRow : DecoderRow → Place → Used → Answer MadeRow
+madeRow row here used = accepted (record { row = row; state = here .state; at = here .at; used = used })
+
+-- the number and the values of each case
+abbrev pub toldMade : Made → Answer MadeRow
+toldMade (Made.Row made) = accepted made
+toldMade (Made.Refused n) = refused n
+
+abbrev pub toldKind : KindFound → Answer EndBlockStackEntryKind
+toldKind (KindFound.Is kind) = accepted kind
+toldKind KindFound.Other = refused 4
+
+-- Block: "5 if it has no batch, 7". SPAN carries the parent address and the block total
+unfoldable pub startBlock : (batches groups : List ℕ) → (span : ℕ) → Block → Place → Answer MadeRow
+startBlock batches groups span block here =
+    andThen (batchAt batches groups block 0) (λ batch.
+    andThen (batchFlags (block .total)) (λ flags.
+    madeRow (basicBlockBatch span batch (here .state .«parent_addr») (block .total) flags) here Used.Nothing))
+
+-- Join, Split: "3 for each child, first child first"; "two child digests"
+unfoldable pub startTwo : (nodes digests : List ℕ) → (opcode : ℕ) → (first second : MastNodeId) → Place → Answer MadeRow
+startTwo nodes digests opcode first second here =
+    andThen (digestAt nodes digests (first .0)) (λ a.
+    andThen (digestAt nodes digests (second .0)) (λ b.
+    madeRow (controlFlow opcode a b (here .state .«parent_addr»)) here Used.Nothing))
+
+-- Loop, Call: 3 for the child; "LOOP, CALL, SYSCALL one"
+unfoldable pub startOne : (nodes digests : List ℕ) → (opcode : ℕ) → (child : MastNodeId) → Place → Answer MadeRow
+startOne nodes digests opcode child here =
+    andThen (digestAt nodes digests (child .0)) (λ a.
+    madeRow (controlFlow opcode a noWord (here .state .«parent_addr»)) here Used.Nothing)
+
+-- a captured value, or "23 .. a captured value absent"
+abbrev pub calleeOf : CalleeWord → Answer Word
+calleeOf (CalleeWord.Is word) = accepted word
+calleeOf CalleeWord.Absent = refused 23
+
+abbrev pub infoOf : ContextInfo → Answer ExecutionContextInfo
+infoOf (ContextInfo.Is info) = accepted info
+infoOf ContextInfo.Absent = refused 23
+
+abbrev pub conditionOf : LoopCondition → Answer Bool
+conditionOf (LoopCondition.Is again) = accepted again
+conditionOf LoopCondition.Absent = refused 23
+
+-- Dyn: "23 for the callee word"; "DYN the callee word"
+unfoldable pub startDyn : (opcode : ℕ) → CalleeWord → Place → Answer MadeRow
+startDyn opcode callee here =
+    andThen (calleeOf callee) (λ word.
+    madeRow (controlFlow opcode word noWord (here .state .«parent_addr»)) here Used.Callee)
+
+-- Dyn: "23 for the callee word, then for DYNCALL's context info"; "DYNCALL that, then depth, next overflow address"
+unfoldable pub startDyncall : (opcode : ℕ) → CalleeWord → ContextInfo → Place → Answer MadeRow
+startDyncall opcode callee info here =
+    andThen (calleeOf callee) (λ word.
+    andThen (infoOf info) (λ context.
+    madeRow
+    (controlFlow opcode word (context .«stack_depth», context .«next_overflow_addr», 0, 0) (here .state .«parent_addr»))
+    here
+    Used.CalleeAndInfo))
+
+-- "4 (`External`), then by kind"
+unfoldable pub startKind : (nodes digests batches groups : List ℕ) → Profile → Node → Captured → Place → Answer MadeRow
+startKind nodes digests batches groups p (Node.Block block) captured here = startBlock batches groups (p .span) block here
+startKind nodes digests batches groups p (Node.Join a b) captured here = startTwo nodes digests (p .join) a b here
+startKind nodes digests batches groups p (Node.Split a b) captured here = startTwo nodes digests (p .split) a b here
+startKind nodes digests batches groups p (Node.Loop a) captured here = startOne nodes digests (p .«loop_op») a here
+startKind nodes digests batches groups p (Node.Call a) captured here = startOne nodes digests (p .call) a here
+startKind nodes digests batches groups p (Node.Syscall a) captured here = startOne nodes digests (p .syscall) a here
+startKind nodes digests batches groups p Node.Dyn captured here = startDyn (p .«dyn_op») (captured .callee) here
+startKind nodes digests batches groups p Node.Dyncall captured here =
+    startDyncall (p .dyncall) (captured .callee) (captured .info) here
+startKind nodes digests batches groups p Node.External captured here = refused 4
+
+-- "StartNode: 20, 21 (current and parent address from their queues), then 3, 4 (`External`), then by kind."
+unfoldable pub startNode : (nodes digests batches groups addresses parents : List ℕ) → Profile → MastNodeId → Captured → Place → Answer MadeRow
+startNode nodes digests batches groups addresses parents p id captured here =
+    andThen (startedAt addresses parents (here .at)) (λ state.
+    andThen (nodeAt nodes digests (id .0)) (λ entry.
+    startKind nodes digests batches groups p (entry .node) captured (place state (afterStart (here .at)))))
+
+-- the END of a call: "FinishCall and DYNCALL's FinishDyn set restores-caller"
+unfoldable pub callKind : Node → Answer EndBlockStackEntryKind
+callKind (Node.Block block) = refused 4
+callKind (Node.Join a b) = refused 4
+callKind (Node.Split a b) = refused 4
+callKind (Node.Loop a) = refused 4
+callKind (Node.Call a) = accepted EndBlockStackEntryKind.CallerFrame
+callKind (Node.Syscall a) = accepted EndBlockStackEntryKind.CallerFrame
+callKind Node.Dyn = refused 4
+callKind Node.Dyncall = refused 4
+callKind Node.External = refused 4
+
+unfoldable pub dynKind : Node → Answer EndBlockStackEntryKind
+dynKind (Node.Block block) = refused 4
+dynKind (Node.Join a b) = refused 4
+dynKind (Node.Split a b) = refused 4
+dynKind (Node.Loop a) = refused 4
+dynKind (Node.Call a) = refused 4
+dynKind (Node.Syscall a) = refused 4
+dynKind Node.Dyn = accepted EndBlockStackEntryKind.Continuation
+dynKind Node.Dyncall = accepted EndBlockStackEntryKind.CallerFrame
+dynKind Node.External = refused 4
+
+unfoldable pub blockKind : Node → Answer EndBlockStackEntryKind
+blockKind node = andThen (blockOf node) (λ block. accepted EndBlockStackEntryKind.Continuation)
+
+-- how an END is marked, by its continuation: "FinishLoop sets is-loop"; 4 for another kind of node
+unfoldable pub entryKind : Finish → Node → Answer EndBlockStackEntryKind
+entryKind Finish.Any node = accepted EndBlockStackEntryKind.Continuation
+entryKind Finish.Loop node = accepted EndBlockStackEntryKind.LoopContinuation
+entryKind Finish.Call node = callKind node
+entryKind Finish.Dyn node = dynKind node
+entryKind Finish.Block node = blockKind node
+
+-- "FinishJoin, FinishSplit: 3, 22." "FinishCall, FinishDyn, FinishBasicBlock: 3, 4, 22."
+-- "END: ended address, node digest, then loop-body flag, is-loop, restores-caller, 0."
+unfoldable pub finished : (nodes digests ends : List ℕ) → (end : ℕ) → MastNodeId → Finish → (isLoopBody : Bool) → Used → Place → Answer MadeRow
+finished nodes digests ends end id finish isLoopBody used here =
+    andThen (nodeAt nodes digests (id .0)) (λ entry.
+    andThen (entryKind finish (entry .node)) (λ kind.
+    andThen (endAt ends (here .at .ends)) (λ ended.
+    madeRow
+    (controlFlow end (entry .digest) (flagWord isLoopBody kind) (ended .«ended_node_addr»))
+    (place (stateAfterEnd ended) (afterEnd (here .at)))
+    used)))
+
+-- the body of a loop, or 4
+unfoldable pub bodyOf : Node → Answer MastNodeId
+bodyOf (Node.Block block) = refused 4
+bodyOf (Node.Join a b) = refused 4
+bodyOf (Node.Split a b) = refused 4
+bodyOf (Node.Loop body) = accepted body
+bodyOf (Node.Call a) = refused 4
+bodyOf (Node.Syscall a) = refused 4
+bodyOf Node.Dyn = refused 4
+bodyOf Node.Dyncall = refused 4
+bodyOf Node.External = refused 4
+
+-- "Condition one: 3, 4, and a REPEAT row." "REPEAT: current address, body digest, then 1."
+unfoldable pub repeated : (nodes digests : List ℕ) → (repeat : ℕ) → MastNodeId → Place → Answer MadeRow
+repeated nodes digests repeat id here =
+    andThen (nodeAt nodes digests (id .0)) (λ entry.
+    andThen (bodyOf (entry .node)) (λ body.
+    andThen (digestAt nodes digests (body .0)) (λ digest.
+    madeRow (controlFlow repeat digest (1, 0, 0, 0) (here .state .«current_addr»)) here Used.Condition)))
+
+-- "FinishLoop: 23 if no condition. Condition one: 3, 4, and a REPEAT row. Else: 3, 22, and an END row."
+unfoldable pub finishLoop : (nodes digests ends : List ℕ) → Profile → MastNodeId → LoopCondition → (isLoopBody : Bool) → Place → Answer MadeRow
+finishLoop nodes digests ends p id condition isLoopBody here =
+    andThen (conditionOf condition) (λ again.
+    pick again (repeated nodes digests (p .repeat) id here)
+    (finished nodes digests ends (p .end) id Finish.Loop isLoopBody Used.Condition here))
+
+-- an operation's row in its context, or 9
+unfoldable pub operationMade : (opcode : ℕ) → OpContext → OperationHelperRegisters → Place → Answer MadeRow
+operationMade opcode found registers here =
+    andThen (helpersAnswer registers) (λ helpers.
+    madeRow
+    (operation opcode (here .state .«current_addr») (here .state .«parent_addr») (found .place .index)
+    (found .context .«current_op_group») (found .context .«group_count_in_block») helpers)
+    here
+    Used.Nothing)
+
+-- "ResumeBasicBlock: 3, 4, 5, 6, 8, 9."
+unfoldable pub resumed : Forest → (push : ℕ) → MastNodeId → (index op : ℕ) → OperationHelperRegisters → Place → Answer MadeRow
+resumed f push id index op registers here =
+    andThen (nodeAt (f .nodes) (f .digests) (id .0)) (λ entry.
+    andThen (blockOf (entry .node)) (λ block.
+    andThen (batchAt (f .batches) (f .groups) block index) (λ batch.
+    andThen (opcodeAt (f .ops) batch op) (λ opcode.
+    andThen (contextAtOp push block (f .batches) (f .groups) index op) (λ found.
+    operationMade opcode found registers here)))))
+
+-- "Respan: 3, 4, 5, 7." "RESPAN: current address, which then grows by the step modulo p."
+unfoldable pub respanned : (nodes digests batches groups : List ℕ) → (opcode step : ℕ) → MastNodeId → (index : ℕ) → Place → Answer MadeRow
+respanned nodes digests batches groups opcode step id index here =
+    andThen (nodeAt nodes digests (id .0)) (λ entry.
+    andThen (blockOf (entry .node)) (λ block.
+    andThen (contextAtBatchStart block batches groups index) (λ found.
+    madeRow
+    (basicBlockBatch opcode (found .batch) (here .state .«current_addr») (found .context .«group_count_in_block») (found .flags))
+    (place (respanStep step (here .state)) (here .at))
+    Used.Nothing)))
+
+-- what a continuation makes. "EnterForest: 4."
+unfoldable pub made : Forest → Queues → Profile → OperationHelperRegisters → Continuation → (isLoopBody : Bool) → Captured → Place → Answer MadeRow
+made f q p registers (Continuation.StartNode id) isLoopBody captured here =
+    startNode (f .nodes) (f .digests) (f .batches) (f .groups) (q .addresses) (q .parents) p id captured here
+made f q p registers (Continuation.FinishJoin id) isLoopBody captured here =
+    finished (f .nodes) (f .digests) (q .ends) (p .end) id Finish.Any isLoopBody Used.Nothing here
+made f q p registers (Continuation.FinishSplit id) isLoopBody captured here =
+    finished (f .nodes) (f .digests) (q .ends) (p .end) id Finish.Any isLoopBody Used.Nothing here
+made f q p registers (Continuation.FinishLoop id) isLoopBody captured here =
+    finishLoop (f .nodes) (f .digests) (q .ends) p id (captured .condition) isLoopBody here
+made f q p registers (Continuation.FinishCall id) isLoopBody captured here =
+    finished (f .nodes) (f .digests) (q .ends) (p .end) id Finish.Call isLoopBody Used.Nothing here
+made f q p registers (Continuation.FinishDyn id) isLoopBody captured here =
+    finished (f .nodes) (f .digests) (q .ends) (p .end) id Finish.Dyn isLoopBody Used.Nothing here
+made f q p registers (Continuation.ResumeBasicBlock id index op) isLoopBody captured here =
+    resumed f (p .push) id index op registers here
+made f q p registers (Continuation.Respan id index) isLoopBody captured here =
+    respanned (f .nodes) (f .digests) (f .batches) (f .groups) (p .respan) (p .step) id index here
+made f q p registers (Continuation.FinishBasicBlock id) isLoopBody captured here =
+    finished (f .nodes) (f .digests) (q .ends) (p .end) id Finish.Block isLoopBody Used.Nothing here
+made f q p registers Continuation.EnterForest isLoopBody captured here = refused 4

@@ -1,0 +1,123 @@
+-- The lent forest. A slot is six numbers of `nodes` (what it holds, two children, and of a block its total of groups, the record of its
+-- first batch and how many batches it has) and four cells of `digests`. What a slot holds: 1 a digest alone, 2 Block, 3 Join, 4 Split,
+-- 5 Loop, 6 Call, 7 Syscall, 8 Dyn, 9 Dyncall, 10 External; 0 and every other number: absent.
+use mathlib.Core.Bool.{Bool, true, false, _&&_, _||_}
+use mathlib.Core.List.{List}
+use mathlib.Core.Path.{_≡_}
+use Prim.Native.Nat.{ℕ, _+_, _*_}
+use lib.Dec.{leb, ltb, eqb}
+use lib.ListN.{length, getD}
+use Rattle.groups.specs.Answer.{Answer, accepted, refused, pick}
+use Rattle.groups.specs.Words.{wordAt}
+use Rattle.groups.specs.declared.word.Word.{Word}
+use Rattle.groups.specs.declared.batch.Block.{Block}
+use Rattle.groups.specs.declared.batch.Batch.{Batch}
+use Rattle.rows.specs.declared.records.ids.MastNodeId.{MastNodeId}
+use Rattle.rows.specs.declared.records.forest.Node.{Node}
+use Rattle.rows.specs.declared.records.forest.NodeEntry.{NodeEntry}
+use Rattle.rows.specs.declared.records.forest.NodeFound.{NodeFound}
+use Rattle.rows.specs.declared.records.forest.DigestFound.{DigestFound}
+use Rattle.rows.specs.declared.records.forest.OpcodeFound.{OpcodeFound}
+use Rattle.rows.specs.declared.records.forest.BlockFound.{BlockFound}
+
+-- the five lent slices
+pub record Forest : Type 0 where
+  pub nodes : List ℕ
+  pub digests : List ℕ
+  pub batches : List ℕ
+  pub groups : List ℕ
+  pub ops : List ℕ
+
+abbrev pub forest : (nodes digests batches groups ops : List ℕ) → Forest
+forest nodes digests batches groups ops =
+    record { nodes = nodes; digests = digests; batches = batches; groups = groups; ops = ops }
+
+-- the slot's numbers and cells lie whole in the slices
+unfoldable pub isSlot : (nodes digests : List ℕ) → ℕ → Bool
+isSlot nodes digests id = leb (6 * id + 6) (length nodes) && leb (4 * id + 4) (length digests)
+
+-- what slot id holds, 0 where it is not whole
+unfoldable pub kindAt : (nodes digests : List ℕ) → ℕ → ℕ
+kindAt nodes digests id = pick (isSlot nodes digests id) (getD nodes (6 * id) 0) 0
+
+abbrev pub nodeId : ℕ → MastNodeId
+nodeId n = record { 0 = n }
+
+abbrev pub nodeEntry : Node → Word → Answer NodeEntry
+nodeEntry node digest = accepted (record { node = node; digest = digest })
+
+-- Refusal 3: "no such node"; a slot that has its digest alone is none
+unfoldable pub nodeOf : (kind first second : ℕ) → Block → Word → Answer NodeEntry
+nodeOf kind first second block digest =
+    pick (eqb kind 2) (nodeEntry (Node.Block block) digest)
+    (pick (eqb kind 3) (nodeEntry (Node.Join (nodeId first) (nodeId second)) digest)
+    (pick (eqb kind 4) (nodeEntry (Node.Split (nodeId first) (nodeId second)) digest)
+    (pick (eqb kind 5) (nodeEntry (Node.Loop (nodeId first)) digest)
+    (pick (eqb kind 6) (nodeEntry (Node.Call (nodeId first)) digest)
+    (pick (eqb kind 7) (nodeEntry (Node.Syscall (nodeId first)) digest)
+    (pick (eqb kind 8) (nodeEntry Node.Dyn digest)
+    (pick (eqb kind 9) (nodeEntry Node.Dyncall digest)
+    (pick (eqb kind 10) (nodeEntry Node.External digest)
+    (refused 3)))))))))
+
+-- a node is the one of its kind, whatever its digest
+abbrev pub IsNodeOf : Node → (kind first second : ℕ) → Block → Type 0
+IsNodeOf node kind first second block = (digest : Word) → nodeEntry node digest ≡ nodeOf kind first second block digest
+
+-- the block of slot id, where it is one
+abbrev pub slotBlock : (nodes : List ℕ) → ℕ → Block
+slotBlock nodes id = record {
+  total = getD nodes (6 * id + 3) 0;
+  «first_batch» = getD nodes (6 * id + 4) 0;
+  batches = getD nodes (6 * id + 5) 0;
+}
+
+-- the node of an id and its digest
+unfoldable pub nodeAt : (nodes digests : List ℕ) → ℕ → Answer NodeEntry
+nodeAt nodes digests id =
+    pick (isSlot nodes digests id)
+    (nodeOf (getD nodes (6 * id) 0) (getD nodes (6 * id + 1) 0) (getD nodes (6 * id + 2) 0) (slotBlock nodes id) (wordAt digests (4 * id)))
+    (refused 3)
+
+-- the digest of an id: a slot with its digest alone has one too
+unfoldable pub digestAt : (nodes digests : List ℕ) → ℕ → Answer Word
+digestAt nodes digests id =
+    pick (isSlot nodes digests id && (ltb 0 (getD nodes (6 * id) 0) && leb (getD nodes (6 * id) 0) 10))
+    (accepted (wordAt digests (4 * id)))
+    (refused 3)
+
+-- Refusal 6: "operation past the batch's"; operations past the slice are past the batch's
+unfoldable pub opcodeAt : (ops : List ℕ) → Batch → ℕ → Answer ℕ
+opcodeAt ops batch op =
+    pick (ltb op (batch .«num_ops») && ltb (batch .«first_op» + op) (length ops))
+    (accepted (getD ops (batch .«first_op» + op) 0))
+    (refused 6)
+
+-- Refusal 4: "wrong node kind"
+unfoldable pub blockOf : Node → Answer Block
+blockOf (Node.Block block) = accepted block
+blockOf (Node.Join a b) = refused 4
+blockOf (Node.Split a b) = refused 4
+blockOf (Node.Loop a) = refused 4
+blockOf (Node.Call a) = refused 4
+blockOf (Node.Syscall a) = refused 4
+blockOf Node.Dyn = refused 4
+blockOf Node.Dyncall = refused 4
+blockOf Node.External = refused 4
+
+-- the number and the values of each look-up's cases
+abbrev pub toldNode : NodeFound → Answer NodeEntry
+toldNode (NodeFound.At entry) = accepted entry
+toldNode NodeFound.Missing = refused 3
+
+abbrev pub toldDigest : DigestFound → Answer Word
+toldDigest (DigestFound.Is digest) = accepted digest
+toldDigest DigestFound.Missing = refused 3
+
+abbrev pub toldOpcode : OpcodeFound → Answer ℕ
+toldOpcode (OpcodeFound.Is opcode) = accepted opcode
+toldOpcode OpcodeFound.Missing = refused 6
+
+abbrev pub toldBlock : BlockFound → Answer Block
+toldBlock (BlockFound.Is block) = accepted block
+toldBlock BlockFound.Other = refused 4

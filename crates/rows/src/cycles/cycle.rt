@@ -1,0 +1,296 @@
+// One cycle: the stored continuation becomes one row of the lent fragment, or a refusal is kept.
+use crate::cycles::made::Made;
+use crate::cycles::made::MadeRow;
+use crate::cycles::made::make;
+use crate::cycles::scan::Scan;
+use crate::cycles::scan::scan_lent;
+use crate::cycles::tracer::CoreTraceGenerationTracer;
+use crate::cycles::tracer::StoredContinuation;
+use crate::records::continuation::CalleeWord;
+use crate::records::continuation::Captured;
+use crate::records::continuation::ContextInfo;
+use crate::records::continuation::LoopCondition;
+use crate::records::continuation::Used;
+use crate::records::decoder_row::DecoderRow;
+use crate::records::profile::Profile;
+use crate::records::row::fragment_wrong;
+use crate::records::row::write_row;
+use crate::records::state::StackCols;
+use crate::records::state::StackState;
+use crate::records::state::SystemCols;
+use crate::records::state::SystemState;
+use groups::helpers::OperationHelperRegisters;
+ghost use mathlib.Core.Path.{_≡_};
+ghost use Prim.Native.Nat.{_+_, _/_, _<_};
+ghost use lib.ListN.{length};
+ghost use Rattle.groups.specs.Answer.{number, accepted, pick};
+ghost use Rattle.rows.specs.records.Forests.{forest};
+ghost use Rattle.rows.specs.records.Addresses.{queues};
+ghost use Rattle.rows.specs.cycles.Made.{toldMade};
+ghost use Rattle.rows.specs.records.Cells.{rowCells, putRow};
+ghost use Rattle.rows.specs.cycles.Cycles.{cycleWith, HasRoom, cycle, leftAfter, keeping, tracerAfter, lastSystem, lastStack, fragmentAfter};
+
+// What a finish answers: 0 or the refusal's number, and the tracer.
+pub struct Finished {
+    pub number: u32,
+    pub tracer: CoreTraceGenerationTracer,
+}
+
+// What is left of the captured values.
+fn left_after(used: Used, captured: Captured) -> Captured
+    ensures { λ r. ⌜ r ≡ leftAfter used captured ⌝ }
+{
+    let condition = captured.condition;
+    let callee = captured.callee;
+    let info = captured.info;
+    match used {
+        Used::Nothing => captured,
+        Used::Condition => Captured {
+            condition: LoopCondition::Absent,
+            callee,
+            info,
+        },
+        Used::Callee => Captured {
+            condition,
+            callee: CalleeWord::Absent,
+            info,
+        },
+        Used::CalleeAndInfo => Captured {
+            condition,
+            callee: CalleeWord::Absent,
+            info: ContextInfo::Absent,
+        },
+    }
+}
+
+// Every check of a finish in its order, and what the continuation makes.
+fn checked(
+    scan: Scan,
+    cells: usize,
+    nodes: &[u32],
+    digests: &[u64],
+    batches: &[u32],
+    groups: &[u64],
+    ops: &[u8],
+    addresses: &[u64],
+    parents: &[u64],
+    ends: &[u64],
+    profile: Profile,
+    stack: StackState,
+    registers: OperationHelperRegisters,
+    tracer: CoreTraceGenerationTracer,
+) -> Made
+    ensures { λ r. ⌜ toldMade r ≡ cycleWith scan profile (forest (now (nodes .entry)) (now (digests .entry)) (now (batches .entry)) (now (groups .entry)) (now (ops .entry))) (queues (now (addresses .entry)) (now (parents .entry)) (now (ends .entry))) stack registers cells tracer ⌝ }
+    ensures { λ r. ⌜ HasRoom r cells (tracer .rows) ⌝ }
+{
+    if tracer.refusal != 0 {
+        return Made::Refused(tracer.refusal);
+    }
+    let stored = tracer.stored;
+    let StoredContinuation::Is(continuation) = stored else {
+        return Made::Refused(23);
+    };
+    if scan.big {
+        return Made::Refused(1);
+    }
+    if scan.profile_wrong {
+        return Made::Refused(2);
+    }
+    if scan.too_large | fragment_wrong(cells, tracer.rows) {
+        return Made::Refused(11);
+    }
+    if stack.stack_depth < 16 {
+        return Made::Refused(10);
+    }
+    let captured = tracer.captured;
+    let state = tracer.state;
+    let at = tracer.at;
+    let made = make(
+        nodes,
+        digests,
+        batches,
+        groups,
+        ops,
+        addresses,
+        parents,
+        ends,
+        profile,
+        registers,
+        continuation,
+        tracer.is_loop_body,
+        captured,
+        state,
+        at,
+    );
+    let Made::Row(row) = made else {
+        return made;
+    };
+    if cells / 49 <= tracer.rows {
+        return Made::Refused(24);
+    }
+    Made::Row(row)
+}
+
+// The number that a cycle refuses with, or 0.
+fn made_number(made: Made) -> u32
+    ensures { λ r. ⌜ r ≡ number (toldMade made) ⌝ }
+{
+    match made {
+        Made::Refused(n) => n,
+        Made::Row(_) => 0,
+    }
+}
+
+// The tracer with a refusal's number.
+pub(crate) fn kept(n: u32, tracer: CoreTraceGenerationTracer) -> CoreTraceGenerationTracer
+    ensures { λ r. ⌜ r ≡ keeping n tracer ⌝ }
+{
+    let mut t = tracer;
+    t.refusal = n;
+    t
+}
+
+// The tracer after a row.
+fn moved(
+    row: MadeRow,
+    system: SystemState,
+    stack: StackState,
+    tracer: CoreTraceGenerationTracer,
+) -> CoreTraceGenerationTracer
+    requires { ⌜ tracer .rows + 1 < 18446744073709551616 ⌝ }
+    ensures { λ r. ⌜ r ≡ tracerAfter system stack tracer (accepted row) ⌝ }
+{
+    let stored = tracer.stored;
+    let before = tracer.captured;
+    let used = row.used;
+    let captured = left_after(used, before);
+    let state = row.state;
+    let at = row.at;
+    let built_system = SystemCols::build(system);
+    let built_stack = StackCols::build(stack);
+    CoreTraceGenerationTracer {
+        refusal: 0,
+        rows: tracer.rows + 1,
+        stored,
+        is_loop_body: tracer.is_loop_body,
+        captured,
+        state,
+        at,
+        system: built_system,
+        stack: built_stack,
+    }
+}
+
+// Writes the row that a tracer is at, where `write` says so.
+fn put_row(
+    write: bool,
+    decoder: DecoderRow,
+    tracer: CoreTraceGenerationTracer,
+    fragment: &mut [u64],
+)
+    requires { ⌜ tracer .rows < length (now fragment) / 49 ⌝ }
+    ensures { λ _. ⌜ now (fragment .exit) ≡ pick write (putRow (now (fragment .entry)) (tracer .rows) (rowCells (lastSystem tracer) decoder (lastStack tracer))) (now (fragment .entry)) ⌝ }
+{
+    if write {
+        let last_system = tracer.last_system();
+        let last_stack = tracer.last_stack();
+        write_row(fragment, tracer.rows, last_system, decoder, last_stack);
+    }
+}
+
+// One finish, given what the scan found; `write` says whether its row is written. With another scan's answer it would not refuse, so it
+// stays inside the crate.
+pub(crate) fn cycle_with(
+    write: bool,
+    scan: Scan,
+    nodes: &[u32],
+    digests: &[u64],
+    batches: &[u32],
+    groups: &[u64],
+    ops: &[u8],
+    addresses: &[u64],
+    parents: &[u64],
+    ends: &[u64],
+    profile: Profile,
+    system: SystemState,
+    stack: StackState,
+    registers: OperationHelperRegisters,
+    tracer: CoreTraceGenerationTracer,
+    fragment: &mut [u64],
+) -> Finished
+    ensures { λ r. ⌜ r .number ≡ number (cycleWith scan profile (forest (now (nodes .entry)) (now (digests .entry)) (now (batches .entry)) (now (groups .entry)) (now (ops .entry))) (queues (now (addresses .entry)) (now (parents .entry)) (now (ends .entry))) stack registers (length (now (fragment .entry))) tracer) ⌝ }
+    ensures { λ r. ⌜ r .tracer ≡ tracerAfter system stack tracer (cycleWith scan profile (forest (now (nodes .entry)) (now (digests .entry)) (now (batches .entry)) (now (groups .entry)) (now (ops .entry))) (queues (now (addresses .entry)) (now (parents .entry)) (now (ends .entry))) stack registers (length (now (fragment .entry))) tracer) ⌝ }
+    ensures { λ _. ⌜ now (fragment .exit) ≡ pick write (fragmentAfter (now (fragment .entry)) tracer (cycleWith scan profile (forest (now (nodes .entry)) (now (digests .entry)) (now (batches .entry)) (now (groups .entry)) (now (ops .entry))) (queues (now (addresses .entry)) (now (parents .entry)) (now (ends .entry))) stack registers (length (now (fragment .entry))) tracer)) (now (fragment .entry)) ⌝ }
+{
+    let made = checked(
+        scan,
+        fragment.len(),
+        nodes,
+        digests,
+        batches,
+        groups,
+        ops,
+        addresses,
+        parents,
+        ends,
+        profile,
+        stack,
+        registers,
+        tracer,
+    );
+    let Made::Row(row) = made else {
+        let n = made_number(made);
+        return Finished {
+            number: n,
+            tracer: kept(n, tracer),
+        };
+    };
+    let decoder = row.row;
+    put_row(write, decoder, tracer, fragment);
+    Finished {
+        number: 0,
+        tracer: moved(row, system, stack, tracer),
+    }
+}
+
+// One finish: it writes one row of the fragment, or keeps a refusal's number.
+pub fn finalize_clock_cycle(
+    nodes: &[u32],
+    digests: &[u64],
+    batches: &[u32],
+    groups: &[u64],
+    ops: &[u8],
+    addresses: &[u64],
+    parents: &[u64],
+    ends: &[u64],
+    profile: Profile,
+    system: SystemState,
+    stack: StackState,
+    registers: OperationHelperRegisters,
+    tracer: CoreTraceGenerationTracer,
+    fragment: &mut [u64],
+) -> Finished
+    ensures { λ r. ⌜ r .number ≡ number (cycle profile (forest (now (nodes .entry)) (now (digests .entry)) (now (batches .entry)) (now (groups .entry)) (now (ops .entry))) (queues (now (addresses .entry)) (now (parents .entry)) (now (ends .entry))) stack registers (length (now (fragment .entry))) tracer) ⌝ }
+    ensures { λ r. ⌜ r .tracer ≡ tracerAfter system stack tracer (cycle profile (forest (now (nodes .entry)) (now (digests .entry)) (now (batches .entry)) (now (groups .entry)) (now (ops .entry))) (queues (now (addresses .entry)) (now (parents .entry)) (now (ends .entry))) stack registers (length (now (fragment .entry))) tracer) ⌝ }
+    ensures { λ _. ⌜ now (fragment .exit) ≡ fragmentAfter (now (fragment .entry)) tracer (cycle profile (forest (now (nodes .entry)) (now (digests .entry)) (now (batches .entry)) (now (groups .entry)) (now (ops .entry))) (queues (now (addresses .entry)) (now (parents .entry)) (now (ends .entry))) stack registers (length (now (fragment .entry))) tracer) ⌝ }
+{
+    let found = scan_lent(profile, nodes, batches, ops);
+    cycle_with(
+        true,
+        found,
+        nodes,
+        digests,
+        batches,
+        groups,
+        ops,
+        addresses,
+        parents,
+        ends,
+        profile,
+        system,
+        stack,
+        registers,
+        tracer,
+        fragment,
+    )
+}

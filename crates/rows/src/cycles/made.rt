@@ -1,0 +1,708 @@
+// What a continuation makes of the forest, the queues and the tracer: a decoder row, the address state and queue positions after it,
+// and which captured values it used up; or the refusal. Nothing here reads or writes a fragment.
+use crate::records::continuation::CalleeWord;
+use crate::records::continuation::Captured;
+use crate::records::continuation::ContextInfo;
+use crate::records::continuation::Continuation;
+use crate::records::continuation::LoopCondition;
+use crate::records::continuation::Used;
+use crate::records::decoder_row::DecoderRow;
+use crate::records::decoder_row::EndBlockFlags;
+use crate::records::decoder_row::EndBlockStackEntryKind;
+use crate::records::forest::BlockFound;
+use crate::records::forest::DigestFound;
+use crate::records::forest::Node;
+use crate::records::forest::NodeFound;
+use crate::records::forest::OpcodeFound;
+use crate::records::forest::as_block;
+use crate::records::forest::digest_at;
+use crate::records::forest::node_at;
+use crate::records::forest::opcode_at;
+use crate::records::ids::MastNodeId;
+use crate::records::profile::Profile;
+use crate::records::replay::DecoderState;
+use crate::records::replay::Ended;
+use crate::records::replay::Positions;
+use crate::records::replay::Started;
+use crate::records::replay::end_lent;
+use crate::records::replay::respan_step;
+use crate::records::replay::start_lent;
+use groups::batch::BatchFound;
+use groups::batch::Block;
+use groups::batch::batch_at;
+use groups::context::BasicBlockContext;
+use groups::context::BatchContextFound;
+use groups::context::OpContext;
+use groups::context::OpContextFound;
+use groups::flags::FlagsFound;
+use groups::flags::batch_flags;
+use groups::helpers::HelpersFound;
+use groups::helpers::OperationHelperRegisters;
+use groups::word::Word;
+ghost use mathlib.Core.Path.{_≡_};
+ghost use Rattle.groups.specs.Answer.{Answer, accepted, number};
+ghost use Rattle.groups.specs.Contexts.{toldOp, toldBatchStart};
+ghost use Rattle.rows.specs.records.Forests.{Forest, forest};
+ghost use Rattle.rows.specs.records.Addresses.{Queues, queues, toldStarted};
+ghost use Rattle.rows.specs.cycles.Made.{Place, place, madeRow, toldMade, toldKind, callKind, dynKind, blockKind, entryKind, startBlock, startTwo, startOne, startDyn, startDyncall, startKind, startNode, finished, repeated, finishLoop, operationMade, resumed, respanned, made};
+
+// A row, and what follows it.
+pub struct MadeRow {
+    pub row: DecoderRow,
+    pub state: DecoderState,
+    pub at: Positions,
+    pub used: Used,
+}
+
+pub enum Made {
+    Row(MadeRow),
+    Refused(u32),
+}
+
+// The kinds of END, by the continuation: of any node, of a loop, of a call, of a dyn, of a block.
+pub enum Finish {
+    Any,
+    Loop,
+    Call,
+    Dyn,
+    Block,
+}
+
+enum KindFound {
+    Is(EndBlockStackEntryKind),
+    Other,
+}
+
+fn call_kind(node: Node) -> KindFound
+    ensures { λ r. ⌜ toldKind r ≡ callKind node ⌝ }
+{
+    match node {
+        Node::Call(_) => KindFound::Is(EndBlockStackEntryKind::CallerFrame),
+        Node::Syscall(_) => KindFound::Is(EndBlockStackEntryKind::CallerFrame),
+        Node::Block(_) => KindFound::Other,
+        Node::Join(_, _) => KindFound::Other,
+        Node::Split(_, _) => KindFound::Other,
+        Node::Loop(_) => KindFound::Other,
+        Node::Dyn => KindFound::Other,
+        Node::Dyncall => KindFound::Other,
+        Node::External => KindFound::Other,
+    }
+}
+
+fn dyn_kind(node: Node) -> KindFound
+    ensures { λ r. ⌜ toldKind r ≡ dynKind node ⌝ }
+{
+    match node {
+        Node::Dyn => KindFound::Is(EndBlockStackEntryKind::Continuation),
+        Node::Dyncall => KindFound::Is(EndBlockStackEntryKind::CallerFrame),
+        Node::Block(_) => KindFound::Other,
+        Node::Join(_, _) => KindFound::Other,
+        Node::Split(_, _) => KindFound::Other,
+        Node::Loop(_) => KindFound::Other,
+        Node::Call(_) => KindFound::Other,
+        Node::Syscall(_) => KindFound::Other,
+        Node::External => KindFound::Other,
+    }
+}
+
+fn block_kind(node: Node) -> KindFound
+    ensures { λ r. ⌜ toldKind r ≡ blockKind node ⌝ }
+{
+    let BlockFound::Is(_) = as_block(node) else {
+        return KindFound::Other;
+    };
+    KindFound::Is(EndBlockStackEntryKind::Continuation)
+}
+
+// How the END of a node is marked, or 4: the continuation is not for this kind of node.
+fn entry_kind(finish: Finish, node: Node) -> KindFound
+    ensures { λ r. ⌜ toldKind r ≡ entryKind finish node ⌝ }
+{
+    match finish {
+        Finish::Any => KindFound::Is(EndBlockStackEntryKind::Continuation),
+        Finish::Loop => KindFound::Is(EndBlockStackEntryKind::LoopContinuation),
+        Finish::Call => call_kind(node),
+        Finish::Dyn => dyn_kind(node),
+        Finish::Block => block_kind(node),
+    }
+}
+
+// SPAN: 5 if the block has no batch, then 7.
+fn start_block(
+    batches: &[u32],
+    groups: &[u64],
+    span: u8,
+    block: Block,
+    state: DecoderState,
+    at: Positions,
+) -> Made
+    ensures { λ r. ⌜ toldMade r ≡ startBlock (now (batches .entry)) (now (groups .entry)) span block (place state at) ⌝ }
+{
+    let BatchFound::At(batch) = batch_at(batches, groups, block, 0) else {
+        return Made::Refused(5);
+    };
+    let count = block.total as u64;
+    let FlagsFound::Are(flags) = batch_flags(count) else {
+        return Made::Refused(7);
+    };
+    let row = DecoderRow::new_basic_block_batch(span, batch, state.parent_addr, count, flags);
+    Made::Row(MadeRow {
+        row,
+        state,
+        at,
+        used: Used::Nothing,
+    })
+}
+
+// JOIN and SPLIT: 3 for each child, first child first.
+fn start_two(
+    nodes: &[u32],
+    digests: &[u64],
+    opcode: u8,
+    first: MastNodeId,
+    second: MastNodeId,
+    state: DecoderState,
+    at: Positions,
+) -> Made
+    ensures { λ r. ⌜ toldMade r ≡ startTwo (now (nodes .entry)) (now (digests .entry)) opcode first second (place state at) ⌝ }
+{
+    let DigestFound::Is(a) = digest_at(nodes, digests, first) else {
+        return Made::Refused(3);
+    };
+    let DigestFound::Is(b) = digest_at(nodes, digests, second) else {
+        return Made::Refused(3);
+    };
+    let row = DecoderRow::new_control_flow(opcode, a, b, state.parent_addr);
+    Made::Row(MadeRow {
+        row,
+        state,
+        at,
+        used: Used::Nothing,
+    })
+}
+
+// LOOP, CALL and SYSCALL: 3 for the child.
+fn start_one(
+    nodes: &[u32],
+    digests: &[u64],
+    opcode: u8,
+    child: MastNodeId,
+    state: DecoderState,
+    at: Positions,
+) -> Made
+    ensures { λ r. ⌜ toldMade r ≡ startOne (now (nodes .entry)) (now (digests .entry)) opcode child (place state at) ⌝ }
+{
+    let DigestFound::Is(a) = digest_at(nodes, digests, child) else {
+        return Made::Refused(3);
+    };
+    let row = DecoderRow::new_control_flow(opcode, a, Word(0, 0, 0, 0), state.parent_addr);
+    Made::Row(MadeRow {
+        row,
+        state,
+        at,
+        used: Used::Nothing,
+    })
+}
+
+// DYN: 23 for the callee word.
+fn start_dyn(opcode: u8, callee: CalleeWord, state: DecoderState, at: Positions) -> Made
+    ensures { λ r. ⌜ toldMade r ≡ startDyn opcode callee (place state at) ⌝ }
+{
+    let CalleeWord::Is(word) = callee else {
+        return Made::Refused(23);
+    };
+    let row = DecoderRow::new_control_flow(opcode, word, Word(0, 0, 0, 0), state.parent_addr);
+    Made::Row(MadeRow {
+        row,
+        state,
+        at,
+        used: Used::Callee,
+    })
+}
+
+// DYNCALL: 23 for the callee word, then for the context info.
+fn start_dyncall(
+    opcode: u8,
+    callee: CalleeWord,
+    info: ContextInfo,
+    state: DecoderState,
+    at: Positions,
+) -> Made
+    ensures { λ r. ⌜ toldMade r ≡ startDyncall opcode callee info (place state at) ⌝ }
+{
+    let CalleeWord::Is(word) = callee else {
+        return Made::Refused(23);
+    };
+    let ContextInfo::Is(context) = info else {
+        return Made::Refused(23);
+    };
+    let second = Word(context.stack_depth as u64, context.next_overflow_addr, 0, 0);
+    let row = DecoderRow::new_control_flow(opcode, word, second, state.parent_addr);
+    Made::Row(MadeRow {
+        row,
+        state,
+        at,
+        used: Used::CalleeAndInfo,
+    })
+}
+
+// The start row of a node, by its kind; 4 for an external node.
+fn start_kind(
+    nodes: &[u32],
+    digests: &[u64],
+    batches: &[u32],
+    groups: &[u64],
+    profile: Profile,
+    node: Node,
+    captured: Captured,
+    state: DecoderState,
+    at: Positions,
+) -> Made
+    ensures { λ r. ⌜ toldMade r ≡ startKind (now (nodes .entry)) (now (digests .entry)) (now (batches .entry)) (now (groups .entry)) profile node captured (place state at) ⌝ }
+{
+    let callee = captured.callee;
+    let info = captured.info;
+    match node {
+        Node::Block(block) => start_block(batches, groups, profile.span, block, state, at),
+        Node::Join(a, b) => start_two(nodes, digests, profile.join, a, b, state, at),
+        Node::Split(a, b) => start_two(nodes, digests, profile.split, a, b, state, at),
+        Node::Loop(a) => start_one(nodes, digests, profile.loop_op, a, state, at),
+        Node::Call(a) => start_one(nodes, digests, profile.call, a, state, at),
+        Node::Syscall(a) => start_one(nodes, digests, profile.syscall, a, state, at),
+        Node::Dyn => start_dyn(profile.dyn_op, callee, state, at),
+        Node::Dyncall => start_dyncall(profile.dyncall, callee, info, state, at),
+        Node::External => Made::Refused(4),
+    }
+}
+
+// The number that a start refuses with, or 0.
+fn start_number(answer: Started) -> u32
+    ensures { λ r. ⌜ r ≡ number (toldStarted answer) ⌝ }
+{
+    match answer {
+        Started::Refused(n) => n,
+        Started::Moved(_) => 0,
+    }
+}
+
+// StartNode: 20, 21, then 3, then by kind.
+fn start_node(
+    nodes: &[u32],
+    digests: &[u64],
+    batches: &[u32],
+    groups: &[u64],
+    addresses: &[u64],
+    parents: &[u64],
+    profile: Profile,
+    id: MastNodeId,
+    captured: Captured,
+    state: DecoderState,
+    at: Positions,
+) -> Made
+    ensures { λ r. ⌜ toldMade r ≡ startNode (now (nodes .entry)) (now (digests .entry)) (now (batches .entry)) (now (groups .entry)) (now (addresses .entry)) (now (parents .entry)) profile id captured (place state at) ⌝ }
+{
+    let step = start_lent(state, addresses, parents, at);
+    let answer = step.answer;
+    let Started::Moved(next) = answer else {
+        return Made::Refused(start_number(answer));
+    };
+    let NodeFound::At(entry) = node_at(nodes, digests, id) else {
+        return Made::Refused(3);
+    };
+    let node = entry.node;
+    let started = step.state;
+    start_kind(
+        nodes,
+        digests,
+        batches,
+        groups,
+        profile,
+        node,
+        captured,
+        started,
+        next,
+    )
+}
+
+// END: 3, 4 where the continuation is for one kind of node, 22.
+fn finish_node(
+    nodes: &[u32],
+    digests: &[u64],
+    ends: &[u64],
+    end: u8,
+    id: MastNodeId,
+    finish: Finish,
+    is_loop_body: bool,
+    used: Used,
+    state: DecoderState,
+    at: Positions,
+) -> Made
+    ensures { λ r. ⌜ toldMade r ≡ finished (now (nodes .entry)) (now (digests .entry)) (now (ends .entry)) end id finish «is_loop_body» used (place state at) ⌝ }
+{
+    let NodeFound::At(entry) = node_at(nodes, digests, id) else {
+        return Made::Refused(3);
+    };
+    let node = entry.node;
+    let KindFound::Is(entry_kind) = entry_kind(finish, node) else {
+        return Made::Refused(4);
+    };
+    let step = end_lent(state, ends, at);
+    let answer = step.answer;
+    let Ended::Moved(addr, next) = answer else {
+        return Made::Refused(22);
+    };
+    let flags = EndBlockFlags {
+        is_loop_body,
+        entry_kind,
+    };
+    let digest = entry.digest;
+    let row = DecoderRow::new_control_flow(end, digest, flags.to_hasher_state_second_word(), addr);
+    let moved = step.state;
+    Made::Row(MadeRow {
+        row,
+        state: moved,
+        at: next,
+        used,
+    })
+}
+
+// REPEAT: 3, 4, and 3 for the body's digest.
+fn repeat_row(
+    nodes: &[u32],
+    digests: &[u64],
+    repeat: u8,
+    id: MastNodeId,
+    state: DecoderState,
+    at: Positions,
+) -> Made
+    ensures { λ r. ⌜ toldMade r ≡ repeated (now (nodes .entry)) (now (digests .entry)) repeat id (place state at) ⌝ }
+{
+    let NodeFound::At(entry) = node_at(nodes, digests, id) else {
+        return Made::Refused(3);
+    };
+    let node = entry.node;
+    let Node::Loop(body) = node else {
+        return Made::Refused(4);
+    };
+    let DigestFound::Is(digest) = digest_at(nodes, digests, body) else {
+        return Made::Refused(3);
+    };
+    let row = DecoderRow::new_control_flow(repeat, digest, Word(1, 0, 0, 0), state.current_addr);
+    Made::Row(MadeRow {
+        row,
+        state,
+        at,
+        used: Used::Condition,
+    })
+}
+
+// FinishLoop: 23 if there is no condition; REPEAT at one, END at zero.
+fn finish_loop(
+    nodes: &[u32],
+    digests: &[u64],
+    ends: &[u64],
+    profile: Profile,
+    id: MastNodeId,
+    condition: LoopCondition,
+    is_loop_body: bool,
+    state: DecoderState,
+    at: Positions,
+) -> Made
+    ensures { λ r. ⌜ toldMade r ≡ finishLoop (now (nodes .entry)) (now (digests .entry)) (now (ends .entry)) profile id condition «is_loop_body» (place state at) ⌝ }
+{
+    let LoopCondition::Is(again) = condition else {
+        return Made::Refused(23);
+    };
+    if again {
+        repeat_row(nodes, digests, profile.repeat, id, state, at)
+    } else {
+        finish_node(
+            nodes,
+            digests,
+            ends,
+            profile.end,
+            id,
+            Finish::Loop,
+            is_loop_body,
+            Used::Condition,
+            state,
+            at,
+        )
+    }
+}
+
+// An operation's row in its context: 9.
+fn operation_row(
+    opcode: u8,
+    found: OpContext,
+    registers: OperationHelperRegisters,
+    state: DecoderState,
+    at: Positions,
+) -> Made
+    ensures { λ r. ⌜ toldMade r ≡ operationMade opcode found registers (place state at) ⌝ }
+{
+    let helped = registers.to_user_op_helpers();
+    let HelpersFound::Are(helpers) = helped else {
+        return Made::Refused(9);
+    };
+    let context = found.context;
+    let row = DecoderRow::new_operation(
+        opcode,
+        state.current_addr,
+        state.parent_addr,
+        found.place.index,
+        context.current_op_group,
+        context.group_count_in_block,
+        helpers,
+    );
+    Made::Row(MadeRow {
+        row,
+        state,
+        at,
+        used: Used::Nothing,
+    })
+}
+
+// The number that a context at an operation is refused with, or 0.
+fn op_number(found: OpContextFound) -> u32
+    ensures { λ r. ⌜ r ≡ number (toldOp found) ⌝ }
+{
+    match found {
+        OpContextFound::Refused(n) => n,
+        OpContextFound::At(_) => 0,
+    }
+}
+
+// ResumeBasicBlock: 3, 4, 5, 6, 8, 9.
+fn resume(
+    nodes: &[u32],
+    digests: &[u64],
+    batches: &[u32],
+    groups: &[u64],
+    ops: &[u8],
+    push: u8,
+    id: MastNodeId,
+    index: u32,
+    op: u32,
+    registers: OperationHelperRegisters,
+    state: DecoderState,
+    at: Positions,
+) -> Made
+    ensures { λ r. ⌜ toldMade r ≡ resumed (forest (now (nodes .entry)) (now (digests .entry)) (now (batches .entry)) (now (groups .entry)) (now (ops .entry))) push id index op registers (place state at) ⌝ }
+{
+    let NodeFound::At(entry) = node_at(nodes, digests, id) else {
+        return Made::Refused(3);
+    };
+    let node = entry.node;
+    let BlockFound::Is(block) = as_block(node) else {
+        return Made::Refused(4);
+    };
+    let BatchFound::At(batch) = batch_at(batches, groups, block, index) else {
+        return Made::Refused(5);
+    };
+    let OpcodeFound::Is(opcode) = opcode_at(ops, batch, op) else {
+        return Made::Refused(6);
+    };
+    let found = BasicBlockContext::new_at_op(push, block, batches, groups, index, op);
+    let OpContextFound::At(context) = found else {
+        return Made::Refused(op_number(found));
+    };
+    operation_row(opcode, context, registers, state, at)
+}
+
+// The number that a context at a batch's start is refused with, or 0.
+fn batch_number(found: BatchContextFound) -> u32
+    ensures { λ r. ⌜ r ≡ number (toldBatchStart found) ⌝ }
+{
+    match found {
+        BatchContextFound::Refused(n) => n,
+        BatchContextFound::At(_) => 0,
+    }
+}
+
+// Respan: 3, 4, 5, 7.
+fn respan(
+    nodes: &[u32],
+    digests: &[u64],
+    batches: &[u32],
+    groups: &[u64],
+    opcode: u8,
+    step: u64,
+    id: MastNodeId,
+    index: u32,
+    state: DecoderState,
+    at: Positions,
+) -> Made
+    ensures { λ r. ⌜ toldMade r ≡ respanned (now (nodes .entry)) (now (digests .entry)) (now (batches .entry)) (now (groups .entry)) opcode step id index (place state at) ⌝ }
+{
+    let NodeFound::At(entry) = node_at(nodes, digests, id) else {
+        return Made::Refused(3);
+    };
+    let node = entry.node;
+    let BlockFound::Is(block) = as_block(node) else {
+        return Made::Refused(4);
+    };
+    let found = BasicBlockContext::new_at_batch_start(block, batches, groups, index);
+    let BatchContextFound::At(c) = found else {
+        return Made::Refused(batch_number(found));
+    };
+    let batch = c.batch;
+    let flags = c.flags;
+    let row = DecoderRow::new_basic_block_batch(
+        opcode,
+        batch,
+        state.current_addr,
+        c.context.group_count_in_block,
+        flags,
+    );
+    let moved = respan_step(state, step);
+    Made::Row(MadeRow {
+        row,
+        state: moved,
+        at,
+        used: Used::Nothing,
+    })
+}
+
+// What the continuation makes, by its kind; 4 for EnterForest.
+pub fn make(
+    nodes: &[u32],
+    digests: &[u64],
+    batches: &[u32],
+    groups: &[u64],
+    ops: &[u8],
+    addresses: &[u64],
+    parents: &[u64],
+    ends: &[u64],
+    profile: Profile,
+    registers: OperationHelperRegisters,
+    continuation: Continuation,
+    is_loop_body: bool,
+    captured: Captured,
+    state: DecoderState,
+    at: Positions,
+) -> Made
+    ensures { λ r. ⌜ toldMade r ≡ made (forest (now (nodes .entry)) (now (digests .entry)) (now (batches .entry)) (now (groups .entry)) (now (ops .entry))) (queues (now (addresses .entry)) (now (parents .entry)) (now (ends .entry))) profile registers continuation «is_loop_body» captured (place state at) ⌝ }
+{
+    let condition = captured.condition;
+    match continuation {
+        Continuation::StartNode(id) => start_node(
+            nodes,
+            digests,
+            batches,
+            groups,
+            addresses,
+            parents,
+            profile,
+            id,
+            captured,
+            state,
+            at,
+        ),
+        Continuation::FinishJoin(id) => finish_node(
+            nodes,
+            digests,
+            ends,
+            profile.end,
+            id,
+            Finish::Any,
+            is_loop_body,
+            Used::Nothing,
+            state,
+            at,
+        ),
+        Continuation::FinishSplit(id) => finish_node(
+            nodes,
+            digests,
+            ends,
+            profile.end,
+            id,
+            Finish::Any,
+            is_loop_body,
+            Used::Nothing,
+            state,
+            at,
+        ),
+        Continuation::FinishLoop(id) => finish_loop(
+            nodes,
+            digests,
+            ends,
+            profile,
+            id,
+            condition,
+            is_loop_body,
+            state,
+            at,
+        ),
+        Continuation::FinishCall(id) => finish_node(
+            nodes,
+            digests,
+            ends,
+            profile.end,
+            id,
+            Finish::Call,
+            is_loop_body,
+            Used::Nothing,
+            state,
+            at,
+        ),
+        Continuation::FinishDyn(id) => finish_node(
+            nodes,
+            digests,
+            ends,
+            profile.end,
+            id,
+            Finish::Dyn,
+            is_loop_body,
+            Used::Nothing,
+            state,
+            at,
+        ),
+        Continuation::ResumeBasicBlock {
+            node_id,
+            batch_index,
+            op_idx_in_batch,
+        } => resume(
+            nodes,
+            digests,
+            batches,
+            groups,
+            ops,
+            profile.push,
+            node_id,
+            batch_index,
+            op_idx_in_batch,
+            registers,
+            state,
+            at,
+        ),
+        Continuation::Respan {
+            node_id,
+            batch_index,
+        } => respan(
+            nodes,
+            digests,
+            batches,
+            groups,
+            profile.respan,
+            profile.step,
+            node_id,
+            batch_index,
+            state,
+            at,
+        ),
+        Continuation::FinishBasicBlock(id) => finish_node(
+            nodes,
+            digests,
+            ends,
+            profile.end,
+            id,
+            Finish::Block,
+            is_loop_body,
+            Used::Nothing,
+            state,
+            at,
+        ),
+        Continuation::EnterForest => Made::Refused(4),
+    }
+}

@@ -1,0 +1,7 @@
+// The finishing passes over a buffer of rows.
+pub mod buffer;
+pub mod finish;
+pub mod fixup;
+pub mod halt;
+pub mod helper_column;
+pub mod multiplicity;

@@ -1,0 +1,3 @@
+// The replay of a list of calls.
+pub mod calls;
+mod directory;
