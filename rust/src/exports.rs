@@ -63,7 +63,7 @@ mod foreign {
 
     #[repr(C)]
     pub struct Replayed {
-        pub number: u32,
+        pub refusal: u32,
         pub rows: usize,
         pub built: [u64; BUILT],
         pub state: DecoderState,
@@ -72,46 +72,46 @@ mod foreign {
 
     #[repr(C)]
     pub struct Inverse {
-        pub number: u32,
+        pub refusal: u32,
         pub value: u64,
     }
 
     #[repr(C)]
     pub struct TraceRead {
-        pub number: u32,
+        pub refusal: u32,
         pub row: usize,
         pub program_rows: usize,
     }
 
     #[repr(C)]
-    pub struct Place {
+    pub struct RowBounds {
         pub start: usize,
         pub cells: usize,
     }
 
     #[repr(C)]
     pub struct IndexBuilt {
-        pub number: u32,
+        pub refusal: u32,
         pub row: usize,
         pub blocks: usize,
     }
 
     #[repr(C)]
-    pub struct BlockFound {
-        pub number: u32,
+    pub struct EnclosingBlock {
+        pub refusal: u32,
         pub found: u32,
         pub place: usize,
     }
 
     #[repr(C)]
     pub struct DumpWritten {
-        pub number: u32,
+        pub refusal: u32,
         pub bytes: usize,
     }
 
     #[repr(C)]
     pub struct DumpRead {
-        pub number: u32,
+        pub refusal: u32,
         pub rows: usize,
     }
 
@@ -171,9 +171,9 @@ mod foreign {
             height: usize,
         ) -> u32;
         pub fn core_read_trace(profile: Profile, cells: *const u64, cells_len: usize, depths: *mut u32, depths_len: usize) -> TraceRead;
-        pub fn core_row(cells: *const u64, cells_len: usize, number: usize) -> Place;
+        pub fn core_row(cells: *const u64, cells_len: usize, number: usize) -> RowBounds;
         pub fn core_build_index(profile: Profile, cells: *const u64, cells_len: usize, index: *mut u32, index_len: usize) -> IndexBuilt;
-        pub fn core_enclosing_block(index: *const u32, index_len: usize, row: usize) -> BlockFound;
+        pub fn core_enclosing_block(index: *const u32, index_len: usize, row: usize) -> EnclosingBlock;
         pub fn core_inverse(x: u64) -> Inverse;
         pub fn core_write_dump(cells: *const u64, cells_len: usize, text: *mut u8, text_len: usize) -> DumpWritten;
         pub fn core_read_dump(text: *const u8, text_len: usize, cells: *mut u64, cells_len: usize) -> DumpRead;
@@ -229,7 +229,7 @@ pub fn replay_calls(
             fragment.len(),
         )
     };
-    accepted(r.number)?;
+    accepted(r.refusal)?;
     Ok(Replayed { rows: r.rows, built: r.built, state: r.state, at: r.at })
 }
 
@@ -307,7 +307,7 @@ pub fn finish(
 /// block, the root's being 1, and 0 for HALT. A refusal leaves `depths` as it is.
 pub fn read_trace(profile: Profile, cells: &[u64], depths: &mut [u32]) -> Result<usize, RefusedAt> {
     let r = unsafe { foreign::core_read_trace(profile, cells.as_ptr(), cells.len(), depths.as_mut_ptr(), depths.len()) };
-    accepted(r.number).map_err(|refusal| RefusedAt { refusal, row: r.row })?;
+    accepted(r.refusal).map_err(|refusal| RefusedAt { refusal, row: r.row })?;
     Ok(r.program_rows)
 }
 
@@ -322,7 +322,7 @@ pub fn row(cells: &[u64], number: usize) -> &[u64] {
 /// short; a refusal leaves it as it is.
 pub fn build_index(profile: Profile, cells: &[u64], index: &mut [u32]) -> Result<usize, RefusedAt> {
     let r = unsafe { foreign::core_build_index(profile, cells.as_ptr(), cells.len(), index.as_mut_ptr(), index.len()) };
-    accepted(r.number).map_err(|refusal| RefusedAt { refusal, row: r.row })?;
+    accepted(r.refusal).map_err(|refusal| RefusedAt { refusal, row: r.row })?;
     Ok(r.blocks)
 }
 
@@ -330,14 +330,14 @@ pub fn build_index(profile: Profile, cells: &[u64], index: &mut [u32]) -> Result
 /// hand over the first three numbers a block alone.
 pub fn enclosing_block(index: &[u32], row: usize) -> Result<Option<usize>, Refusal> {
     let r = unsafe { foreign::core_enclosing_block(index.as_ptr(), index.len(), row) };
-    accepted(r.number).map(|()| (r.found == 1).then_some(r.place))
+    accepted(r.refusal).map(|()| (r.found == 1).then_some(r.place))
 }
 
 /// Writes a finished trace as a value change dump into the first bytes of `text`, and answers how many they are: [`dump_size`] tells before.
 /// Refused by 11 for a buffer that is none of 1 to 2^24 rows, then by 28 where `text` is too short; a refusal leaves it as it is.
 pub fn write_dump(cells: &[u64], text: &mut [u8]) -> Result<usize, Refusal> {
     let r = unsafe { foreign::core_write_dump(cells.as_ptr(), cells.len(), text.as_mut_ptr(), text.len()) };
-    accepted(r.number).map(|()| r.bytes)
+    accepted(r.refusal).map(|()| r.bytes)
 }
 
 /// Reads a dump that is written here back into the first rows of `cells`, and answers how many they are. Refused by 11 for a buffer that is no
@@ -345,7 +345,7 @@ pub fn write_dump(cells: &[u64], text: &mut [u8]) -> Result<usize, Refusal> {
 /// a refusal leaves it as it is.
 pub fn read_dump(text: &[u8], cells: &mut [u64]) -> Result<usize, Refusal> {
     let r = unsafe { foreign::core_read_dump(text.as_ptr(), text.len(), cells.as_mut_ptr(), cells.len()) };
-    accepted(r.number).map(|()| r.rows)
+    accepted(r.refusal).map(|()| r.rows)
 }
 
 /// The bytes of the lines of whole rows, and of the header.
@@ -400,5 +400,5 @@ pub fn undump(text: &[u8]) -> Result<Vec<u64>, Refusal> {
 /// The inverse of a cell modulo p, 0 for 0 and for p. No number is refused.
 pub fn inverse(cell: u64) -> Result<u64, Refusal> {
     let r = unsafe { foreign::core_inverse(cell) };
-    accepted(r.number).map(|()| r.value)
+    accepted(r.refusal).map(|()| r.value)
 }

@@ -1,10 +1,12 @@
 // The listing of a trace: a header, and a line for each row. "Fields: row, name or opcode, addr, count".
 use field::cell::cell;
+use groups::constants::Column;
+use groups::constants::Row;
 use io::print_decimal;
 use io::write_all;
 use libc::STDOUT_FILENO;
 use reader::view::row;
-use rows::passes::multiplicity::opcode_at;
+use rows::passes::multiplicity::decode_opcode;
 use rows::records::profile::Profile;
 use rows::records::profile::opcodes_of;
 
@@ -53,14 +55,14 @@ fn write_name(place: usize, opcode: u64) {
 
 // The line of a row.
 fn write_row(opcodes: &[u8], number: usize, cells: &[u64]) {
-    let opcode = opcode_at(cells, 0);
+    let opcode = decode_opcode(cells, 0);
     write_number(number as u64);
     write(b" ");
     write_name(place_of(opcodes, opcode), opcode);
     write(b" ");
-    write_number(cell(cells, 6));
+    write_number(cell(cells, Column::ADDR));
     write(b" ");
-    write_number(cell(cells, 23));
+    write_number(cell(cells, Column::GROUP_COUNT));
     write(b"\n");
 }
 
@@ -69,7 +71,7 @@ pub fn write_listing(profile: Profile, cells: &[u64]) {
     let opcodes = opcodes_of(profile);
     write(b"row op addr count\n");
     let mut number = 0;
-    while number < cells.len() / 49 {
+    while number < cells.len() / Row::WIDTH {
         write_row(&opcodes, number, row(cells, number));
         number += 1;
     }

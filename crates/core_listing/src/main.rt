@@ -17,8 +17,8 @@ fn main() {
         return;
     }
     let read = read_trace(profile, &cells, &mut depths);
-    if read.number != 0 {
-        write_refusal(read.number);
+    if read.refusal != 0 {
+        write_refusal(read.refusal);
         return;
     }
     write_listing(profile, &cells);

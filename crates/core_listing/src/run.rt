@@ -6,6 +6,8 @@ use rows::cycles::cycle::finalize_clock_cycle;
 use rows::cycles::tracer::CoreTraceGenerationTracer;
 use rows::cycles::tracer::TracerFinalState;
 use rows::passes::finish::finish;
+use rows::records::address_state::DecoderState;
+use rows::records::address_state::Positions;
 use rows::records::continuation::CalleeWord;
 use rows::records::continuation::Captured;
 use rows::records::continuation::ContextInfo;
@@ -16,9 +18,6 @@ use rows::records::ids::ContextId;
 use rows::records::ids::MastNodeId;
 use rows::records::ids::RowIndex;
 use rows::records::profile::Profile;
-use rows::records::replay::DecoderState;
-use rows::records::replay::Positions;
-use rows::records::row::copy_in;
 use rows::records::state::StackState;
 use rows::records::state::SystemState;
 ghost use Prim.Native.Nat.{_<_};
@@ -86,9 +85,9 @@ fn condition(n: u32) -> LoopCondition {
 // What is stored for cycle n.
 fn values(n: u32) -> StoredValues {
     let captured = Captured {
-        condition: condition(n),
-        callee: CalleeWord::Absent,
-        info: ContextInfo::Absent,
+        finish_loop_condition: condition(n),
+        dyn_callee_hash: CalleeWord::Absent,
+        ctx_info: ContextInfo::Absent,
     };
     StoredValues {
         continuation: continuation(n),
@@ -167,31 +166,15 @@ fn run(profile: Profile, fragment: &mut [u64]) -> TracerFinalState {
     twice.into_final_state()
 }
 
-// The 25 cells built last.
-fn built_cells(last: TracerFinalState) -> [u64; 25] {
-    let system = last.last_system_cols;
-    let hash = system.fn_hash;
-    let stack = last.last_stack_cols;
-    let top = stack.top;
-    let mut built = [0u64; 25];
-    copy_in(
-        &mut built,
-        0,
-        &[system.clk, system.ctx, hash.0, hash.1, hash.2, hash.3],
-    );
-    copy_in(&mut built, 6, &top);
-    copy_in(&mut built, 22, &[stack.b0, stack.b1, stack.h0]);
-    built
-}
-
 // The run in one fragment of ten rows, finished to height 10; the number of the first refusal, else 0.
 pub fn write_trace(profile: Profile, cells: &mut [u64]) -> u32 {
     let last = run(profile, cells);
     if last.refusal != 0 {
         return last.refusal;
     }
-    let counts = [(last.num_rows_written % 0x1_0000_0000) as u32];
-    let built = built_cells(last);
+    let end = last.for_passes();
+    let counts = [end.count];
+    let built = end.built;
     let top = [0, 0, 0, 0, 0, 0, 0, 0, 0, 0, 0, 0, 0, 0, 0, 0];
     finish(profile, cells, 10, &counts, &built, top, 10)
 }

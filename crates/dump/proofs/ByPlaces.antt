@@ -9,11 +9,11 @@ use Rattle.field.specs.Modulus.{P}
 use Rattle.field.specs.Cells.{reduced}
 use Rattle.field.proofs.CellLaws.{length-reduced, getD-reduced, reduced-take, read-below}
 use Rattle.rows.specs.passes.Buffers.{rowsOf}
-use Rattle.readings.specs.Readings.{allRows}
-use Rattle.dumps.specs.Dumps.{header, timeLine, changes, laterLines, dumpLines, dumpRows, dump}
-use Rattle.dumps.specs.Undump.{noValues}
-use Rattle.dumps.proofs.ReadBack.{Below, values-changed}
-use Rattle.dump.specs.Places.{valueAt, oldAt, changeLine, changesTo, linesOf, linesTo}
+use Rattle.theory_readings.specs.Readings.{allRows}
+use Rattle.theory_dumps.specs.Dumps.{header, timeLine, changes, laterLines, dumpLines, dumpRows, dump}
+use Rattle.theory_dumps.specs.ways.Undump.{noValues}
+use Rattle.theory_dumps.proofs.ReadBack.{Below, values-changed}
+use Rattle.dump.specs.ways.Places.{valueAt, oldAt, changeLine, changesTo, linesOf, linesTo}
 
 -- 49 values, which are those of a function
 record Values (l : List ℕ) (value : ℕ → ℕ) : Type 0 where

@@ -10,11 +10,11 @@ use lib.ListN.{length, getD, drop, take, length-append, drop-of-length-le}
 use lib.Seq.{drop-cons, take-at}
 use Rattle.groups.specs.Answer.{pick}
 use Rattle.rows.proofs.passes.Checks.{neither}
-use Rattle.dumps.specs.Numerals.{spelled, plain}
-use Rattle.dumps.specs.Undump.{bitsIn}
-use Rattle.dumps.proofs.NumeralLaws.{Digits}
-use Rattle.dump.specs.Reading.{DigitsRead}
-use Rattle.dump.specs.Scanning.{digitsIn}
+use Rattle.theory_dumps.specs.Numerals.{spelled, plain}
+use Rattle.theory_dumps.specs.ways.Undump.{bitsIn}
+use Rattle.theory_dumps.proofs.NumeralLaws.{Digits}
+use Rattle.dump.specs.ways.Reading.{DigitsRead}
+use Rattle.dump.specs.ways.Scanning.{digitsIn}
 
 -- they are digits, and stand in front
 pub bits-are : (text : List ℕ) → Digits 2 (bitsIn text)

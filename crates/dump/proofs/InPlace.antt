@@ -9,14 +9,14 @@ use borrow.Author.Tests.{ltb-true, ltb-false}
 use lib.Dec.{ltb}
 use lib.ListN.{length, getD, drop, take, length-append, length-drop, List·getD-eq-default}
 use lib.Seq.{drop-cons, drop-drop, getD-append-add}
-use Rattle.dumps.specs.Numerals.{binary, decimal, spelled, plain}
-use Rattle.dumps.specs.Dumps.{identifier, timeLine, valueLine}
-use Rattle.dumps.specs.Undump.{behind, lineBits, lineValue}
-use Rattle.dumps.proofs.NumeralLaws.{spells, are-digits, few-digits}
-use Rattle.dumps.proofs.PlainDigits.{plain-is, numeral-plain}
-use Rattle.dumps.proofs.ReadBack.{behind-is, behind-front, line-bits}
-use Rattle.dump.specs.Reading.{Behind, DigitsRead, NumberRead}
-use Rattle.dump.specs.Scanning.{LineOf, digitsIn}
+use Rattle.theory_dumps.specs.Numerals.{binary, decimal, spelled, plain}
+use Rattle.theory_dumps.specs.Dumps.{identifier, timeLine, valueLine}
+use Rattle.theory_dumps.specs.ways.Undump.{behind, lineBits, lineValue}
+use Rattle.theory_dumps.proofs.NumeralLaws.{spells, are-digits, few-digits}
+use Rattle.theory_dumps.proofs.PlainDigits.{plain-is, numeral-plain}
+use Rattle.theory_dumps.proofs.ReadBack.{behind-is, behind-front, line-bits}
+use Rattle.dump.specs.ways.Reading.{Behind, DigitsRead, NumberRead}
+use Rattle.dump.specs.ways.Scanning.{LineOf, digitsIn}
 use Rattle.dump.proofs.DigitLaws.{bits-are, bits-front, digits-are, digits-front, digits-end, taken}
 use Rattle.dump.proofs.LineLaws.{first, long-number, short-number, count-of, identifier-of}
 
@@ -129,7 +129,7 @@ module _ (text : List ℕ) (row at count value : ℕ) (d : DigitsRead (digitsIn 
       record {
         is-number = λ z. (let y : _≡_ {A = ℕ} 0 1 = cc in absurd (omega arith));
         no-number = λ z e. go (ltb row value) refl (spelled-row e);
-        place = λ z. (let y : _≡_ {A = ℕ} 0 1 = cc in absurd (omega arith));
+        is-end = λ z. (let y : _≡_ {A = ℕ} 0 1 = cc in absurd (omega arith));
       }
     where
       go : (t : Bool) → ltb row value ≡ t → spelled 10 0 (digitsIn text) ≡ row → ⊥
@@ -148,7 +148,7 @@ module _ (text : List ℕ) (row at count value : ℕ) (d : DigitsRead (digitsIn 
         record {
           is-number = λ z. (let y : _≡_ {A = ℕ} 0 1 = cc in absurd (omega arith));
           no-number = λ z f. omega (arith, few-digits 10 20 row, ap (λ (l : List ℕ). length l) f, its-count);
-          place = λ z. (let y : _≡_ {A = ℕ} 0 1 = cc in absurd (omega arith));
+          is-end = λ z. (let y : _≡_ {A = ℕ} 0 1 = cc in absurd (omega arith));
         }
 
     pub not-plain : plain (take count text) ≡ false → NumberRead (digitsIn text) row at false 0
@@ -160,7 +160,7 @@ module _ (text : List ℕ) (row at count value : ℕ) (d : DigitsRead (digitsIn 
               let y : _≡_ {A = ℕ} 0 1 = cc in
               omega arith
               );
-          place = λ z. (let y : _≡_ {A = ℕ} 0 1 = cc in absurd (omega arith));
+          is-end = λ z. (let y : _≡_ {A = ℕ} 0 1 = cc in absurd (omega arith));
         }
 
     pub its-number : count ≤ 20 → plain (take count text) ≡ true → NumberRead (digitsIn text) row at true (at + count)
@@ -170,7 +170,7 @@ module _ (text : List ℕ) (row at count value : ℕ) (d : DigitsRead (digitsIn 
         record {
           is-number = λ z. sym (rw s at (plain-is 10 (omega arith) 20 (digitsIn text) (digits-are text) q (omega (arith, its-count))));
           no-number = λ z. (let y : _≡_ {A = ℕ} 0 1 = cc in absurd (omega arith));
-          place = λ z. omega (arith, its-count);
+          is-end = λ z. omega (arith, its-count);
         }
 
 -- the line of a row

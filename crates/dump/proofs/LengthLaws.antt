@@ -6,9 +6,9 @@ use Prim.Native.Nat.{ℕ, _+_}
 use native.Mathlib.Omega.{arith}
 use lib.Dec.{eqb}
 use lib.ListN.{length, length-append}
-use Rattle.dumps.specs.Numerals.{binary, decimal}
-use Rattle.dumps.specs.Dumps.{identifier, timeLine, valueLine}
-use Rattle.dump.specs.Places.{valueAt, oldAt, changeLine, changesTo, linesOf, linesTo}
+use Rattle.theory_dumps.specs.Numerals.{binary, decimal}
+use Rattle.theory_dumps.specs.Dumps.{identifier, timeLine, valueLine}
+use Rattle.dump.specs.ways.Places.{valueAt, oldAt, changeLine, changesTo, linesOf, linesTo}
 use Rattle.dump.proofs.Places.{no-line, a-line, changes-next, lines-next}
 
 pub value-bytes : (column value : ℕ) → length (valueLine column value) ≡ 4 + length (binary value)

@@ -11,12 +11,12 @@ use lib.ListN.{length, getD, drop, take}
 use lib.Seq.{drop-drop, getD-drop, take-all}
 use Rattle.field.specs.Modulus.{P}
 use Rattle.groups.specs.Answer.{pick}
-use Rattle.dumps.specs.Numerals.{numeralWithin, spelled}
-use Rattle.dumps.specs.Dumps.{identifier, valueLine}
-use Rattle.dumps.specs.Undump.{behind, bitsIn, lineBits, lineValue, isLineOf, afterValue, orNone}
-use Rattle.dumps.proofs.ReadBack.{value-sound, line-bits}
-use Rattle.dumps.proofs.NumeralLaws.{few-digits}
-use Rattle.dump.specs.Scanning.{inFront, lineIdentifier, lineNumber, lineCount, found, nextValue}
+use Rattle.theory_dumps.specs.Numerals.{numeralWithin, spelled}
+use Rattle.theory_dumps.specs.Dumps.{identifier, valueLine}
+use Rattle.theory_dumps.specs.ways.Undump.{behind, bitsIn, lineBits, lineValue, isLineOf, afterValue, orNone}
+use Rattle.theory_dumps.proofs.ReadBack.{value-sound, line-bits}
+use Rattle.theory_dumps.proofs.NumeralLaws.{few-digits}
+use Rattle.dump.specs.ways.Scanning.{inFront, lineIdentifier, lineNumber, lineCount, found, nextValue}
 use Rattle.dump.proofs.ScanLaws.{behind-front}
 
 -- no more digits than bytes

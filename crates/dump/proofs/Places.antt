@@ -11,9 +11,9 @@ use lib.ListN.{length, length-append}
 use Rattle.field.specs.Modulus.{P}
 use Rattle.field.specs.Cells.{cellAt}
 use Rattle.groups.specs.Answer.{pick}
-use Rattle.dumps.specs.Dumps.{timeLine, valueLine}
-use Rattle.dumps.proofs.LineLengths.{time-length, value-length}
-use Rattle.dump.specs.Places.{valueAt, oldAt, changeLine, changesTo, linesOf, linesTo}
+use Rattle.theory_dumps.specs.Dumps.{timeLine, valueLine}
+use Rattle.theory_dumps.proofs.LineLengths.{time-length, value-length}
+use Rattle.dump.specs.ways.Places.{valueAt, oldAt, changeLine, changesTo, linesOf, linesTo}
 
 -- before the first row no column has a value
 pub first-changed : (cells : List ℕ) (row column : ℕ) → row ≡ 0 → eqb (oldAt cells row column) (valueAt cells row column) ≡ false

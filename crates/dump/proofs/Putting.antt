@@ -5,7 +5,7 @@ use Prim.Native.Nat.{ℕ, _+_, _-_, _≤_}
 use native.Mathlib.Omega.{arith}
 use lib.ListN.{length, take, drop, length-append, length-drop, take-append-drop}
 use lib.Seq.{length-take-le, take-all, take-at, drop-at, drop-drop}
-use Rattle.dump.specs.Putting.{Put}
+use Rattle.dump.specs.ways.Putting.{Put}
 
 -- no bytes
 pub put-none : (text : List ℕ) (at : ℕ) → Put text at [] text at

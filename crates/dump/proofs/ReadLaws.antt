@@ -9,10 +9,10 @@ use lib.ListN.{length, drop, length-drop}
 use lib.Seq.{drop-drop}
 use Rattle.field.specs.Modulus.{P}
 use Rattle.groups.specs.Answer.{pick}
-use Rattle.dumps.specs.Dumps.{identifier, valueLine}
-use Rattle.dumps.specs.Undump.{behind, orNone}
-use Rattle.dump.specs.Reading.{Behind, ValueRead}
-use Rattle.dump.specs.Scanning.{inFront, found, lineIdentifier, lineNumber, nextValue}
+use Rattle.theory_dumps.specs.Dumps.{identifier, valueLine}
+use Rattle.theory_dumps.specs.ways.Undump.{behind, orNone}
+use Rattle.dump.specs.ways.Reading.{Behind, ValueRead}
+use Rattle.dump.specs.ways.Scanning.{inFront, found, lineIdentifier, lineNumber, nextValue}
 use Rattle.dump.proofs.ScanLaws.{front-fits, behind-front}
 use Rattle.dump.proofs.LineLaws.{next-same, next-wrong, next-old, next-line}
 

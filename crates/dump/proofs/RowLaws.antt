@@ -10,10 +10,10 @@ use lib.Dec.{ltb}
 use lib.ListN.{length, getD, set, drop, take, length-drop, length-set, drop-of-length-le}
 use lib.Seq.{drop-cons, take-suc-set, drop-set-lt, set-getD, take-all}
 use Rattle.groups.specs.Answer.{pick}
-use Rattle.dumps.specs.Dumps.{identifier, timeLine}
-use Rattle.dumps.specs.Undump.{behind, lineValue, isLineOf, afterValue, orNone, withValue, readChanges}
-use Rattle.dump.specs.Reading.{Behind, ValueRead, RowRead, rowThen, timedRow}
-use Rattle.dump.specs.Scanning.{found, lineIdentifier, nextValue}
+use Rattle.theory_dumps.specs.Dumps.{identifier, timeLine}
+use Rattle.theory_dumps.specs.ways.Undump.{behind, lineValue, isLineOf, afterValue, orNone, withValue, readChanges}
+use Rattle.dump.specs.ways.Reading.{Behind, ValueRead, RowRead, rowThen, timedRow}
+use Rattle.dump.specs.ways.Scanning.{found, lineIdentifier, nextValue}
 use Rattle.dump.proofs.ReadLaws.{value-same}
 
 -- values in front of a row that was read

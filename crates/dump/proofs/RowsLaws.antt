@@ -8,10 +8,10 @@ use native.Mathlib.Omega.{arith}
 use lib.ListN.{length, drop, getD, length-drop, length-append, drop-of-length-le}
 use lib.Seq.{drop-cons}
 use Rattle.groups.specs.Answer.{pick}
-use Rattle.dumps.specs.Dumps.{timeLine, changes}
-use Rattle.dumps.specs.Undump.{behind, orNone, withRow, orEnd, readChanges, readRows, noValues}
-use Rattle.dumps.proofs.ReadBack.{behind-is, changes-sound}
-use Rattle.dump.specs.Reading.{RowRead, RowsCounted, rowThen, timedRow, howMany}
+use Rattle.theory_dumps.specs.Dumps.{timeLine, changes}
+use Rattle.theory_dumps.specs.ways.Undump.{behind, orNone, withRow, orEnd, readChanges, readRows, noValues}
+use Rattle.theory_dumps.proofs.ReadBack.{behind-is, changes-sound}
+use Rattle.dump.specs.ways.Reading.{RowRead, RowsCounted, rowThen, timedRow, howMany}
 use Rattle.dump.proofs.ReadLaws.{no-true}
 
 -- a row takes bytes of the text

@@ -11,9 +11,9 @@ use lib.Dec.{eqb, ltb}
 use lib.ListN.{length, getD, drop, take, length-drop, drop-of-length-le}
 use lib.Seq.{drop-cons, getD-drop, take-nil}
 use Rattle.groups.specs.Answer.{pick}
-use Rattle.dumps.specs.Numerals.{spelled}
-use Rattle.dumps.specs.Undump.{behind, bitsIn}
-use Rattle.dump.specs.Scanning.{inFront, Scanned, AllScanned}
+use Rattle.theory_dumps.specs.Numerals.{spelled}
+use Rattle.theory_dumps.specs.ways.Undump.{behind, bitsIn}
+use Rattle.dump.specs.ways.Scanning.{inFront, Scanned, AllScanned}
 
 -- A TEXT IN FRONT
 

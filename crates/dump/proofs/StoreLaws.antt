@@ -16,10 +16,10 @@ use Rattle.rows.specs.records.Cells.{putRow, copiedIn}
 use Rattle.rows.proofs.records.Rooms.{copied-row}
 use Rattle.rows.specs.passes.Buffers.{flat}
 use Rattle.rows.proofs.passes.RowLists.{Wide, length-flat, flat-app}
-use Rattle.dumps.specs.Dumps.{header}
-use Rattle.dumps.specs.Undump.{behind, orNone, withRow, readRows, noValues, hasAll, fromFirst, undump}
-use Rattle.dumps.proofs.ReadBack.{Rows, Below, read-dumped}
-use Rattle.dump.specs.Reading.{RowRead, timedRow, theRows, Storable}
+use Rattle.theory_dumps.specs.Dumps.{header}
+use Rattle.theory_dumps.specs.ways.Undump.{behind, orNone, withRow, readRows, noValues, hasAll, fromFirst, undump}
+use Rattle.theory_dumps.proofs.ReadBack.{Rows, Below, read-dumped}
+use Rattle.dump.specs.ways.Reading.{RowRead, timedRow, theRows, Storable}
 use Rattle.dump.proofs.RowsLaws.{no-some, rowsAt, rows-none, rows-good, rows-bad}
 
 -- ROWS OF CELLS

@@ -13,10 +13,10 @@ use Rattle.field.specs.Modulus.{P}
 use Rattle.groups.specs.Answer.{accepted, refused, pick}
 use Rattle.rows.specs.passes.Passes.{bufferWrong}
 use Rattle.rows.proofs.passes.Checks.{neither}
-use Rattle.dumps.specs.Dumps.{header, timeLine}
-use Rattle.dumps.specs.Undump.{behind, orNone, withRow, readRows, noValues, hasAll, fromFirst, undump}
-use Rattle.dump.specs.Undumping.{fewRows, undumping, readingDump}
-use Rattle.dump.specs.Reading.{Behind, RowRead, RowsCounted, timedRow, wholeFirst, howMany, theRows, Storable}
+use Rattle.theory_dumps.specs.Dumps.{header, timeLine}
+use Rattle.theory_dumps.specs.ways.Undump.{behind, orNone, withRow, readRows, noValues, hasAll, fromFirst, undump}
+use Rattle.dump.specs.ways.Undumping.{fewRows, undumping, readingDump}
+use Rattle.dump.specs.ways.Reading.{Behind, RowRead, RowsCounted, timedRow, wholeFirst, howMany, theRows, Storable}
 use Rattle.dump.proofs.RowsLaws.{no-some, rows-step, rowsFrom, rowsAt, RowsTo, plusRows}
 
 -- ALL VALUES

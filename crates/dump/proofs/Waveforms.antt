@@ -12,16 +12,16 @@ use lib.ListN.{length, take, drop}
 use lib.Seq.{take-at}
 use Rattle.field.specs.Cells.{reduced}
 use Rattle.field.proofs.CellLaws.{read-small, length-reduced}
-use Rattle.groups.specs.Answer.{Answer, accepted, refused, pick, number, values}
+use Rattle.groups.specs.Answer.{Answer, accepted, refused, pick, refusal, values}
 use Rattle.rows.specs.passes.Buffers.{rowsOf, flat}
 use Rattle.rows.specs.passes.Passes.{bufferWrong}
 use Rattle.rows.proofs.passes.RowLists.{Wide, length-flat, rows-flat}
-use Rattle.readings.specs.Readings.{allRows}
-use Rattle.dumps.specs.Dumps.{dumpRows, dump}
-use Rattle.dumps.specs.Undump.{undump}
-use Rattle.dumps.proofs.ReadBack.{Below, Rows, one-dump, reads-dumps, read-dumped}
+use Rattle.theory_readings.specs.Readings.{allRows}
+use Rattle.theory_dumps.specs.Dumps.{dumpRows, dump}
+use Rattle.theory_dumps.specs.ways.Undump.{undump}
+use Rattle.theory_dumps.proofs.ReadBack.{Below, Rows, one-dump, reads-dumps, read-dumped}
 use Rattle.dump.specs.Dumping.{rowsWrong, dumping, textAfter, Given, ReadsDump}
-use Rattle.dump.specs.Undumping.{fewRows, undumping, readingDump, rowsRead, cellsAfter}
+use Rattle.dump.specs.ways.Undumping.{fewRows, undumping, readingDump, rowsRead, cellsAfter}
 use Rattle.dump.proofs.ReadLaws.{no-true}
 use Rattle.dump.proofs.Writing.{whole, text-fits}
 use Rattle.dump.proofs.WrittenRead.{many, dumped, read-cells}
@@ -61,34 +61,34 @@ right-length cells b = rw (le-ltb 0 (length cells % 49) (omega (arith, b .long))
 abbrev pub textWritten : (cells text : List ℕ) → List ℕ
 textWritten cells text = take (values 0 (dumping cells (length text))) (textAfter cells (dumping cells (length text)) text)
 
-written-dump : (cells text : List ℕ) → rowsWrong (length cells) ≡ false → length (dump cells) ≤ length text → (number (dumping cells (length text)) ≡ 0) × (textWritten cells text ≡ dump cells)
+written-dump : (cells text : List ℕ) → rowsWrong (length cells) ≡ false → length (dump cells) ≤ length text → (refusal (dumping cells (length text)) ≡ 0) × (textWritten cells text ≡ dump cells)
 unfolding textAfter
 written-dump cells text right h =
     let w : dumping cells (length text) ≡ accepted (length (dump cells)) = text-fits cells (length text) right h in
     (rw w, rw w (take-at (dump cells) (drop (length (dump cells)) text) (length (dump cells)) refl))
 
 -- where the writer accepts, there is no 11 and the text is long enough
-accepts : (cells : List ℕ) (lent : ℕ) → number (dumping cells lent) ≡ 0 → (rowsWrong (length cells) ≡ false) × (length (dump cells) ≤ lent)
+accepts : (cells : List ℕ) (lent : ℕ) → refusal (dumping cells lent) ≡ 0 → (rowsWrong (length cells) ≡ false) × (length (dump cells) ≤ lent)
 unfolding dumping
 accepts cells lent e = go (rowsWrong (length cells)) refl (ltb lent (length (dump cells))) refl e
   where
     go : (s : Bool) → rowsWrong (length cells) ≡ s → (t : Bool) → ltb lent (length (dump cells)) ≡ t
-        → number (pick s (refused 11) (pick t (refused 28) (accepted (length (dump cells))))) ≡ 0 → (rowsWrong (length cells) ≡ false) × (length (dump cells) ≤ lent)
+        → refusal (pick s (refused 11) (pick t (refused 28) (accepted (length (dump cells))))) ≡ 0 → (rowsWrong (length cells) ≡ false) × (length (dump cells) ≤ lent)
     go true f t h e = absurd (omega arith)
     go false f true h e = absurd (omega arith)
     go false f false h e = (f, ltb-false lent (length (dump cells)) h)
 
 -- a text is given exactly if some call of the writer, not refused, leaves it
-pub writer-gives : (text : List ℕ) → Given text ↔ ((cells : List ℕ) × ((lent : List ℕ) × ((number (dumping cells (length lent)) ≡ 0) × (textWritten cells lent ≡ text))))
+pub writer-gives : (text : List ℕ) → Given text ↔ ((cells : List ℕ) × ((lent : List ℕ) × ((refusal (dumping cells (length lent)) ≡ 0) × (textWritten cells lent ≡ text))))
 writer-gives text = (λ g. to g, λ x. from (x .0) (x .1 .0) (x .1 .1 .0) (x .1 .1 .1))
   where
-    to : Given text → (cells : List ℕ) × ((lent : List ℕ) × ((number (dumping cells (length lent)) ≡ 0) × (textWritten cells lent ≡ text)))
+    to : Given text → (cells : List ℕ) × ((lent : List ℕ) × ((refusal (dumping cells (length lent)) ≡ 0) × (textWritten cells lent ≡ text)))
     to g =
         let long : length (dump (g .cells)) ≤ length (dump (g .cells)) = omega arith in
         let (a, b) = written-dump (g .cells) (dump (g .cells)) (g .right-length) long in
         (g .cells, (dump (g .cells), (a, b ∙ g .is-dump)))
 
-    from : (cells lent : List ℕ) → number (dumping cells (length lent)) ≡ 0 → textWritten cells lent ≡ text → Given text
+    from : (cells lent : List ℕ) → refusal (dumping cells (length lent)) ≡ 0 → textWritten cells lent ≡ text → Given text
     from cells lent e t =
         let (right, long) = accepts cells (length lent) e in
         record { cells = cells; right-length = right; is-dump = sym (written-dump cells lent right long .1) ∙ t }
@@ -179,7 +179,7 @@ module _ (text : List ℕ) (g : Given text) where
 
 module _ (text lent : List ℕ) where
   abbrev Computed : Answer (List (List ℕ)) → Type 0
-  Computed a = ReadsDump text lent (number a) (rowsRead a) (cellsAfter a lent)
+  Computed a = ReadsDump text lent (refusal a) (rowsRead a) (cellsAfter a lent)
 
   by-given : bufferWrong (length lent) ≡ false → (g : Given text) → (t : Bool) → ltb (length lent) (length (g .cells)) ≡ t
       → Computed (pick t (refused 11) (accepted (allRows (reduced (g .cells)))))
@@ -279,7 +279,7 @@ module _ (text lent : List ℕ) where
 -- "so that the reduced cells come back for every buffer of at least one row": where the lent text and the lent cells are long enough, the writer accepts,
 -- and whatever the reader answers and leaves of its text is 0, the rows, and the reduced cells in front of the cells behind them
 pub come-back : (cells text room : List ℕ) → Buffer cells → Buffer room → length (dump cells) ≤ length text → length cells ≤ length room →
-    (number (dumping cells (length text)) ≡ 0)
+    (refusal (dumping cells (length text)) ≡ 0)
     × ((n rows : ℕ) (left : List ℕ) → ReadsDump (textWritten cells text) room n rows left
     → (n ≡ 0) × (49 * rows ≡ length cells) × (left ≡ reduced cells ++ drop (length cells) room))
 come-back cells text room b r h l =

@@ -10,7 +10,7 @@ use lib.ListN.{length}
 use Rattle.groups.specs.Answer.{accepted, refused}
 use Rattle.rows.specs.passes.Passes.{bufferWrong}
 use Rattle.rows.proofs.passes.Checks.{neither}
-use Rattle.dumps.specs.Dumps.{header, bytes, varLines, columns, dump}
+use Rattle.theory_dumps.specs.Dumps.{header, bytes, varLines, columns, dump}
 use Rattle.dump.specs.Dumping.{rowsWrong, dumping}
 
 pub header-length : length header ≡ 1400

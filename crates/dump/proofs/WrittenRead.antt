@@ -11,9 +11,9 @@ use Rattle.field.specs.Cells.{reduced}
 use Rattle.field.proofs.CellLaws.{length-reduced, reduced-take, reduced-drop}
 use Rattle.rows.specs.passes.Buffers.{rowsOf, flat}
 use Rattle.rows.proofs.passes.RowLists.{length-rows, flat-rows}
-use Rattle.readings.specs.Readings.{allRows}
-use Rattle.dumps.specs.Dumps.{dump}
-use Rattle.dumps.proofs.ReadBack.{Below, Rows, Dumped}
+use Rattle.theory_readings.specs.Readings.{allRows}
+use Rattle.theory_dumps.specs.Dumps.{dump}
+use Rattle.theory_dumps.proofs.ReadBack.{Below, Rows, Dumped}
 use Rattle.dump.specs.Dumping.{rowsWrong}
 use Rattle.dump.proofs.Writing.{whole}
 

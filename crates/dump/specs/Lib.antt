@@ -1,6 +1,2 @@
 pub mod Dumping
-pub mod Undumping
-pub mod Places
-pub mod Putting
-pub mod Reading
-pub mod Scanning
+pub mod ways

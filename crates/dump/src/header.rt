@@ -1,11 +1,11 @@
 // The lines in front of the rows.
-use crate::read::Place;
+use crate::read::LineEnd;
 use crate::read::after;
 use crate::text::put_bytes;
-ghost use Rattle.dumps.specs.Dumps.{header};
-ghost use Rattle.dumps.specs.Undump.{behind};
-ghost use Rattle.dump.specs.Putting.{Put};
-ghost use Rattle.dump.specs.Reading.{Behind};
+ghost use Rattle.theory_dumps.specs.Dumps.{header};
+ghost use Rattle.theory_dumps.specs.ways.Undump.{behind};
+ghost use Rattle.dump.specs.ways.Putting.{Put};
+ghost use Rattle.dump.specs.ways.Reading.{Behind};
 
 const HEADER: [u8; 1400] = *b"$timescale 1 ns $end\n\
 $scope module trace $end\n\
@@ -69,7 +69,7 @@ pub(crate) fn put_header(text: &mut [u8]) -> usize
 }
 
 // Behind them in a text.
-pub(crate) fn after_header(text: &[u8]) -> Place
+pub(crate) fn after_header(text: &[u8]) -> LineEnd
     ensures { λ r. ⌜ Behind (now (text .entry)) (behind header (now (text .entry))) (r .good) (r .at) ⌝ }
 {
     after(text, 0, &HEADER)

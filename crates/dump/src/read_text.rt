@@ -5,19 +5,21 @@ use crate::read_rows::count_rows;
 use crate::read_rows::row_at;
 use crate::read_rows::store_rows;
 use field::felt::Felt;
+use groups::constants::Refusal;
+use groups::constants::Row;
 use rows::passes::buffer::buffer_wrong;
 ghost use mathlib.Core.Path.{_≡_};
 ghost use Prim.Native.Nat.{_≤_};
 ghost use lib.ListN.{length, drop};
-ghost use Rattle.dumps.specs.Undump.{orNone, readRows, noValues, hasAll, fromFirst};
+ghost use Rattle.theory_dumps.specs.ways.Undump.{orNone, readRows, noValues, hasAll, fromFirst};
 ghost use Rattle.dump.specs.Dumping.{ReadsDump};
-ghost use Rattle.dump.specs.Undumping.{fewRows};
-ghost use Rattle.dump.specs.Reading.{timedRow, wholeFirst, RowsCounted};
+ghost use Rattle.dump.specs.ways.Undumping.{fewRows};
+ghost use Rattle.dump.specs.ways.Reading.{timedRow, wholeFirst, RowsCounted};
 
 // What is answered: 0, or the number of a refusal; the number of rows, 0 on a refusal.
 #[repr(C)]
 pub struct DumpRead {
-    pub number: u32,
+    pub refusal: u32,
     pub rows: usize,
 }
 
@@ -26,7 +28,7 @@ fn has_all(values: [u64; 49]) -> bool
     ensures { λ r. ⌜ r ≡ hasAll values ⌝ }
 {
     let mut i = 0;
-    while i < 49 {
+    while i < Row::WIDTH {
         if Felt::MODULUS <= values[i] {
             return false;
         }
@@ -51,7 +53,9 @@ fn whole_first(text: &[u8], at: usize) -> bool
 // The rows of a good text behind its header.
 fn good_rows(text: &[u8], at: usize) -> Counted
     requires { ⌜ at ≤ length (now text) ⌝ }
-    ensures { λ r. ⌜ RowsCounted (fewRows (orNone (readRows (length (drop at (now (text .entry)))) 0 noValues (drop at (now (text .entry)))) fromFirst)) (r .good) (r .rows) ⌝ }
+    ensures { λ r. ⌜ RowsCounted
+        (fewRows (orNone (readRows (length (drop at (now (text .entry)))) 0 noValues (drop at (now (text .entry)))) fromFirst))
+        (r .good) (r .rows) ⌝ }
 {
     if !whole_first(text, at) {
         return Counted {
@@ -65,37 +69,37 @@ fn good_rows(text: &[u8], at: usize) -> Counted
 // Reads a dump that is written here back into cells. Refusals: 11 for a buffer of wrong length, 29 for a text that the writer does not give,
 // then 11 for a buffer too short. A refusal changes nothing, and the cells behind the rows stay.
 pub fn read_dump(text: &[u8], cells: &mut [u64]) -> DumpRead
-    ensures { λ r. ⌜ ReadsDump (now (text .entry)) (now (cells .entry)) (r .number) (r .rows) (now (cells .exit)) ⌝ }
+    ensures { λ r. ⌜ ReadsDump (now (text .entry)) (now (cells .entry)) (r .refusal) (r .rows) (now (cells .exit)) ⌝ }
 {
     if buffer_wrong(cells.len()) {
         return DumpRead {
-            number: 11,
+            refusal: Refusal::BAD_LENGTH,
             rows: 0,
         };
     }
     let start = after_header(text);
     if !start.good {
         return DumpRead {
-            number: 29,
+            refusal: Refusal::NO_DUMP,
             rows: 0,
         };
     }
     let counted = good_rows(text, start.at);
     if !counted.good {
         return DumpRead {
-            number: 29,
+            refusal: Refusal::NO_DUMP,
             rows: 0,
         };
     }
-    if cells.len() / 49 < counted.rows {
+    if cells.len() / Row::WIDTH < counted.rows {
         return DumpRead {
-            number: 11,
+            refusal: Refusal::BAD_LENGTH,
             rows: 0,
         };
     }
     store_rows(text, start.at, counted.rows, cells);
     DumpRead {
-        number: 0,
+        refusal: 0,
         rows: counted.rows,
     }
 }

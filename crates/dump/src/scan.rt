@@ -6,9 +6,10 @@ ghost use lib.Dec.{ltb};
 ghost use lib.ListN.{length, drop, take, getD};
 ghost use Rattle.field.specs.Modulus.{P};
 ghost use Rattle.groups.specs.Answer.{pick};
-ghost use Rattle.dumps.specs.Numerals.{plain};
-ghost use Rattle.dump.specs.Reading.{DigitsRead};
-ghost use Rattle.dump.specs.Scanning.{inFront, Scanned, AllScanned, FirstScanned, LineScanned, digitsIn};
+ghost use Rattle.groups.specs.Constants.{mostRows};
+ghost use Rattle.theory_dumps.specs.Numerals.{plain};
+ghost use Rattle.dump.specs.ways.Reading.{DigitsRead};
+ghost use Rattle.dump.specs.ways.Scanning.{inFront, Scanned, AllScanned, FirstScanned, LineScanned, digitsIn};
 
 // Digits from a place on: how many, and the number that they spell, of binary ones the first 64.
 pub(crate) struct Digits {
@@ -107,7 +108,7 @@ fn bits_at(text: &[u8], at: usize) -> Digits
 
 // The decimal digits from a place on: how many, and the number that they spell; or a number above `most` where they spell one above it.
 pub(crate) fn digits_at(text: &[u8], at: usize, most: u64) -> Digits
-    requires { ⌜ (at ≤ length (now text)) × (most ≤ 16777216) ⌝ }
+    requires { ⌜ (at ≤ length (now text)) × (most ≤ mostRows) ⌝ }
     ensures { λ r. ⌜ DigitsRead (digitsIn (drop at (now (text .entry)))) most (r .count) (r .value) ⌝ }
 {
     let mut count = 0;

@@ -2,8 +2,9 @@
 use crate::numeral::put_digits;
 ghost use Prim.Native.Nat.{_≤_, _<_};
 ghost use lib.ListN.{length};
-ghost use Rattle.dumps.specs.Dumps.{timeLine, valueLine};
-ghost use Rattle.dump.specs.Putting.{Put};
+ghost use Rattle.groups.specs.Constants.{rowWidth};
+ghost use Rattle.theory_dumps.specs.Dumps.{timeLine, valueLine};
+ghost use Rattle.dump.specs.ways.Putting.{Put};
 
 // Puts bytes at a place and answers the place behind them.
 pub(crate) fn put_bytes(text: &mut [u8], at: usize, bytes: &[u8]) -> usize
@@ -24,7 +25,7 @@ pub(crate) fn put_bytes(text: &mut [u8], at: usize, bytes: &[u8]) -> usize
 
 // The line of a value, as `b101 !`.
 pub(crate) fn put_value(text: &mut [u8], at: usize, column: usize, value: u64) -> usize
-    requires { ⌜ (at ≤ 2305843009213693952) × (column < 49) ⌝ }
+    requires { ⌜ (at ≤ 2305843009213693952) × (column < rowWidth) ⌝ }
     ensures { λ r. ⌜ Put (now (text .entry)) at (valueLine column value) (now (text .exit)) r ⌝ }
 {
     let mut digits = [0u8; 64];

@@ -12,7 +12,7 @@ use Rattle.groups.specs.Answer.{pick}
 use Rattle.rows.specs.passes.Passes.{bufferWrong}
 use Rattle.rows.proofs.passes.Checks.{neither}
 use Rattle.reader.specs.Views.{viewRefused}
-use Rattle.exports.specs.Places.{rowStart, rowCells}
+use Rattle.exports.specs.Places.{viewStart, viewCells}
 
 pub row-inside : (cells number : ℕ) → viewRefused cells number ≡ false → number * 49 + 49 ≤ cells
 unfolding viewRefused
@@ -30,8 +30,8 @@ part-of xs number false e =
 
 -- the part that the row view hands back has as many cells as the place says
 pub part-cells : (xs : List ℕ) (number : ℕ) →
-    length (pick (viewRefused (length xs) number) [] (take 49 (drop (number * 49) xs))) ≡ rowCells (length xs) number
-unfolding rowCells
+    length (pick (viewRefused (length xs) number) [] (take 49 (drop (number * 49) xs))) ≡ viewCells (length xs) number
+unfolding viewCells
 part-cells xs number = part-of xs number (viewRefused (length xs) number) refl
 
 cells-at : (xs : List ℕ) (number : ℕ) (t : Bool) →
@@ -41,27 +41,27 @@ cells-at xs number false = refl
 
 -- the cells at the place are those that the row view hands back
 pub place-cells : (xs : List ℕ) (number : ℕ) →
-    take (rowCells (length xs) number) (drop (rowStart (length xs) number) xs)
+    take (viewCells (length xs) number) (drop (viewStart (length xs) number) xs)
     ≡ pick (viewRefused (length xs) number) [] (take 49 (drop (number * 49) xs))
-unfolding rowCells rowStart
+unfolding viewCells viewStart
 place-cells xs number = cells-at xs number (viewRefused (length xs) number)
 
 start-of-none : (t : Bool) (n : ℕ) → _≡_ {A = ℕ} (pick t 0 49) 0 → _≡_ {A = ℕ} 0 (pick t 0 n)
 start-of-none true n e = refl
 start-of-none false n e = omega (arith, e)
 
-pub none-starts : (cells number : ℕ) → rowCells cells number ≡ 0 → 0 ≡ rowStart cells number
-unfolding rowCells rowStart
+pub none-starts : (cells number : ℕ) → viewCells cells number ≡ 0 → 0 ≡ viewStart cells number
+unfolding viewCells viewStart
 none-starts cells number e = start-of-none (viewRefused cells number) (number * 49) e
 
 not-refused : (t : Bool) → (_≡_ {A = ℕ} (pick t 0 49) 0 → ⊥) → t ≡ false
 not-refused true h = absurd (h refl)
 not-refused false h = refl
 
-pub some-passes : (cells number : ℕ) → (rowCells cells number ≡ 0 → ⊥) → viewRefused cells number ≡ false
-unfolding rowCells
+pub some-passes : (cells number : ℕ) → (viewCells cells number ≡ 0 → ⊥) → viewRefused cells number ≡ false
+unfolding viewCells
 some-passes cells number h = not-refused (viewRefused cells number) h
 
-pub some-starts : (cells number : ℕ) → (rowCells cells number ≡ 0 → ⊥) → number * 49 ≡ rowStart cells number
-unfolding rowStart
+pub some-starts : (cells number : ℕ) → (viewCells cells number ≡ 0 → ⊥) → number * 49 ≡ viewStart cells number
+unfolding viewStart
 some-starts cells number h = rw (some-passes cells number h)

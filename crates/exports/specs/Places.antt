@@ -3,24 +3,25 @@
 use mathlib.Core.Option.{Option, none, some}
 use Prim.Native.Nat.{ℕ, _*_}
 use Rattle.groups.specs.Answer.{Answer, accepted, refused, pick}
+use Rattle.groups.specs.Constants.{rowWidth}
 use Rattle.reader.specs.Views.{viewRefused}
 
 -- the first cell of the part
-unfoldable pub rowStart : (cells number : ℕ) → ℕ
-rowStart cells number = pick (viewRefused cells number) 0 (number * 49)
+unfoldable pub viewStart : (cells number : ℕ) → ℕ
+viewStart cells number = pick (viewRefused cells number) 0 (number * rowWidth)
 
 -- how many cells the part has
-unfoldable pub rowCells : (cells number : ℕ) → ℕ
-rowCells cells number = pick (viewRefused cells number) 0 49
+unfoldable pub viewCells : (cells number : ℕ) → ℕ
+viewCells cells number = pick (viewRefused cells number) 0 rowWidth
 
 -- of a look-up in an index (N1): 1 where a block encloses the row, else 0
-unfoldable pub blockFound : Answer (Option ℕ) → ℕ
-blockFound (accepted (some place)) = 1
-blockFound (accepted none) = 0
-blockFound (refused n) = 0
+unfoldable pub enclosingFound : Answer (Option ℕ) → ℕ
+enclosingFound (accepted (some place)) = 1
+enclosingFound (accepted none) = 0
+enclosingFound (refused n) = 0
 
 -- its place, else 0
-unfoldable pub blockPlace : Answer (Option ℕ) → ℕ
-blockPlace (accepted (some place)) = place
-blockPlace (accepted none) = 0
-blockPlace (refused n) = 0
+unfoldable pub enclosingPlace : Answer (Option ℕ) → ℕ
+enclosingPlace (accepted (some place)) = place
+enclosingPlace (accepted none) = 0
+enclosingPlace (refused n) = 0

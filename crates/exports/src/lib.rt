@@ -6,6 +6,7 @@ use dump::read_text::read_dump;
 use dump::write::DumpWritten;
 use dump::write::write_dump;
 use field::inverse::inverse;
+use groups::constants::Row;
 use index::build::IndexBuilt;
 use index::build::build_index;
 use index::enclosing::Enclosing;
@@ -19,43 +20,39 @@ use rows::passes::halt::pad_core_row_major;
 use rows::passes::halt::push_halt_opcode_row;
 use rows::passes::helper_column::invert_helper_column;
 use rows::passes::multiplicity::set_loop_body_multiplicities;
+use rows::records::address_state::DecoderState;
+use rows::records::address_state::Positions;
 use rows::records::profile::Profile;
-use rows::records::replay::DecoderState;
-use rows::records::replay::Positions;
 use rows::replay::calls::Replayed;
 use rows::replay::calls::replay_calls;
 ghost use mathlib.Core.Path.{_≡_};
-ghost use Prim.Native.Nat.{_-_, _/_};
+ghost use Prim.Native.Nat.{_-_};
 ghost use lib.ListN.{length};
 ghost use Rattle.rows.specs.passes.Buffers.{onRows};
 ghost use Rattle.rows.specs.passes.Passes.{sumOf, builtOf, fixedUp, multiplied, inverted, halted, padded, refusal1, refusal2, refusal3, refusal4, refusal5, refusalAll, allPasses, unlessRefused};
-ghost use Rattle.rows.specs.records.Forests.{forest};
-ghost use Rattle.rows.specs.records.Addresses.{queues};
-ghost use Rattle.rows.specs.replay.Calls.{scanned, replayed, replayedFragment};
-ghost use Rattle.readings.specs.Answers.{depthsAfter};
-ghost use Rattle.readings.specs.Parser.{answer};
-ghost use Rattle.reader.specs.Reads.{traceRead};
+ghost use Rattle.rows.specs.replay.Calls.{lentScanned, replayed, replayedFragment};
+ghost use Rattle.reader.specs.Reads.{ReadsTrace};
 ghost use Rattle.field.specs.Inverse.{inverseOf};
-ghost use Rattle.groups.specs.Answer.{number, values};
-ghost use Rattle.indexes.specs.Enclosing.{enclosing};
-ghost use Rattle.index.specs.Building.{building, indexBuilt, indexAfter};
+ghost use Rattle.groups.specs.Answer.{refusal, values};
+ghost use Rattle.theory_indexes.specs.Enclosing.{enclosing};
+ghost use Rattle.index.specs.Building.{BuildsIndex};
 ghost use Rattle.dump.specs.Dumping.{dumping, textAfter, ReadsDump};
-ghost use Rattle.exports.specs.Places.{rowStart, rowCells, blockFound, blockPlace};
+ghost use Rattle.exports.specs.Places.{viewStart, viewCells, enclosingFound, enclosingPlace};
 
 // The number, always 0, and the inverse.
 #[repr(C)]
 pub struct Inverse {
-    pub number: u32,
+    pub refusal: u32,
     pub value: u64,
 }
 
 // The inverse modulo p of any number, 0 for 0 and for p.
 #[no_mangle]
 pub extern "C" fn core_inverse(x: u64) -> Inverse
-    ensures { λ r. ⌜ (r .number ≡ 0) × (r .value ≡ inverseOf x) ⌝ }
+    ensures { λ r. ⌜ (r .refusal ≡ 0) × (r .value ≡ inverseOf x) ⌝ }
 {
     Inverse {
-        number: 0,
+        refusal: 0,
         value: inverse(x),
     }
 }
@@ -70,7 +67,12 @@ pub extern "C" fn core_fixup(
     first_stack_top: &[u64; 16],
 ) -> u32
     ensures { λ r. ⌜ r ≡ refusal1 (now (buffer .entry)) «fragment_size» (now (counts .entry)) (now (built .entry)) ⌝ }
-    ensures { λ _. ⌜ now (buffer .exit) ≡ unlessRefused (refusal1 (now (buffer .entry)) «fragment_size» (now (counts .entry)) (now (built .entry))) (now (buffer .entry)) (onRows (sumOf (now (counts .entry))) (fixedUp «fragment_size» (now («first_stack_top» .entry)) (builtOf (length (now (counts .entry)) - 1) (now (built .entry)))) (now (buffer .entry))) ⌝ }
+    ensures { λ _. ⌜ now (buffer .exit) ≡ unlessRefused
+        (refusal1 (now (buffer .entry)) «fragment_size» (now (counts .entry)) (now (built .entry)))
+        (now (buffer .entry))
+        (onRows (sumOf (now (counts .entry)))
+        (fixedUp «fragment_size» (now («first_stack_top» .entry)) (builtOf (length (now (counts .entry)) - 1) (now (built .entry))))
+        (now (buffer .entry))) ⌝ }
 {
     fixup_stack_and_system_rows(buffer, fragment_size, counts, built, *first_stack_top)
 }
@@ -79,7 +81,8 @@ pub extern "C" fn core_fixup(
 #[no_mangle]
 pub extern "C" fn core_multiplicities(profile: Profile, buffer: &mut [u64], rows: usize) -> u32
     ensures { λ r. ⌜ r ≡ refusal2 profile (now (buffer .entry)) rows ⌝ }
-    ensures { λ _. ⌜ now (buffer .exit) ≡ unlessRefused (refusal2 profile (now (buffer .entry)) rows) (now (buffer .entry)) (onRows rows (multiplied profile) (now (buffer .entry))) ⌝ }
+    ensures { λ _. ⌜ now (buffer .exit) ≡ unlessRefused (refusal2 profile (now (buffer .entry)) rows) (now (buffer .entry))
+        (onRows rows (multiplied profile) (now (buffer .entry))) ⌝ }
 {
     set_loop_body_multiplicities(profile, buffer, rows)
 }
@@ -88,7 +91,8 @@ pub extern "C" fn core_multiplicities(profile: Profile, buffer: &mut [u64], rows
 #[no_mangle]
 pub extern "C" fn core_invert_helper_column(buffer: &mut [u64], rows: usize) -> u32
     ensures { λ r. ⌜ r ≡ refusal3 (now (buffer .entry)) rows ⌝ }
-    ensures { λ _. ⌜ now (buffer .exit) ≡ unlessRefused (refusal3 (now (buffer .entry)) rows) (now (buffer .entry)) (onRows rows inverted (now (buffer .entry))) ⌝ }
+    ensures { λ _. ⌜ now (buffer .exit) ≡ unlessRefused (refusal3 (now (buffer .entry)) rows) (now (buffer .entry))
+        (onRows rows inverted (now (buffer .entry))) ⌝ }
 {
     invert_helper_column(buffer, rows)
 }
@@ -102,7 +106,8 @@ pub extern "C" fn core_push_halt(
     built: &[u64; 25],
 ) -> u32
     ensures { λ r. ⌜ r ≡ refusal4 profile (now (buffer .entry)) rows ⌝ }
-    ensures { λ _. ⌜ now (buffer .exit) ≡ unlessRefused (refusal4 profile (now (buffer .entry)) rows) (now (buffer .entry)) (onRows rows (halted profile (now (built .entry))) (now (buffer .entry))) ⌝ }
+    ensures { λ _. ⌜ now (buffer .exit) ≡ unlessRefused (refusal4 profile (now (buffer .entry)) rows) (now (buffer .entry))
+        (onRows rows (halted profile (now (built .entry))) (now (buffer .entry))) ⌝ }
 {
     push_halt_opcode_row(profile, buffer, rows, *built)
 }
@@ -111,7 +116,8 @@ pub extern "C" fn core_push_halt(
 #[no_mangle]
 pub extern "C" fn core_pad(profile: Profile, buffer: &mut [u64], rows: usize, height: usize) -> u32
     ensures { λ r. ⌜ r ≡ refusal5 profile (now (buffer .entry)) rows height ⌝ }
-    ensures { λ _. ⌜ now (buffer .exit) ≡ unlessRefused (refusal5 profile (now (buffer .entry)) rows height) (now (buffer .entry)) (onRows rows (padded profile height) (now (buffer .entry))) ⌝ }
+    ensures { λ _. ⌜ now (buffer .exit) ≡ unlessRefused (refusal5 profile (now (buffer .entry)) rows height) (now (buffer .entry))
+        (onRows rows (padded profile height) (now (buffer .entry))) ⌝ }
 {
     pad_core_row_major(profile, buffer, rows, height)
 }
@@ -128,7 +134,10 @@ pub extern "C" fn core_finish(
     height: usize,
 ) -> u32
     ensures { λ r. ⌜ r ≡ refusalAll profile (now (buffer .entry)) «fragment_size» (now (counts .entry)) (now (built .entry)) height ⌝ }
-    ensures { λ _. ⌜ now (buffer .exit) ≡ unlessRefused (refusalAll profile (now (buffer .entry)) «fragment_size» (now (counts .entry)) (now (built .entry)) height) (now (buffer .entry)) (allPasses profile «fragment_size» (now (counts .entry)) (now (built .entry)) (now («first_stack_top» .entry)) height (now (buffer .entry))) ⌝ }
+    ensures { λ _. ⌜ now (buffer .exit) ≡ unlessRefused
+        (refusalAll profile (now (buffer .entry)) «fragment_size» (now (counts .entry)) (now (built .entry)) height)
+        (now (buffer .entry))
+        (allPasses profile «fragment_size» (now (counts .entry)) (now (built .entry)) (now («first_stack_top» .entry)) height (now (buffer .entry))) ⌝ }
 {
     finish(
         profile,
@@ -159,8 +168,11 @@ pub extern "C" fn core_replay(
     records: &[u64],
     fragment: &mut [u64],
 ) -> Replayed
-    ensures { λ r. ⌜ r ≡ replayed (scanned profile (forest (now (nodes .entry)) (now (digests .entry)) (now (batches .entry)) (now (groups .entry)) (now (ops .entry))) (now (directory .entry)) (queues (now (addresses .entry)) (now (parents .entry)) (now (ends .entry))) (length (now (fragment .entry)))) state at (now (records .entry)) ⌝ }
-    ensures { λ _. ⌜ now (fragment .exit) ≡ replayedFragment (scanned profile (forest (now (nodes .entry)) (now (digests .entry)) (now (batches .entry)) (now (groups .entry)) (now (ops .entry))) (now (directory .entry)) (queues (now (addresses .entry)) (now (parents .entry)) (now (ends .entry))) (length (now (fragment .entry)))) state at (now (records .entry)) (now (fragment .entry)) ⌝ }
+    ensures { λ r. ⌜ r ≡ replayed (lentScanned profile nodes digests batches groups ops directory addresses parents ends fragment) state at
+        (now (records .entry)) ⌝ }
+    ensures { λ _. ⌜ now (fragment .exit) ≡ replayedFragment
+        (lentScanned profile nodes digests batches groups ops directory addresses parents ends fragment) state at
+        (now (records .entry)) (now (fragment .entry)) ⌝ }
 {
     replay_calls(
         nodes,
@@ -183,30 +195,29 @@ pub extern "C" fn core_replay(
 // Reads a trace: the answer, and, where it is accepted, one depth a row.
 #[no_mangle]
 pub extern "C" fn core_read_trace(profile: Profile, cells: &[u64], depths: &mut [u32]) -> TraceRead
-    ensures { λ r. ⌜ r ≡ traceRead (answer profile (now (cells .entry)) (length (now (depths .entry)))) ⌝ }
-    ensures { λ _. ⌜ now (depths .exit) ≡ depthsAfter (length (now (cells .entry)) / 49) (answer profile (now (cells .entry)) (length (now (depths .entry)))) (now (depths .entry)) ⌝ }
+    ensures { λ r. ⌜ ReadsTrace profile (now (cells .entry)) (now (depths .entry)) r (now (depths .exit)) ⌝ }
 {
     read_trace(profile, cells, depths)
 }
 
 // Where a row lies among the lent cells: its first cell and how many cells it has, both 0 on a refusal.
 #[repr(C)]
-pub struct Place {
+pub struct RowBounds {
     pub start: usize,
     pub cells: usize,
 }
 
 // The place of the row's part of the lent cells, since a part cannot be handed back.
 #[no_mangle]
-pub extern "C" fn core_row(cells: &[u64], number: usize) -> Place
-    ensures { λ r. ⌜ (r .start ≡ rowStart (length (now (cells .entry))) number) × (r .cells ≡ rowCells (length (now (cells .entry))) number) ⌝ }
+pub extern "C" fn core_row(cells: &[u64], number: usize) -> RowBounds
+    ensures { λ r. ⌜ (r .start ≡ viewStart (length (now (cells .entry))) number) × (r .cells ≡ viewCells (length (now (cells .entry))) number) ⌝ }
 {
     let part = row(cells, number);
     if part.len() == 0 {
-        return Place { start: 0, cells: 0 };
+        return RowBounds { start: 0, cells: 0 };
     }
-    Place {
-        start: number * 49,
+    RowBounds {
+        start: number * Row::WIDTH,
         cells: part.len(),
     }
 }
@@ -214,39 +225,39 @@ pub extern "C" fn core_row(cells: &[u64], number: usize) -> Place
 // Builds the index of a trace: three numbers for each block.
 #[no_mangle]
 pub extern "C" fn core_build_index(profile: Profile, cells: &[u64], index: &mut [u32]) -> IndexBuilt
-    ensures { λ r. ⌜ r ≡ indexBuilt (building profile (now (cells .entry)) (length (now (index .entry)))) ⌝ }
-    ensures { λ _. ⌜ now (index .exit) ≡ indexAfter (building profile (now (cells .entry)) (length (now (index .entry)))) (now (index .entry)) ⌝ }
+    ensures { λ r. ⌜ BuildsIndex profile (now (cells .entry)) (now (index .entry)) r (now (index .exit)) ⌝ }
 {
     build_index(profile, cells, index)
 }
 
 // What a look-up in an index answers: 0 or 11, 1 where a block encloses the row, and its place; else 0.
 #[repr(C)]
-pub struct BlockFound {
-    pub number: u32,
+pub struct EnclosingBlock {
+    pub refusal: u32,
     pub found: u32,
     pub place: usize,
 }
 
 // The last block of an index that encloses a row.
 #[no_mangle]
-pub extern "C" fn core_enclosing_block(index: &[u32], row: usize) -> BlockFound
-    ensures { λ r. ⌜ (r .number ≡ number (enclosing (now (index .entry)) row)) × (r .found ≡ blockFound (enclosing (now (index .entry)) row)) × (r .place ≡ blockPlace (enclosing (now (index .entry)) row)) ⌝ }
+pub extern "C" fn core_enclosing_block(index: &[u32], row: usize) -> EnclosingBlock
+    ensures { λ r. ⌜ (r .refusal ≡ refusal (enclosing (now (index .entry)) row)) × (r .found ≡ enclosingFound (enclosing (now (index .entry)) row))
+        × (r .place ≡ enclosingPlace (enclosing (now (index .entry)) row)) ⌝ }
 {
     let block = enclosing_block(index, row);
     match block {
-        Enclosing::At(place) => BlockFound {
-            number: 0,
+        Enclosing::At(place) => EnclosingBlock {
+            refusal: 0,
             found: 1,
             place,
         },
-        Enclosing::None => BlockFound {
-            number: 0,
+        Enclosing::None => EnclosingBlock {
+            refusal: 0,
             found: 0,
             place: 0,
         },
-        Enclosing::Refused(n) => BlockFound {
-            number: n,
+        Enclosing::Refused(n) => EnclosingBlock {
+            refusal: n,
             found: 0,
             place: 0,
         },
@@ -256,7 +267,8 @@ pub extern "C" fn core_enclosing_block(index: &[u32], row: usize) -> BlockFound
 // Writes a finished trace as a value change dump.
 #[no_mangle]
 pub extern "C" fn core_write_dump(cells: &[u64], text: &mut [u8]) -> DumpWritten
-    ensures { λ r. ⌜ (r .number ≡ number (dumping (now (cells .entry)) (length (now (text .entry))))) × (r .bytes ≡ values 0 (dumping (now (cells .entry)) (length (now (text .entry))))) ⌝ }
+    ensures { λ r. ⌜ (r .refusal ≡ refusal (dumping (now (cells .entry)) (length (now (text .entry)))))
+        × (r .bytes ≡ values 0 (dumping (now (cells .entry)) (length (now (text .entry))))) ⌝ }
     ensures { λ _. ⌜ now (text .exit) ≡ textAfter (now (cells .entry)) (dumping (now (cells .entry)) (length (now (text .entry)))) (now (text .entry)) ⌝ }
 {
     write_dump(cells, text)
@@ -265,7 +277,7 @@ pub extern "C" fn core_write_dump(cells: &[u64], text: &mut [u8]) -> DumpWritten
 // Reads a dump back into cells.
 #[no_mangle]
 pub extern "C" fn core_read_dump(text: &[u8], cells: &mut [u64]) -> DumpRead
-    ensures { λ r. ⌜ ReadsDump (now (text .entry)) (now (cells .entry)) (r .number) (r .rows) (now (cells .exit)) ⌝ }
+    ensures { λ r. ⌜ ReadsDump (now (text .entry)) (now (cells .entry)) (r .refusal) (r .rows) (now (cells .exit)) ⌝ }
 {
     read_dump(text, cells)
 }

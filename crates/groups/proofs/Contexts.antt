@@ -9,7 +9,7 @@ use Rattle.groups.specs.Batches.{startsAt}
 use Rattle.groups.specs.GroupsLeft.{counts, groupSum, pushes}
 use Rattle.groups.specs.GroupOfOperation.{groupOf, toldGroup}
 use Rattle.groups.specs.Contexts.{consumed}
-use Rattle.groups.specs.declared.batch.Block.{Block}
+use Rattle.groups.specs.declared.batch.BasicBlockNode.{BasicBlockNode}
 use Rattle.groups.specs.declared.sum.GroupSum.{GroupSum}
 use Rattle.groups.specs.declared.group.OpPlace.{OpPlace}
 use Rattle.groups.specs.declared.group.GroupFound.{GroupFound}
@@ -23,7 +23,7 @@ counts-first batches first n =
     rw (e, f)
 
 -- the three parts of what is consumed
-pub consumed-is : (push : ℕ) (batches groups : List ℕ) (block : Block) (index : ℕ) (place : OpPlace) (sum : GroupSum) (group count : ℕ)
+pub consumed-is : (push : ℕ) (batches groups : List ℕ) (block : BasicBlockNode) (index : ℕ) (place : OpPlace) (sum : GroupSum) (group count : ℕ)
     → sum ≡ groupSum true (counts batches (block .«first_batch» + 0) (index - 0))
     → group ≡ cellAt groups (8 * (block .«first_batch» + index) + place .group)
     → count ≡ pushes push (place .index) group
@@ -32,7 +32,7 @@ unfolding consumed
 consumed-is push batches groups block index place sum group count s g e = rw (e, g, s, counts-first)
 
 -- a batch has eight groups, of nine operations at most
-pub in-batch : (batches : List ℕ) (block : Block) (index ops op : ℕ) (starts : List ℕ) (found : GroupFound) (place : OpPlace)
+pub in-batch : (batches : List ℕ) (block : BasicBlockNode) (index ops op : ℕ) (starts : List ℕ) (found : GroupFound) (place : OpPlace)
     → starts ≡ startsAt batches block index → toldGroup found ≡ groupOf starts ops op → found ≡ GroupFound.In place
     → (place .group ≤ 7) × (place .index ≤ 8)
 unfolding startsAt

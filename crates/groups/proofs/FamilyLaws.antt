@@ -7,7 +7,7 @@ use Rattle.field.proofs.InverseLaws.{inverse-reduced}
 use Rattle.groups.specs.declared.helpers.OperationHelperRegisters.{OperationHelperRegisters}
 use Rattle.groups.specs.declared.helpers.OperationHelperRegisters.the-variants.{Eq, U32Split, Eqz, Expacc, FriExt2Fold4, U32Add, U32Add3, U32Sub, U32Mul, U32Madd, U32Div, U32Assert2, HPerm, MerklePath, HornerEvalBase, HornerEvalExt, LogDeferred, Empty}
 use Rattle.groups.specs.Helpers.{allBelow, readRegisters, u32Values, minus, helpersOf, helpersOfCells}
-use Rattle.groups.specs.Families.{familyOf, readFamily, foundOf}
+use Rattle.groups.specs.ways.Families.{familyOf, readFamily, foundOf}
 
 -- reading a family's numbers is reading its case's
 pub read-law : (r : OperationHelperRegisters) → readFamily (familyOf r) ≡ familyOf (readRegisters r)

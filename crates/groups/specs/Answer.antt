@@ -8,9 +8,9 @@ pub data Answer (A : Type 0) : Type 0 where
   refused : ℕ → Answer A
 
 -- the number that is returned: 0 where the call is accepted
-abbrev pub number : {A : Type 0} → Answer A → ℕ
-number (accepted a) = 0
-number (refused n) = n
+abbrev pub refusal : {A : Type 0} → Answer A → ℕ
+refusal (accepted a) = 0
+refusal (refused n) = n
 
 -- the values that are returned: `none`, all 0, on a refusal
 abbrev pub values : {A : Type 0} → A → Answer A → A

@@ -2,6 +2,7 @@
 use Prim.Native.Nat.{ℕ}
 use lib.Dec.{leb, eqb}
 use Rattle.groups.specs.Answer.{Answer, accepted, refused, pick}
+use Rattle.groups.specs.Constants.{badGroupCount}
 use Rattle.groups.specs.declared.flags.BatchFlags.{BatchFlags}
 use Rattle.groups.specs.declared.flags.FlagsFound.{FlagsFound}
 
@@ -11,7 +12,7 @@ flagsUpTo8 count =
     pick (eqb count 8) (accepted (1, 0, 0))
     (pick (eqb count 4) (accepted (0, 1, 0))
     (pick (eqb count 2) (accepted (0, 0, 1))
-    (pick (eqb count 1) (accepted (0, 1, 1)) (refused 7))))
+    (pick (eqb count 1) (accepted (0, 1, 1)) (refused badGroupCount))))
 
 -- the flags by the count capped at 8
 unfoldable pub batchFlags : ℕ → Answer BatchFlags
@@ -20,4 +21,4 @@ batchFlags count = flagsUpTo8 (pick (leb 8 count) 8 count)
 -- the number and the values of each case
 abbrev pub toldFlags : FlagsFound → Answer BatchFlags
 toldFlags (FlagsFound.Are flags) = accepted flags
-toldFlags FlagsFound.Refused = refused 7
+toldFlags FlagsFound.Refused = refused badGroupCount

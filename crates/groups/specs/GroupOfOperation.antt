@@ -7,6 +7,7 @@ use Prim.Native.Nat.{ℕ, _+_, _-_, _<_, _≤_}
 use lib.Dec.{leb, ltb}
 use lib.ListN.{length, getD}
 use Rattle.groups.specs.Answer.{Answer, accepted, refused, pick}
+use Rattle.groups.specs.Constants.{noSuchOperation}
 use Rattle.groups.specs.declared.group.OpPlace.{OpPlace}
 use Rattle.groups.specs.declared.group.GroupFound.{GroupFound}
 
@@ -18,18 +19,18 @@ falling (start ∷ next ∷ rest) = ltb next start || falling (next ∷ rest)
 
 -- "at index 0 to 8 in it"
 unfoldable pub placeIn : (group index : ℕ) → Answer OpPlace
-placeIn group index = pick (leb index 8) (accepted (record { group = group; index = index })) (refused 6)
+placeIn group index = pick (leb index 8) (accepted (record { group = group; index = index })) (refused noSuchOperation)
 
 -- the group whose start ≤ op < next start, the first of the starts being that of group g
 unfoldable pub groupFrom : List ℕ → (op g : ℕ) → Answer OpPlace
-groupFrom [] op g = refused 6
-groupFrom (start ∷ []) op g = refused 6
+groupFrom [] op g = refused noSuchOperation
+groupFrom (start ∷ []) op g = refused noSuchOperation
 groupFrom (start ∷ next ∷ rest) op g =
     pick (leb start op && ltb op next) (placeIn g (op - start)) (groupFrom (next ∷ rest) op (g + 1))
 
 -- the place of operation op in a batch of `ops` operations
 unfoldable pub groupOf : (starts : List ℕ) → (ops op : ℕ) → Answer OpPlace
-groupOf starts ops op = pick (leb ops op || falling starts) (refused 6) (groupFrom starts op 0)
+groupOf starts ops op = pick (leb ops op || falling starts) (refused noSuchOperation) (groupFrom starts op 0)
 
 -- op lies at the place: the law that `groupOf` meets, and that leaves one place where no start falls (`proofs/OneGroup.antt`)
 pub record LiesAt (starts : List ℕ) (op : ℕ) (place : OpPlace) : Type 0 where
@@ -41,4 +42,4 @@ pub record LiesAt (starts : List ℕ) (op : ℕ) (place : OpPlace) : Type 0 wher
 -- the number and the values of each case
 abbrev pub toldGroup : GroupFound → Answer OpPlace
 toldGroup (GroupFound.In place) = accepted place
-toldGroup GroupFound.Refused = refused 6
+toldGroup GroupFound.Refused = refused noSuchOperation

@@ -8,6 +8,7 @@ use Rattle.field.specs.Cells.{read}
 use Rattle.groups.specs.Words.{readWord, readQuad}
 use Rattle.groups.specs.Answer.{Answer, accepted, refused, pick}
 use Rattle.field.specs.Inverse.{inverseOf}
+use Rattle.groups.specs.Constants.{bigHelperValue}
 use Rattle.groups.specs.declared.helpers.OperationHelperRegisters.{OperationHelperRegisters}
 use Rattle.groups.specs.declared.helpers.OperationHelperRegisters.the-variants.{Eq, U32Split, Eqz, Expacc, FriExt2Fold4, U32Add, U32Add3, U32Sub, U32Mul, U32Madd, U32Div, U32Assert2, HPerm, MerklePath, HornerEvalBase, HornerEvalExt, LogDeferred, Empty}
 use Rattle.groups.specs.declared.helpers.UserOpHelpers.{UserOpHelpers}
@@ -103,7 +104,7 @@ helpersOf Empty = six 0 0 0 0 0 0
 
 -- the helpers of cells. Refusal 9: "helper value ≥ 2^32"
 unfoldable pub helpersOfCells : OperationHelperRegisters → Answer UserOpHelpers
-helpersOfCells r = pick (allBelow 4294967296 (u32Values r)) (accepted (helpersOf r)) (refused 9)
+helpersOfCells r = pick (allBelow 4294967296 (u32Values r)) (accepted (helpersOf r)) (refused bigHelperValue)
 
 -- the helpers of a register set as it comes in
 unfoldable pub helpersAnswer : OperationHelperRegisters → Answer UserOpHelpers

@@ -1,3 +1,4 @@
+pub mod Constants
 pub mod Answer
 pub mod Words
 pub mod Batches
@@ -6,4 +7,4 @@ pub mod GroupsLeft
 pub mod GroupOfOperation
 pub mod Contexts
 pub mod Helpers
-pub mod Families
+pub mod ways

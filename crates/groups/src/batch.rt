@@ -7,29 +7,29 @@ ghost use mathlib.Core.Path.{_≡_};
 ghost use Rattle.groups.specs.Batches.{batchAt, toldBatch, startsAt, lentBatches};
 
 // A block: its total of groups as `num_op_groups` answers, the record of its first batch, and how many batches it has.
-pub struct Block {
+pub struct BasicBlockNode {
     pub total: u32,
     pub first_batch: u32,
     pub batches: u32,
 }
 
 // A batch: its group count, number of operations and first operation, its record's number, and its eight group cells.
-pub struct Batch {
+pub struct OpBatch {
     pub group_count: u32,
     pub num_ops: u32,
     pub first_op: u32,
-    pub place: usize,
+    pub record_index: usize,
     pub low: Word,
     pub high: Word,
 }
 
 pub enum BatchFound {
-    At(Batch),
+    At(OpBatch),
     Missing,
 }
 
 // Batch `index` of the block, or 5: the block has no such batch, or its records do not lie whole in the slices.
-pub fn batch_at(batches: &[u32], groups: &[u64], block: Block, index: u32) -> BatchFound
+pub fn batch_at(batches: &[u32], groups: &[u64], block: BasicBlockNode, index: u32) -> BatchFound
     ensures { λ r. ⌜ toldBatch r ≡ batchAt (now (batches .entry)) (now (groups .entry)) block index ⌝ }
 {
     if block.batches <= index {
@@ -42,18 +42,18 @@ pub fn batch_at(batches: &[u32], groups: &[u64], block: Block, index: u32) -> Ba
     if groups.len() < 8 * record + 8 {
         return BatchFound::Missing;
     }
-    BatchFound::At(Batch {
+    BatchFound::At(OpBatch {
         group_count: number(batches, 12 * record),
         num_ops: number(batches, 12 * record + 10),
         first_op: number(batches, 12 * record + 11),
-        place: record,
+        record_index: record,
         low: word_at(groups, 8 * record),
         high: word_at(groups, 8 * record + 4),
     })
 }
 
 // The nine group starts of batch `index`.
-pub fn starts_at(batches: &[u32], block: Block, index: u32) -> [u32; 9]
+pub fn starts_at(batches: &[u32], block: BasicBlockNode, index: u32) -> [u32; 9]
     ensures { λ r. ⌜ r ≡ startsAt (now (batches .entry)) block index ⌝ }
 {
     let at = 12 * (block.first_batch as usize + index as usize);
@@ -71,7 +71,7 @@ pub fn starts_at(batches: &[u32], block: Block, index: u32) -> [u32; 9]
 }
 
 // How many of the block's batches have their twelve numbers in the slice.
-pub fn lent_batches(batches: &[u32], block: Block) -> u32
+pub fn lent_batches(batches: &[u32], block: BasicBlockNode) -> u32
     ensures { λ r. ⌜ r ≡ lentBatches (now (batches .entry)) block ⌝ }
 {
     let records = batches.len() / 12;

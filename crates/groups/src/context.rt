@@ -1,13 +1,14 @@
 // What a row in a basic block says of the block's groups.
-use crate::batch::Batch;
+use crate::batch::BasicBlockNode;
 use crate::batch::BatchFound;
-use crate::batch::Block;
+use crate::batch::OpBatch;
 use crate::batch::batch_at;
 use crate::batch::lent_batches;
 use crate::batch::starts_at;
+use crate::constants::Refusal;
 use crate::flags::BatchFlags;
 use crate::flags::FlagsFound;
-use crate::flags::batch_flags;
+use crate::flags::get_op_batch_flags;
 use crate::group::GroupFound;
 use crate::group::OpPlace;
 use crate::group::op_idx_in_batch_to_group;
@@ -27,7 +28,7 @@ pub struct BasicBlockContext {
 // The context at an operation, the batch and the operation's place in it.
 pub struct OpContext {
     pub context: BasicBlockContext,
-    pub batch: Batch,
+    pub batch: OpBatch,
     pub place: OpPlace,
 }
 
@@ -39,7 +40,7 @@ pub enum OpContextFound {
 // The context at the start of a batch, the batch and its flags.
 pub struct BatchContext {
     pub context: BasicBlockContext,
-    pub batch: Batch,
+    pub batch: OpBatch,
     pub flags: BatchFlags,
 }
 
@@ -57,7 +58,7 @@ fn after_op(group: u64, index: u64) -> u64
 }
 
 // Whether the block has too many batches, or the batch or one of the others added up has too many groups.
-fn is_too_large(block: Block, batch: Batch, above8: bool) -> bool
+fn is_too_large(block: BasicBlockNode, batch: OpBatch, above8: bool) -> bool
     ensures { λ r. ⌜ r ≡ tooLarge block batch above8 ⌝ }
 {
     if 4096 < block.batches {
@@ -72,11 +73,11 @@ fn is_too_large(block: Block, batch: Batch, above8: bool) -> bool
 // The context at an operation whose place in the batch is known, or 8 or 11.
 fn in_group(
     push: u8,
-    block: Block,
+    block: BasicBlockNode,
     batches: &[u32],
     groups: &[u64],
     index: u32,
-    batch: Batch,
+    batch: OpBatch,
     place: OpPlace,
 ) -> OpContextFound
     requires { ⌜ (place .group ≤ 7) × (place .index ≤ 8) ⌝ }
@@ -88,10 +89,10 @@ fn in_group(
     let consumed = sum.groups + push_count(push, group, place.index) + place.group + 1;
     let total = block.total as u64;
     if total < consumed {
-        return OpContextFound::Refused(8);
+        return OpContextFound::Refused(Refusal::OVER_TOTAL);
     }
     if is_too_large(block, batch, sum.above8) {
-        return OpContextFound::Refused(11);
+        return OpContextFound::Refused(Refusal::BAD_LENGTH);
     }
     let context = BasicBlockContext {
         current_op_group: after_op(group, place.index),
@@ -108,7 +109,7 @@ impl BasicBlockContext {
     // The context at operation `op` of batch `index`, or the lowest number of 5, 6, 8 and 11 that holds.
     pub fn new_at_op(
         push: u8,
-        block: Block,
+        block: BasicBlockNode,
         batches: &[u32],
         groups: &[u64],
         index: u32,
@@ -117,18 +118,18 @@ impl BasicBlockContext {
         ensures { λ r. ⌜ toldOp r ≡ contextAtOp push block (now (batches .entry)) (now (groups .entry)) index op ⌝ }
     {
         let BatchFound::At(batch) = batch_at(batches, groups, block, index) else {
-            return OpContextFound::Refused(5);
+            return OpContextFound::Refused(Refusal::NO_SUCH_BATCH);
         };
         let starts = starts_at(batches, block, index);
         let GroupFound::In(place) = op_idx_in_batch_to_group(starts, batch.num_ops, op) else {
-            return OpContextFound::Refused(6);
+            return OpContextFound::Refused(Refusal::NO_SUCH_OPERATION);
         };
         in_group(push, block, batches, groups, index, batch, place)
     }
 
     // The context at the start of batch `index`, or the lowest number of 5, 7 and 11 that holds.
     pub fn new_at_batch_start(
-        block: Block,
+        block: BasicBlockNode,
         batches: &[u32],
         groups: &[u64],
         index: u32,
@@ -136,15 +137,15 @@ impl BasicBlockContext {
         ensures { λ r. ⌜ toldBatchStart r ≡ contextAtBatchStart block (now (batches .entry)) (now (groups .entry)) index ⌝ }
     {
         let BatchFound::At(batch) = batch_at(batches, groups, block, index) else {
-            return BatchContextFound::Refused(5);
+            return BatchContextFound::Refused(Refusal::NO_SUCH_BATCH);
         };
         let lent = lent_batches(batches, block);
         let sum = sum_groups(batches, block.first_batch, index, lent, false);
-        let FlagsFound::Are(flags) = batch_flags(sum.groups) else {
-            return BatchContextFound::Refused(7);
+        let FlagsFound::Are(flags) = get_op_batch_flags(sum.groups) else {
+            return BatchContextFound::Refused(Refusal::BAD_GROUP_COUNT);
         };
         if is_too_large(block, batch, sum.above8) {
-            return BatchContextFound::Refused(11);
+            return BatchContextFound::Refused(Refusal::BAD_LENGTH);
         }
         let context = BasicBlockContext {
             current_op_group: batch.low.0,

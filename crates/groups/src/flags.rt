@@ -1,4 +1,5 @@
 // Batch flags.
+use field::felt::Felt;
 ghost use mathlib.Core.Path.{_≡_};
 ghost use Rattle.groups.specs.Flags.{batchFlags, toldFlags};
 
@@ -11,20 +12,20 @@ pub enum FlagsFound {
 }
 
 // The flags by the group count capped at 8, or 7: there are none for this count.
-pub fn batch_flags(count: u64) -> FlagsFound
+pub fn get_op_batch_flags(count: u64) -> FlagsFound
     ensures { λ r. ⌜ toldFlags r ≡ batchFlags count ⌝ }
 {
     if 8 <= count {
-        return FlagsFound::Are(BatchFlags(1, 0, 0));
+        return FlagsFound::Are(BatchFlags(Felt::ONE, Felt::ZERO, Felt::ZERO));
     }
     if count == 4 {
-        return FlagsFound::Are(BatchFlags(0, 1, 0));
+        return FlagsFound::Are(BatchFlags(Felt::ZERO, Felt::ONE, Felt::ZERO));
     }
     if count == 2 {
-        return FlagsFound::Are(BatchFlags(0, 0, 1));
+        return FlagsFound::Are(BatchFlags(Felt::ZERO, Felt::ZERO, Felt::ONE));
     }
     if count == 1 {
-        return FlagsFound::Are(BatchFlags(0, 1, 1));
+        return FlagsFound::Are(BatchFlags(Felt::ZERO, Felt::ONE, Felt::ONE));
     }
     FlagsFound::Refused
 }

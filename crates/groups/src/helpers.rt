@@ -1,13 +1,15 @@
 // The helper registers of an operation: what a cycle captures of it, and the six cells h2 to h7 that its row shows.
+use crate::constants::Refusal;
 use crate::word::QuadFelt;
 use crate::word::Word;
+use field::felt::Felt;
 use field::felt::reduce;
 use field::felt::sub;
 use field::inverse::inverse;
 ghost use mathlib.Core.Path.{_≡_};
 ghost use mathlib.Core.List.{[], _∷_};
 ghost use Rattle.groups.specs.Helpers.{allBelow, six, helpersAnswer, toldHelpers};
-ghost use Rattle.groups.specs.Families.{familyOf, readFamily, foundOf};
+ghost use Rattle.groups.specs.ways.Families.{familyOf, readFamily, foundOf};
 
 // What a cycle captures of its operation. Numbers are read modulo p.
 pub enum OperationHelperRegisters {
@@ -127,6 +129,20 @@ enum Family {
     LimbsAndInverse(u64, u64),
 }
 
+// One cell, and zeros.
+fn single(a: u64) -> Family
+    ensures { λ r. ⌜ r ≡ Family.Cells a 0 0 0 0 0 ⌝ }
+{
+    Family::Cells(
+        a,
+        Felt::ZERO,
+        Felt::ZERO,
+        Felt::ZERO,
+        Felt::ZERO,
+        Felt::ZERO,
+    )
+}
+
 // Three elements of the extension as six cells.
 fn pairs(a: QuadFelt, b: QuadFelt, c: QuadFelt) -> Family
     ensures { λ r. ⌜ r ≡ Family.Cells (a .0) (a .1) (b .0) (b .1) (c .0) (c .1) ⌝ }
@@ -138,7 +154,7 @@ fn pairs(a: QuadFelt, b: QuadFelt, c: QuadFelt) -> Family
 fn addressed(addr: u64, w: Word) -> Family
     ensures { λ r. ⌜ r ≡ Family.Cells addr (w .0) (w .1) (w .2) (w .3) 0 ⌝ }
 {
-    Family::Cells(addr, w.0, w.1, w.2, w.3, 0)
+    Family::Cells(addr, w.0, w.1, w.2, w.3, Felt::ZERO)
 }
 
 // Whether six numbers are all below the limit.
@@ -167,7 +183,7 @@ fn limbs(a: u64, b: u64, c: u64) -> HelpersFound
     ensures { λ r. ⌜ toldHelpers r ≡ foundOf (Family.Limbs a b c) ⌝ }
 {
     if !all_below(0x1_0000_0000, a, b, c, 0, 0, 0) {
-        return HelpersFound::Refused(9);
+        return HelpersFound::Refused(Refusal::BIG_HELPER_VALUE);
     }
     are(
         a % 65536,
@@ -184,10 +200,17 @@ fn limbs_and_inverse(lo: u64, hi: u64) -> HelpersFound
     ensures { λ r. ⌜ toldHelpers r ≡ foundOf (Family.LimbsAndInverse lo hi) ⌝ }
 {
     if !all_below(0x1_0000_0000, lo, hi, 0, 0, 0, 0) {
-        return HelpersFound::Refused(9);
+        return HelpersFound::Refused(Refusal::BIG_HELPER_VALUE);
     }
     let flag = inverse(sub(0xffff_ffff, hi));
-    are(lo % 65536, lo / 65536, hi % 65536, hi / 65536, flag, 0)
+    are(
+        lo % 65536,
+        lo / 65536,
+        hi % 65536,
+        hi / 65536,
+        flag,
+        Felt::ZERO,
+    )
 }
 
 impl Family {
@@ -216,7 +239,14 @@ impl Family {
     {
         match self {
             Self::Cells(a, b, c, d, e, f) => are(a, b, c, d, e, f),
-            Self::Inverse(first, second) => are(inverse(sub(first, second)), 0, 0, 0, 0, 0),
+            Self::Inverse(first, second) => are(
+                inverse(sub(first, second)),
+                Felt::ZERO,
+                Felt::ZERO,
+                Felt::ZERO,
+                Felt::ZERO,
+                Felt::ZERO,
+            ),
             Self::Limbs(a, b, c) => limbs(a, b, c),
             Self::LimbsAndInverse(lo, hi) => limbs_and_inverse(lo, hi),
         }
@@ -234,12 +264,12 @@ impl OperationHelperRegisters {
                 stack_first,
             } => Family::Inverse(stack_first, stack_second),
             Self::U32Split { lo, hi } => Family::LimbsAndInverse(lo, hi),
-            Self::Eqz { top } => Family::Inverse(top, 0),
-            Self::Expacc { acc_update_val } => Family::Cells(acc_update_val, 0, 0, 0, 0, 0),
+            Self::Eqz { top } => Family::Inverse(top, Felt::ZERO),
+            Self::Expacc { acc_update_val } => single(acc_update_val),
             Self::FriExt2Fold4 { ev, es, x, x_inv } => pairs(ev, es, QuadFelt(x, x_inv)),
-            Self::U32Add { sum, carry } => Family::Limbs(sum, carry, 0),
-            Self::U32Add3 { sum, carry } => Family::Limbs(sum, carry, 0),
-            Self::U32Sub { second_new } => Family::Limbs(second_new, 0, 0),
+            Self::U32Add { sum, carry } => Family::Limbs(sum, carry, Felt::ZERO),
+            Self::U32Add3 { sum, carry } => Family::Limbs(sum, carry, Felt::ZERO),
+            Self::U32Sub { second_new } => Family::Limbs(second_new, Felt::ZERO, Felt::ZERO),
             Self::U32Mul { lo, hi } => Family::LimbsAndInverse(lo, hi),
             Self::U32Madd { lo, hi } => Family::LimbsAndInverse(lo, hi),
             Self::U32Div {
@@ -247,13 +277,17 @@ impl OperationHelperRegisters {
                 remainder,
                 remainder_diff,
             } => Family::Limbs(quotient, remainder, remainder_diff),
-            Self::U32Assert2 { first, second } => Family::Limbs(second, first, 0),
-            Self::HPerm { addr } => Family::Cells(addr, 0, 0, 0, 0, 0),
-            Self::MerklePath { addr } => Family::Cells(addr, 0, 0, 0, 0, 0),
+            Self::U32Assert2 { first, second } => Family::Limbs(second, first, Felt::ZERO),
+            Self::HPerm { addr } => single(addr),
+            Self::MerklePath { addr } => single(addr),
             Self::HornerEvalBase { alpha, tmp0, tmp1 } => pairs(alpha, tmp1, tmp0),
-            Self::HornerEvalExt { alpha, acc_tmp } => pairs(alpha, QuadFelt(0, 0), acc_tmp),
+            Self::HornerEvalExt { alpha, acc_tmp } => pairs(
+                alpha,
+                QuadFelt(Felt::ZERO, Felt::ZERO),
+                acc_tmp,
+            ),
             Self::LogDeferred { addr, state_prev } => addressed(addr, state_prev),
-            Self::Empty => Family::Cells(0, 0, 0, 0, 0, 0),
+            Self::Empty => single(Felt::ZERO),
         }
     }
 

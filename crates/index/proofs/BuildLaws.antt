@@ -1,76 +1,69 @@
 -- What building an index answers and leaves, by what its parts answer.
-use mathlib.Core.Path.{_≡_, _∙_, refl, sym, ap}
+use mathlib.Core.Path.{_≡_, _∙_, refl, ap}
 use mathlib.Core.List.{List, [], _++_}
 use Prim.Native.Nat.{ℕ, _*_, _/_, _≤_, _<_}
 use native.Mathlib.Omega.{arith}
 use borrow.Author.Tests.{lt-ltb, le-ltb}
-use lib.ListN.{length, drop, replicate, length-replicate}
+use lib.ListN.{length, drop}
 use Rattle.rows.specs.declared.records.profile.Profile.{Profile}
-use Rattle.readings.specs.Readings.{Block, Word, depthOf, Reading, Trace}
-use Rattle.readings.specs.Answers.{Answer, accepted, refused, numberOf, rowOf}
-use Rattle.readings.specs.Parser.{answer}
-use Rattle.readings.proofs.AcceptedTraces.{accepts-traces, accepts-exactly}
-use Rattle.reader.specs.Rows.{wordIn, rowsFrom}
-use Rattle.reader.specs.Reads.{traceRead}
+use Rattle.theory_readings.specs.Readings.{Block, WordOf, depthOf, Reading, Trace}
+use Rattle.theory_readings.specs.Answers.{ReaderAnswer, accepted, refused, refusalOf, rowOf}
+use Rattle.reader.specs.Rows.{wordIn}
+use Rattle.reader.specs.ways.FromRow.{rowsFrom}
+use Rattle.reader.specs.Reads.{TellsTrace}
 use Rattle.reader.specs.declared.trace.TraceRead.{TraceRead}
-use Rattle.reader.proofs.ReadLaws.{few-rows}
-use Rattle.indexes.specs.Indexes.{blocksIn, index}
-use Rattle.indexes.specs.Scan.{scan, starts, Fits}
-use Rattle.indexes.proofs.Scanned.{scanned, blocks-starts, fits}
-use Rattle.index.specs.Building.{unlessShort, building, blocksOf, indexBuilt, indexAfter}
+use Rattle.reader.proofs.ReadLaws.{number-of, row-of, is-accepted, is-trace, few-rows}
+use Rattle.theory_indexes.specs.Indexes.{blocksIn, index}
+use Rattle.theory_indexes.specs.ways.IndexScan.{indexScan, starts, Fits}
+use Rattle.theory_indexes.proofs.Scanned.{scanned, blocks-starts, fits}
+use Rattle.index.specs.Building.{unlessShort, blocksOf, indexBuilt, indexAfter, BuildsIndex}
 use Rattle.index.specs.declared.build.IndexBuilt.{IndexBuilt}
 
 -- the numbers of an answer
 abbrev built : (number row blocks : ℕ) → IndexBuilt
-built number row blocks = record { number = number; row = row; blocks = blocks }
+built number row blocks = record { refusal = number; row = row; blocks = blocks }
 
 -- A REFUSAL
 
-unless-refused : (lent : ℕ) (a : Answer) → (numberOf a ≡ 0 → ⊥) → unlessShort lent a ≡ refused (numberOf a) (rowOf a)
-unfolding unlessShort numberOf rowOf
+pub unless-refused : (lent : ℕ) (a : ReaderAnswer) → (refusalOf a ≡ 0 → ⊥) → unlessShort lent a ≡ refused (refusalOf a) (rowOf a)
+unfolding unlessShort refusalOf rowOf
 unless-refused lent (accepted b) h = absurd (h refl)
 unless-refused lent (refused number row) h = refl
 
--- what a refusal answers and leaves
-refusing : (a : Answer) (number row : ℕ) (lent : List ℕ) (r : IndexBuilt) → a ≡ refused number row → r ≡ indexBuilt (refused number row) → (r ≡ indexBuilt a) × (lent ≡ indexAfter a lent)
-unfolding indexAfter
-refusing a number row lent r e f = rw e (f, refl)
+module _ (p : Profile) (cells lent : List ℕ) (read : TraceRead) (v : TellsTrace p cells (length cells / 49) read) where
+  -- by what is answered
+  builds-by : (a : ReaderAnswer) (r : IndexBuilt) (after : List ℕ) → unlessShort (length lent) (v .answered) ≡ a → r ≡ indexBuilt a → after ≡ indexAfter a lent → BuildsIndex p cells lent r after
+  builds-by a r after e f g = record { read = v .answered; is-right = v .is-right; built-is = rw e f; left-is = rw e g }
 
-module _ (p : Profile) (cells lent : List ℕ) (read : TraceRead) (k : read ≡ traceRead (answer p cells (length cells / 49))) where
-  number-of : read .number ≡ numberOf (answer p cells (length cells / 49))
-  unfolding traceRead
-  number-of = rw k refl
-
-  row-of : read .row ≡ rowOf (answer p cells (length cells / 49))
-  unfolding traceRead
-  row-of = rw k refl
+  refusing : (number row : ℕ) (r : IndexBuilt) → unlessShort (length lent) (v .answered) ≡ refused number row → r ≡ indexBuilt (refused number row) → BuildsIndex p cells lent r lent
+  unfolding indexAfter
+  refusing number row r e f = builds-by (refused number row) r lent e f refl
 
   -- 2, 11, 12, 13 and 15
-  pub no-trace : (r : IndexBuilt) → (read .number ≡ 0 → ⊥) → r ≡ indexBuilt (refused (read .number) (read .row)) → (r ≡ indexBuilt (building p cells (length lent))) × (lent ≡ indexAfter (building p cells (length lent)) lent)
-  unfolding building
+  pub no-trace : (r : IndexBuilt) → (read .refusal ≡ 0 → ⊥) → r ≡ indexBuilt (refused (read .refusal) (read .row)) → BuildsIndex p cells lent r lent
   no-trace r h f =
-      let u = unless-refused (length lent) (answer p cells (length cells / 49)) (λ q. h (number-of ∙ q)) in
-      refusing (building p cells (length lent)) (read .number) (read .row) lent r (u ∙ rw (number-of, row-of) refl) f
+      let n = number-of p cells (length cells / 49) read v in
+      let u = unless-refused (length lent) (v .answered) (λ q. h (n ∙ q)) in
+      refusing (read .refusal) (read .row) r (u ∙ rw (n, row-of p cells (length cells / 49) read v) refl) f
 
   -- AN ACCEPTED TRACE
 
-  module _ (h : read .number ≡ 0) where
+  module _ (h : read .refusal ≡ 0) where
     pub few : length cells / 49 ≤ 16777216
-    few =
-        let n = length cells / 49 in
-        few-rows p cells (replicate n 0) read (k ∙ ap (λ d. traceRead (answer p cells d)) (sym (length-replicate n 0))) h
+    few = few-rows p cells (length cells / 49) read v h
 
     record Read : Type 0 where
       pub tree : Block
-      pub answered : answer p cells (length cells / 49) ≡ accepted tree
-      pub word : Word (wordIn p cells) tree
+      pub answered : v .answered ≡ accepted tree
+      pub word : WordOf (wordIn p cells) tree
       pub deep : depthOf tree ≤ 64
 
     reading : Read
     unfolding Trace Reading wordIn
     reading =
-        let (b, t) = accepts-exactly p cells (length cells / 49) (omega arith) .0 (sym number-of ∙ h) in
-        record { tree = b; answered = accepts-traces p cells (length cells / 49) b (omega arith) .1 t; word = t .1 .0; deep = t .1 .1 }
+        let (b, e) = is-accepted p cells (length cells / 49) read v h in
+        let t = is-trace p cells (length cells / 49) read v h in
+        record { tree = b; answered = e; word = t .1 .0; deep = t .1 .1 }
 
     blocks : starts (rowsFrom (wordIn p cells) 0) ≡ blocksIn (reading .tree)
     unfolding rowsFrom
@@ -81,23 +74,23 @@ module _ (p : Profile) (cells lent : List ℕ) (read : TraceRead) (k : read ≡ 
     fitting = fits (wordIn p cells) (reading .tree) (reading .word) (reading .deep)
 
     -- 27
-    pub short : (r : IndexBuilt) → length lent / 3 < starts (rowsFrom (wordIn p cells) 0) → r ≡ indexBuilt (refused 27 0) → (r ≡ indexBuilt (building p cells (length lent))) × (lent ≡ indexAfter (building p cells (length lent)) lent)
-    unfolding building unlessShort
+    pub short : (r : IndexBuilt) → length lent / 3 < starts (rowsFrom (wordIn p cells) 0) → r ≡ indexBuilt (refused 27 0) → BuildsIndex p cells lent r lent
+    unfolding unlessShort
     short r l f =
         let u = lt-ltb (length lent) (3 * blocksIn (reading .tree)) (omega (arith, blocks)) in
-        refusing (building p cells (length lent)) 27 0 lent r (rw (reading .answered, u) refl) f
+        refusing 27 0 r (rw (reading .answered, u) refl) f
 
     module _ (l : starts (rowsFrom (wordIn p cells) 0) ≤ length lent / 3) where
-      building-is : building p cells (length lent) ≡ accepted (reading .tree)
-      unfolding building unlessShort
-      building-is =
+      room : unlessShort (length lent) (v .answered) ≡ accepted (reading .tree)
+      unfolding unlessShort
+      room =
           let u = le-ltb (length lent) (3 * blocksIn (reading .tree)) (omega (arith, blocks)) in
-          rw (reading .answered, u) refl
+          ap (unlessShort (length lent)) (reading .answered) ∙ rw u refl
 
       pub whole : (after : List ℕ) (count : ℕ) → count ≡ starts (rowsFrom (wordIn p cells) 0)
-          → after ≡ scan (rowsFrom (wordIn p cells) 0) [] [] ++ drop (3 * starts (rowsFrom (wordIn p cells) 0)) lent
-          → (built 0 0 count ≡ indexBuilt (building p cells (length lent))) × (after ≡ indexAfter (building p cells (length lent)) lent)
-      unfolding indexBuilt indexAfter numberOf rowOf blocksOf rowsFrom
+          → after ≡ indexScan (rowsFrom (wordIn p cells) 0) [] [] ++ drop (3 * starts (rowsFrom (wordIn p cells) 0)) lent
+          → BuildsIndex p cells lent (built 0 0 count) after
+      unfolding indexBuilt indexAfter refusalOf rowOf blocksOf rowsFrom
       whole after count f g =
-          let s : scan (rowsFrom (wordIn p cells) 0) [] [] ≡ index (reading .tree) = scanned (wordIn p cells) (reading .tree) (reading .word) in
-          rw building-is (rw (f, blocks) refl, rw (s, blocks) at g)
+          let s : indexScan (rowsFrom (wordIn p cells) 0) [] [] ≡ index (reading .tree) = scanned (wordIn p cells) (reading .tree) (reading .word) in
+          builds-by (accepted (reading .tree)) (built 0 0 count) after room (rw (f, blocks) refl) (rw (s, blocks) at g)

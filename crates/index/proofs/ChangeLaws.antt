@@ -5,12 +5,13 @@ use types.Run.{OneOf}
 use Prim.Native.Nat.{ℕ, _+_, _≤_, _<_}
 use native.Mathlib.Omega.{arith}
 use lib.ListN.{length}
-use Rattle.readings.specs.Tokens.{Kind, Token, start, repeat, end, halt, nothing}
-use Rattle.reader.specs.Rows.{kindOf, tokenIn, rowsFrom}
+use Rattle.theory_readings.specs.Tokens.{Kind, Token, start, repeat, end, halt, nothing}
+use Rattle.reader.specs.Rows.{kindOf, tokenIn}
+use Rattle.reader.specs.ways.FromRow.{rowsFrom}
 use Rattle.reader.specs.declared.token.RowKind.{RowKind}
 use Rattle.reader.specs.declared.token.RowKind.the-variants.{End}
 use Rattle.reader.proofs.RowTokens.{tag, among, rows-cons, rows-none}
-use Rattle.indexes.specs.Scan.{Change, begins, ends, stays, changeOf, oneIfBegins, starts}
+use Rattle.theory_indexes.specs.ways.IndexScan.{Change, begins, ends, stays, changeOf, oneIfBegins, starts}
 
 began : (t : Token) → OneOf (0 ∷ 1 ∷ 2 ∷ 3 ∷ []) (tag (kindOf t)) → begins ≡ changeOf t
 unfolding changeOf kindOf

@@ -8,7 +8,7 @@ use native.Mathlib.Omega.{arith}
 use lib.ListN.{length, getD, drop, drop-of-length-le}
 use lib.Seq.{drop-cons}
 use Rattle.groups.specs.Answer.{pick}
-use Rattle.indexes.specs.Enclosing.{encloses, later, lastFrom}
+use Rattle.theory_indexes.specs.Enclosing.{encloses, later, lastFrom}
 
 three : (l : List ℕ) (i : ℕ) → i + 2 < length l → drop i l ≡ getD l i 0 ∷ getD l (i + 1) 0 ∷ getD l (i + 2) 0 ∷ drop (i + 3) l
 three l i h =

@@ -9,11 +9,11 @@ use borrow.Author.Tests.{ne-eqb}
 use lib.Dec.{eqb}
 use lib.ListN.{length, getD, take, drop, set, length-set, take-append-drop}
 use lib.Seq.{length-take-le, getD-set-same, getD-set-other, drop-set-lt, take-set-lt, getD-take}
-use Rattle.readings.specs.Tokens.{Token}
-use Rattle.readings.specs.Readings.{Row}
-use Rattle.indexes.specs.Scan.{Change, begins, ends, stays, changeOf, around, ended, closed, madeBehind, openBehind, scan, oneIfBegins, starts, FitsRow, openCount, Fits}
-use Rattle.index.specs.Steps.{aroundIn, indexBehind, stackBehind, scanBehind, Room}
-use Rattle.index.specs.declared.fill.Scan.{Scan}
+use Rattle.theory_readings.specs.Tokens.{Token}
+use Rattle.theory_readings.specs.Readings.{Row}
+use Rattle.theory_indexes.specs.ways.IndexScan.{Change, begins, ends, stays, changeOf, around, ended, closed, madeBehind, openBehind, indexScan, oneIfBegins, starts, FitsRow, openCount, Fits}
+use Rattle.index.specs.ways.Steps.{aroundIn, indexBehind, stackBehind, progressBehind, Room}
+use Rattle.index.specs.declared.fill.Progress.{Progress}
 
 -- LISTS
 
@@ -88,19 +88,19 @@ below-closed (p ∷ stack) n b = b .1
 -- ONE ROW
 
 -- the rows that are left, the scan so far; what it comes to is `goal`, `total` blocks in all
-pub record Building (goal : List ℕ) (total : ℕ) (past : List ℕ) (size : ℕ) (rows : List Row) (s : Scan) (array index : List ℕ) : Type 0 where
+pub record Building (goal : List ℕ) (total : ℕ) (past : List ℕ) (size : ℕ) (rows : List Row) (s : Progress) (array index : List ℕ) : Type 0 where
   pub stack : List ℕ
   pub most : s .opened ≤ 64
   pub holds : Holds stack array (s .opened)
   pub below : Below stack (s .next)
   pub fits : Fits (s .opened) rows
   pub counted : s .next + 3 * starts rows ≡ 3 * total
-  pub made : scan rows (take (s .next) index) stack ≡ goal
+  pub made : indexScan rows (take (s .next) index) stack ≡ goal
   pub rest : drop (3 * total) index ≡ past
   pub sized : length index ≡ size
   pub long : length array ≡ 64
 
-module _ (goal : List ℕ) (total : ℕ) (past : List ℕ) (size : ℕ) (enough : 3 * total ≤ size) (n : ℕ) (rows : List Row) (s : Scan) (array index : List ℕ) where
+module _ (goal : List ℕ) (total : ℕ) (past : List ℕ) (size : ℕ) (enough : 3 * total ≤ size) (n : ℕ) (rows : List Row) (s : Progress) (array index : List ℕ) where
   -- what is known before a row that makes a change
   pub record Before (c : Change) : Type 0 where
     pub stack : List ℕ
@@ -109,7 +109,7 @@ module _ (goal : List ℕ) (total : ℕ) (past : List ℕ) (size : ℕ) (enough 
     pub below : Below stack (s .next)
     pub fits : FitsRow (s .opened) c × Fits (openCount (s .opened) c) rows
     pub counted : s .next + 3 * (oneIfBegins c + starts rows) ≡ 3 * total
-    pub made : scan rows (madeBehind n c (take (s .next) index) stack) (openBehind c (take (s .next) index) stack) ≡ goal
+    pub made : indexScan rows (madeBehind n c (take (s .next) index) stack) (openBehind c (take (s .next) index) stack) ≡ goal
     pub rest : drop (3 * total) index ≡ past
     pub sized : length index ≡ size
     pub long : length array ≡ 64
@@ -143,8 +143,8 @@ module _ (goal : List ℕ) (total : ℕ) (past : List ℕ) (size : ℕ) (enough 
     unfolding indexBehind
     begun-size = rw (length-set, length-set, length-set) (b .sized)
 
-    begun : Building goal total past size rows (scanBehind begins s) (stackBehind begins s array) (indexBehind begins n s array index)
-    unfolding scanBehind stackBehind Holds Below FitsRow openCount oneIfBegins openBehind
+    begun : Building goal total past size rows (progressBehind begins s) (stackBehind begins s array) (indexBehind begins n s array index)
+    unfolding progressBehind stackBehind Holds Below FitsRow openCount oneIfBegins openBehind
     begun = record {
       stack = s .next ∷ b .stack;
       most = omega (arith, b .fits .0);
@@ -185,8 +185,8 @@ module _ (goal : List ℕ) (total : ℕ) (past : List ℕ) (size : ℕ) (enough 
     unfolding indexBehind
     finished-size = rw length-set (b .sized)
 
-    finished : Building goal total past size rows (scanBehind ends s) (stackBehind ends s array) (indexBehind ends n s array index)
-    unfolding scanBehind stackBehind FitsRow openCount oneIfBegins openBehind madeBehind
+    finished : Building goal total past size rows (progressBehind ends s) (stackBehind ends s array) (indexBehind ends n s array index)
+    unfolding progressBehind stackBehind FitsRow openCount oneIfBegins openBehind madeBehind
     finished =
         let e : pred (s .opened) ≡ s .opened - 1 = omega arith in
         record {
@@ -206,8 +206,8 @@ module _ (goal : List ℕ) (total : ℕ) (past : List ℕ) (size : ℕ) (enough 
     unfolding Room FitsRow
     end-room = (b .fits .0, b .most, omega (arith, end-top, next-le))
 
-  unchanged : Before stays → Building goal total past size rows (scanBehind stays s) (stackBehind stays s array) (indexBehind stays n s array index)
-  unfolding scanBehind stackBehind indexBehind FitsRow openCount oneIfBegins openBehind madeBehind
+  unchanged : Before stays → Building goal total past size rows (progressBehind stays s) (stackBehind stays s array) (indexBehind stays n s array index)
+  unfolding progressBehind stackBehind indexBehind FitsRow openCount oneIfBegins openBehind madeBehind
   unchanged b = record {
     stack = b .stack;
     most = b .most;
@@ -221,7 +221,7 @@ module _ (goal : List ℕ) (total : ℕ) (past : List ℕ) (size : ℕ) (enough 
     long = b .long;
   }
 
-  pub next-row : (c : Change) → Before c → Building goal total past size rows (scanBehind c s) (stackBehind c s array) (indexBehind c n s array index)
+  pub next-row : (c : Change) → Before c → Building goal total past size rows (progressBehind c s) (stackBehind c s array) (indexBehind c n s array index)
   next-row begins b = begun b
   next-row ends b = finished b
   next-row stays b = unchanged b
@@ -234,7 +234,7 @@ module _ (goal : List ℕ) (total : ℕ) (past : List ℕ) (size : ℕ) (enough 
 
   -- the first of the rows that are left
   pub at-row : (t : Token) (c : Change) → c ≡ changeOf t → Building goal total past size ((n, t) ∷ rows) s array index → Before c
-  unfolding Fits starts scan
+  unfolding Fits starts indexScan
   at-row t c e b = record {
     stack = b .stack;
     most = b .most;
@@ -249,15 +249,15 @@ module _ (goal : List ℕ) (total : ℕ) (past : List ℕ) (size : ℕ) (enough 
   }
 
 -- behind the last row
-pub all-built : (goal : List ℕ) (total : ℕ) (past : List ℕ) (size : ℕ) (s : Scan) (array index : List ℕ) → Building goal total past size [] s array index → index ≡ goal ++ past
-unfolding starts scan
+pub all-built : (goal : List ℕ) (total : ℕ) (past : List ℕ) (size : ℕ) (s : Progress) (array index : List ℕ) → Building goal total past size [] s array index → index ≡ goal ++ past
+unfolding starts indexScan
 all-built goal total past size s array index b =
     let e : s .next ≡ 3 * total = omega (arith, b .counted) in
     rw (← (b .made), ← (b .rest), e) (sym (take-append-drop (3 * total) index))
 
 -- before the first
-pub none-built : (total : ℕ) (size : ℕ) (rows : List Row) (s : Scan) (array index : List ℕ) → s .opened ≡ 0 → s .next ≡ 0 → total ≡ starts rows → size ≡ length index → length array ≡ 64 → Fits 0 rows
-    → Building (scan rows [] []) total (drop (3 * total) index) size rows s array index
+pub none-built : (total : ℕ) (size : ℕ) (rows : List Row) (s : Progress) (array index : List ℕ) → s .opened ≡ 0 → s .next ≡ 0 → total ≡ starts rows → size ≡ length index → length array ≡ 64 → Fits 0 rows
+    → Building (indexScan rows [] []) total (drop (3 * total) index) size rows s array index
 unfolding Holds Below
 none-built total size rows s array index o z e f g h = record {
   stack = [];

@@ -1,3 +1,3 @@
 pub mod Building
 pub mod Lookups
-pub mod Steps
+pub mod ways

@@ -1,11 +1,13 @@
 // What a row does to the open blocks.
+use groups::constants::Row;
 use reader::token::RowKind;
 use reader::token::row_kind;
 use rows::records::profile::Profile;
 ghost use mathlib.Core.Path.{_≡_};
-ghost use Rattle.indexes.specs.Scan.{changeOf, oneIfBegins, starts};
-ghost use Rattle.reader.specs.Rows.{tokenAt, wordIn, rowsFrom};
-ghost use Rattle.index.specs.Steps.{toldChange};
+ghost use Rattle.theory_indexes.specs.ways.IndexScan.{changeOf, oneIfBegins, starts};
+ghost use Rattle.reader.specs.Rows.{tokenAt, wordIn};
+ghost use Rattle.reader.specs.ways.FromRow.{rowsFrom};
+ghost use Rattle.index.specs.ways.Steps.{toldChange};
 
 // A block begins, ends, or neither.
 pub(crate) enum Change {
@@ -45,7 +47,7 @@ pub(crate) fn count_starts(profile: Profile, cells: &[u64]) -> usize
 {
     let mut at: usize = 0;
     let mut count: usize = 0;
-    while at < cells.len() / 49 {
+    while at < cells.len() / Row::WIDTH {
         let change = change_at(profile, cells, at);
         count += begun(change);
         at += 1;

@@ -1,6 +1,7 @@
 // The block that a row belongs to, by the numbers of an index, whoever made them.
+use groups::constants::Refusal;
 ghost use mathlib.Core.Path.{_≡_};
-ghost use Rattle.indexes.specs.Enclosing.{enclosing};
+ghost use Rattle.theory_indexes.specs.Enclosing.{enclosing};
 ghost use Rattle.index.specs.Lookups.{toldEnclosing};
 
 // The place of a block, from 0; none; or the number of a refusal.
@@ -15,7 +16,7 @@ pub fn enclosing_block(index: &[u32], row: usize) -> Enclosing
     ensures { λ r. ⌜ toldEnclosing r ≡ enclosing (now (index .entry)) row ⌝ }
 {
     if index.len() % 3 != 0 {
-        return Enclosing::Refused(11);
+        return Enclosing::Refused(Refusal::BAD_LENGTH);
     }
     let mut place = index.len() / 3;
     while 0 < place {

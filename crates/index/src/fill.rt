@@ -1,17 +1,20 @@
 // The numbers of the index, by one scan of the rows with the places of the open blocks.
 use crate::change::Change;
 use crate::change::change_at;
+use groups::constants::Row;
 use rows::records::profile::Profile;
 ghost use mathlib.Core.Path.{_≡_};
 ghost use mathlib.Core.List.{[], _++_};
 ghost use Prim.Native.Nat.{_+_, _*_, _-_, _/_, _<_, _≤_};
 ghost use lib.ListN.{length, getD, drop};
-ghost use Rattle.indexes.specs.Scan.{begins, ends, scan, starts, Fits};
-ghost use Rattle.reader.specs.Rows.{wordIn, rowsFrom};
-ghost use Rattle.index.specs.Steps.{toldChange, aroundIn, indexBehind, stackBehind, scanBehind, Room};
+ghost use Rattle.groups.specs.Constants.{rowWidth, mostRows};
+ghost use Rattle.theory_indexes.specs.ways.IndexScan.{begins, ends, indexScan, starts, Fits};
+ghost use Rattle.reader.specs.Rows.{wordIn};
+ghost use Rattle.reader.specs.ways.FromRow.{rowsFrom};
+ghost use Rattle.index.specs.ways.Steps.{toldChange, aroundIn, indexBehind, stackBehind, progressBehind, Room};
 
 // How many blocks are open, and where the numbers of the next block go.
-struct Scan {
+struct Progress {
     opened: usize,
     next: usize,
 }
@@ -29,9 +32,9 @@ fn around(row: u32, opened: usize, stack: &[usize; 64], index: &[u32]) -> u32
 }
 
 // A start row: its block's numbers, the END row still 0.
-fn start_row(row: u32, s: Scan, stack: &mut [usize; 64], index: &mut [u32]) -> Scan
+fn start_row(row: u32, s: Progress, stack: &mut [usize; 64], index: &mut [u32]) -> Progress
     requires { ⌜ Room begins s (now stack) (now index) ⌝ }
-    ensures { λ r. ⌜ r ≡ scanBehind begins s ⌝ }
+    ensures { λ r. ⌜ r ≡ progressBehind begins s ⌝ }
     ensures { λ _. ⌜ now (stack .exit) ≡ stackBehind begins s (now (stack .entry)) ⌝ }
     ensures { λ _. ⌜ now (index .exit) ≡ indexBehind begins row s (now (stack .entry)) (now (index .entry)) ⌝ }
 {
@@ -42,31 +45,37 @@ fn start_row(row: u32, s: Scan, stack: &mut [usize; 64], index: &mut [u32]) -> S
     index[next + 1] = 0;
     index[next + 2] = outer;
     stack[opened] = next;
-    Scan {
+    Progress {
         opened: opened + 1,
         next: next + 3,
     }
 }
 
 // An END row: the END of the innermost open block.
-fn end_row(row: u32, s: Scan, stack: &[usize; 64], index: &mut [u32]) -> Scan
+fn end_row(row: u32, s: Progress, stack: &[usize; 64], index: &mut [u32]) -> Progress
     requires { ⌜ Room ends s (now stack) (now index) ⌝ }
-    ensures { λ r. ⌜ r ≡ scanBehind ends s ⌝ }
+    ensures { λ r. ⌜ r ≡ progressBehind ends s ⌝ }
     ensures { λ _. ⌜ now (index .exit) ≡ indexBehind ends row s (now (stack .entry)) (now (index .entry)) ⌝ }
 {
     let opened = s.opened - 1;
     let place = stack[opened];
     index[place + 1] = row;
-    Scan {
+    Progress {
         opened,
         next: s.next,
     }
 }
 
 // What a row adds.
-fn step(change: Change, row: u32, s: Scan, stack: &mut [usize; 64], index: &mut [u32]) -> Scan
+fn step(
+    change: Change,
+    row: u32,
+    s: Progress,
+    stack: &mut [usize; 64],
+    index: &mut [u32],
+) -> Progress
     requires { ⌜ Room (toldChange change) s (now stack) (now index) ⌝ }
-    ensures { λ r. ⌜ r ≡ scanBehind (toldChange change) s ⌝ }
+    ensures { λ r. ⌜ r ≡ progressBehind (toldChange change) s ⌝ }
     ensures { λ _. ⌜ now (stack .exit) ≡ stackBehind (toldChange change) s (now (stack .entry)) ⌝ }
     ensures { λ _. ⌜ now (index .exit) ≡ indexBehind (toldChange change) row s (now (stack .entry)) (now (index .entry)) ⌝ }
 {
@@ -79,13 +88,15 @@ fn step(change: Change, row: u32, s: Scan, stack: &mut [usize; 64], index: &mut 
 
 // Fills three numbers for each block; the numbers past them stay.
 pub(crate) fn fill(profile: Profile, cells: &[u64], index: &mut [u32])
-    requires { ⌜ (length (now cells) / 49 ≤ 16777216) × (3 * starts (rowsFrom (wordIn profile (now cells)) 0) ≤ length (now index)) × Fits 0 (rowsFrom (wordIn profile (now cells)) 0) ⌝ }
-    ensures { λ _. ⌜ now (index .exit) ≡ scan (rowsFrom (wordIn profile (now (cells .entry))) 0) [] [] ++ drop (3 * starts (rowsFrom (wordIn profile (now (cells .entry))) 0)) (now (index .entry)) ⌝ }
+    requires { ⌜ (length (now cells) / rowWidth ≤ mostRows) × (3 * starts (rowsFrom (wordIn profile (now cells)) 0) ≤ length (now index))
+        × Fits 0 (rowsFrom (wordIn profile (now cells)) 0) ⌝ }
+    ensures { λ _. ⌜ now (index .exit) ≡ indexScan (rowsFrom (wordIn profile (now (cells .entry))) 0) [] []
+        ++ drop (3 * starts (rowsFrom (wordIn profile (now (cells .entry))) 0)) (now (index .entry)) ⌝ }
 {
     let mut stack = [0usize; 64];
-    let mut s = Scan { opened: 0, next: 0 };
+    let mut s = Progress { opened: 0, next: 0 };
     let mut at: usize = 0;
-    while at < cells.len() / 49 {
+    while at < cells.len() / Row::WIDTH {
         let change = change_at(profile, cells, at);
         s = step(change, at as u32, s, &mut stack, index);
         at += 1;

@@ -15,11 +15,12 @@ use Rattle.groups.specs.Answer.{pick}
 use Rattle.rows.specs.declared.records.profile.Profile.{Profile}
 use Rattle.rows.specs.records.Profiles.{isOneOf}
 use Rattle.rows.specs.passes.Passes.{opcodeOf}
-use Rattle.rows.specs.passes.LoopCounts.{rowAt as rowIn}
+use Rattle.rows.specs.passes.Buffers.{rowAt as rowIn}
 use Rattle.rows.proofs.passes.RowCells.{row-cell, opcode-cells}
-use Rattle.readings.specs.Tokens.{Kind, Token, start, repeat, end, halt, nothing, controls, tokenBeside, controlToken, controlOpcodes, isOpOpcode, opToken, inSpanOf, opBitsOf, allBits, tokenOf}
-use Rattle.readings.specs.Readings.{rowAt, allRows}
-use Rattle.reader.specs.Rows.{kindOf, opKind}
+use Rattle.theory_readings.specs.Tokens.{Kind, Token, start, repeat, end, halt, nothing, controls, tokenBeside, controlToken, controlOpcodes, isOpOpcode, opToken, inSpanOf, opBitsOf, allBits, tokenOf}
+use Rattle.theory_readings.specs.Readings.{rowAt, allRows}
+use Rattle.reader.specs.Rows.{kindOf}
+use Rattle.reader.specs.ways.FromRow.{opKind}
 use Rattle.reader.specs.declared.token.RowKind.{RowKind}
 use Rattle.reader.specs.declared.token.RowKind.the-variants.{Span, Join, One, Loop, Op, Respan, Repeat, End, Halt, Nothing}
 use Rattle.reader.proofs.RowTokens.{row-of, Something, tag, among}

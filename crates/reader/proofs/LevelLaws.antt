@@ -7,10 +7,10 @@ use native.Mathlib.Omega.{arith}
 use native.Mathlib.Numerals.{add-one}
 use lib.ListN.{length, take, drop, set, drop-of-length-le}
 use lib.Seq.{take-suc-set}
-use Rattle.readings.specs.Tokens.{Kind, Token, start, repeat, end, halt, nothing}
-use Rattle.readings.specs.Parser.{levels}
+use Rattle.theory_readings.specs.Tokens.{Kind, Token, start, repeat, end, halt, nothing}
+use Rattle.theory_readings.specs.ways.Parser.{levels}
 use Rattle.reader.specs.Rows.{tokenIn, kindOf}
-use Rattle.reader.specs.Levels.{levelAt, levelBehind}
+use Rattle.reader.specs.ways.Levels.{levelAt, levelBehind}
 use Rattle.reader.specs.declared.token.RowKind.{RowKind}
 use Rattle.reader.specs.declared.token.RowKind.the-variants.{Span, Join, One, Loop, Op, Respan, Repeat, End, Halt, Nothing}
 use Rattle.reader.proofs.RowTokens.{tag, among}

@@ -2,7 +2,7 @@
 use mathlib.Core.Path.{_≡_, _∙_, refl, sym, ap}
 use mathlib.Core.Bool.{Bool, true, false, _||_}
 use mathlib.Core.List.{List, [], _∷_, _++_}
-use mathlib.Core.Option.{none, some}
+use mathlib.Core.Option.{Option, none, some}
 use types.Run.{OneOf}
 use Prim.Native.Nat.{ℕ, zero, suc, _+_, _-_, _/_, _%_, _≤_, _<_}
 use native.Mathlib.Omega.{arith}
@@ -14,26 +14,25 @@ use Rattle.rows.specs.declared.records.profile.Profile.{Profile}
 use Rattle.rows.specs.records.Profiles.{profileWrong}
 use Rattle.rows.specs.passes.Passes.{bufferWrong, firstOf}
 use Rattle.rows.proofs.passes.Checks.{neither, none-first}
-use Rattle.readings.specs.Tokens.{Token, start, repeat, end, halt, nothing}
-use Rattle.readings.specs.Readings.{Block, numbered, spell, programRows, asks, bufferRefusal, allRows}
-use Rattle.readings.specs.Answers.{Answer, accepted, refused, readerRefusal, numberOf, rowOf, programRowsOf, depthsAfter}
-use Rattle.readings.specs.Parser.{need, live, parse, WordAnswer, wordOf, noWordAt, ifHalt, afterHalt, afterBlock, wordAnswer, readWord, firstWrong, answerOfCells, answerOfWord, unlessBadInput, answer, levels}
-use Rattle.readings.proofs.Parses.{parse-done}
-use Rattle.readings.proofs.SpelledRows.{numbered-length, word-length}
-use Rattle.readings.proofs.AcceptedTraces.{buffer-passes, accepts-traces, accepts-exactly, accepted-depths}
-use Rattle.reader.specs.Rows.{wordIn, rowsFrom, tokenIn, kindOf}
-use Rattle.reader.specs.Parts.{rowOfWrong, rightFrom, BlockRight}
-use Rattle.reader.specs.Reads.{traceRead, cellsAnswer, HaltsRead, BehindRead}
-use Rattle.reader.specs.declared.grammar.Wrong.{Wrong}
-use Rattle.reader.specs.declared.grammar.Wrong.the-variants.{Nowhere, At}
-use Rattle.reader.specs.declared.grammar.Part.{Part}
-use Rattle.reader.specs.declared.grammar.Part.the-variants.{Done, Refused}
+use Rattle.theory_readings.specs.Tokens.{Token, start, repeat, end, halt, nothing}
+use Rattle.theory_readings.specs.Readings.{Block, numbered, spell, programRows, asks, bufferRefusal, allRows, Trace}
+use Rattle.theory_readings.specs.Answers.{ReaderAnswer, accepted, refused, readerRefusal, Right, refusalOf, rowOf, programRowsOf, depthsAfter}
+use Rattle.theory_readings.specs.ways.Parser.{need, live, parse, WordAnswer, wordOf, noWordAt, ifHalt, afterHalt, afterBlock, wordAnswer, readWord, firstWrong, answerOfCells, answerOfWord, unlessBadInput, answer, levels}
+use Rattle.theory_readings.proofs.Parses.{parse-done}
+use Rattle.theory_readings.proofs.SpelledRows.{numbered-length, word-length}
+use Rattle.theory_readings.proofs.RightAnswer.{answer-right}
+use Rattle.theory_readings.proofs.AcceptedTraces.{buffer-passes, accepted-trace, accepted-passes, number-accepted, accepted-depths}
+use Rattle.reader.specs.Rows.{wordIn, tokenIn, kindOf}
+use Rattle.reader.specs.ways.FromRow.{rowsFrom}
+use Rattle.reader.specs.ways.Parts.{PartRead, upTo, refusedAt, rightFrom, BlockRight}
+use Rattle.reader.specs.Reads.{traceRead, TellsTrace, ReadsTrace}
+use Rattle.reader.specs.ways.WholeWord.{cellsAnswer, HaltsRead, BehindRead}
 use Rattle.reader.specs.declared.trace.TraceRead.{TraceRead}
 use Rattle.reader.proofs.RowTokens.{rows-in, rows-cons, rows-none, rows-at, tag, among}
 
 -- what is answered, by its values
 abbrev pub reads : (number row programRows : ℕ) → TraceRead
-reads n r k = record { number = n; row = r; «program_rows» = k }
+reads n r k = record { refusal = n; row = r; «program_rows» = k }
 
 -- HALT ROWS
 
@@ -90,19 +89,19 @@ module _ (w : List Token) (next stop n : ℕ) (b : Block) (size : n ≡ length w
 
   module _ (rows : List (List ℕ)) where
     pub behind-no : (eqb next n || ltb stop n) ≡ true → reads 12 stop 0 ≡ traceRead (answerOfWord rows (afterBlock b (length w) (rowsFrom w next)))
-    unfolding traceRead answerOfWord numberOf rowOf programRowsOf
+    unfolding traceRead answerOfWord refusalOf rowOf programRowsOf
     behind-no e = rw (no-word-by (eqb next n) (ltb stop n) refl refl e) refl
 
-    pub behind-wrong : (row : ℕ) (o : Wrong) → (eqb next n || ltb stop n) ≡ false → o ≡ At row → rowOfWrong o ≡ firstWrong rows (asks b) →
+    pub behind-wrong : (row : ℕ) (o : Option ℕ) → (eqb next n || ltb stop n) ≡ false → o ≡ some row → o ≡ firstWrong rows (asks b) →
         reads 13 row 0 ≡ traceRead (answerOfWord rows (afterBlock b (length w) (rowsFrom w next)))
-    unfolding traceRead answerOfWord answerOfCells numberOf rowOf programRowsOf rowOfWrong
+    unfolding traceRead answerOfWord answerOfCells refusalOf rowOf programRowsOf
     behind-wrong row o e f u =
         let v : some row ≡ firstWrong rows (asks b) = rw f at u in
         rw (word-by (eqb next n) (ltb stop n) refl refl e, ← v) refl
 
-    pub behind-right : (o : Wrong) → (eqb next n || ltb stop n) ≡ false → o ≡ Nowhere → rowOfWrong o ≡ firstWrong rows (asks b) → programRows b ≡ next →
+    pub behind-right : (o : Option ℕ) → (eqb next n || ltb stop n) ≡ false → o ≡ none → o ≡ firstWrong rows (asks b) → programRows b ≡ next →
         reads 0 0 next ≡ traceRead (answerOfWord rows (afterBlock b (length w) (rowsFrom w next)))
-    unfolding traceRead answerOfWord answerOfCells numberOf rowOf programRowsOf rowOfWrong
+    unfolding traceRead answerOfWord answerOfCells refusalOf rowOf programRowsOf
     behind-right o e f u k =
         let v : none ≡ firstWrong rows (asks b) = rw f at u in
         rw (word-by (eqb next n) (ltb stop n) refl refl e, ← v) (ap (reads 0 0) (sym k))
@@ -117,12 +116,12 @@ from-start : (w : List Token) (b : Block) (j : ℕ) → rowsFrom w 0 ≡ spell b
 unfolding rowsFrom
 from-start w b j f = f
 
-module _ (p : Profile) (cells : List ℕ) (r : Part) (h : BlockRight (allRows cells) (wordIn p cells) 0 64 0 r) where
-  pub root-refused : (number row : ℕ) → r ≡ Refused number row → reads number row 0 ≡ traceRead (cellsAnswer p cells)
-  unfolding cellsAnswer readWord BlockRight rightFrom rowsFrom traceRead numberOf rowOf programRowsOf
+module _ (p : Profile) (cells : List ℕ) (r : PartRead) (h : BlockRight (allRows cells) (wordIn p cells) 0 64 0 r) where
+  pub root-refused : (number row : ℕ) → r ≡ refusedAt number row → reads number row 0 ≡ traceRead (cellsAnswer p cells)
+  unfolding cellsAnswer readWord BlockRight rightFrom rowsFrom traceRead refusalOf rowOf programRowsOf
   root-refused number row e = let f = (rw e at h) [] in rw f refl
 
-  pub root-done : (next : ℕ) (wrong : Wrong) (read : TraceRead) → r ≡ Done next wrong → next ≤ length cells / 49 → BehindRead (allRows cells) (wordIn p cells) next wrong read → read ≡ traceRead (cellsAnswer p cells)
+  pub root-done : (next : ℕ) (wrong : Option ℕ) (read : TraceRead) → r ≡ upTo next wrong → next ≤ length cells / 49 → BehindRead (allRows cells) (wordIn p cells) next wrong read → read ≡ traceRead (cellsAnswer p cells)
   unfolding cellsAnswer readWord BlockRight BehindRead wordAnswer asks
   root-done next wrong read e l g =
       let w : List Token = wordIn p cells in
@@ -135,8 +134,8 @@ module _ (p : Profile) (cells : List ℕ) (r : Part) (h : BlockRight (allRows ce
 -- THE ANSWER
 
 -- what a refusal leaves
-left-by : (rows : ℕ) (a : Answer) (depths : List ℕ) → (numberOf a ≡ 0 → ⊥) → depths ≡ depthsAfter rows a depths
-unfolding depthsAfter numberOf
+left-by : (rows : ℕ) (a : ReaderAnswer) (depths : List ℕ) → (refusalOf a ≡ 0 → ⊥) → depths ≡ depthsAfter rows a depths
+unfolding depthsAfter refusalOf
 left-by rows (accepted b) depths h = absurd (h refl)
 left-by rows (refused number row) depths h = refl
 
@@ -150,48 +149,66 @@ module _ (p : Profile) (cells : List ℕ) (depths : ℕ) where
   unfolding answer unlessBadInput cellsAnswer wordIn
   good-answer f = rw f refl
 
-  -- an answer of 0 is neither 2 nor 11
-  good-by : (n : ℕ) → readerRefusal p cells depths ≡ n → numberOf (answer p cells depths) ≡ 0 → readerRefusal p cells depths ≡ 0
-  unfolding numberOf
-  good-by zero f h = f
-  good-by (suc n) f h =
-      let z : suc n ≡ 0 = rw (bad-input (suc n) f (λ q. omega arith)) at h in
-      absurd (omega arith)
+  by-answer : (read : TraceRead) → read ≡ traceRead (answer p cells depths) → TellsTrace p cells depths read
+  by-answer read e = record { answered = answer p cells depths; is-right = answer-right p cells depths; told-is = e }
 
   module _ (number : ℕ) (e : number ≡ readerRefusal p cells depths) where
-    pub bad-read : (number ≡ 0 → ⊥) → reads number 0 0 ≡ traceRead (answer p cells depths)
-    unfolding traceRead numberOf rowOf programRowsOf
-    bad-read h = rw (bad-input number (sym e) h) refl
+    pub bad-read : (number ≡ 0 → ⊥) → TellsTrace p cells depths (reads number 0 0)
+    unfolding traceRead refusalOf rowOf programRowsOf
+    bad-read h =
+        let f : reads number 0 0 ≡ traceRead (answer p cells depths) = rw (bad-input number (sym e) h) refl in
+        by-answer (reads number 0 0) f
 
-    pub good-read : number ≡ 0 → (read : TraceRead) → read ≡ traceRead (cellsAnswer p cells) → read ≡ traceRead (answer p cells depths)
-    good-read z read k = rw (good-answer (sym e ∙ z)) k
+    pub good-read : number ≡ 0 → (read : TraceRead) → read ≡ traceRead (cellsAnswer p cells) → TellsTrace p cells depths read
+    good-read z read k =
+        let f : read ≡ traceRead (answer p cells depths) = rw (good-answer (sym e ∙ z)) k in
+        by-answer read f
 
-module _ (p : Profile) (cells depths : List ℕ) (read : TraceRead) (k : read ≡ traceRead (answer p cells (length depths))) where
-  number-of : read .number ≡ numberOf (answer p cells (length depths))
+module _ (p : Profile) (cells : List ℕ) (depths : ℕ) (read : TraceRead) (v : TellsTrace p cells depths read) where
+  pub number-of : read .refusal ≡ refusalOf (v .answered)
   unfolding traceRead
-  number-of = rw k refl
+  number-of = ap (λ (r : TraceRead). r .refusal) (v .told-is)
 
-  pub kept-depths : (read .number ≡ 0 → ⊥) → depths ≡ depthsAfter (length cells / 49) (answer p cells (length depths)) depths
-  kept-depths h = left-by (length cells / 49) (answer p cells (length depths)) depths (λ f. h (number-of ∙ f))
+  pub row-of : read .row ≡ rowOf (v .answered)
+  unfolding traceRead
+  row-of = ap (λ (r : TraceRead). r .row) (v .told-is)
 
-  module _ (h : read .number ≡ 0) where
-    passed : readerRefusal p cells (length depths) ≡ 0
-    passed = good-by p cells (length depths) (readerRefusal p cells (length depths)) refl (sym number-of ∙ h)
+  -- what is told as 0 is accepted
+  module _ (h : read .refusal ≡ 0) where
+    pub is-accepted : (b : Block) × (v .answered ≡ accepted b)
+    is-accepted = number-accepted p cells depths (v .answered) (v .is-right) (sym number-of ∙ h)
+
+    accepts : Right p cells depths (accepted (is-accepted .0))
+    accepts = rw (is-accepted .1) at (v .is-right)
+
+    pub is-trace : Trace p cells (is-accepted .0)
+    is-trace = accepted-trace p cells depths (is-accepted .0) accepts
+
+    passed : (bufferRefusal p cells ≡ 0) × (length cells / 49 ≤ depths)
+    passed = buffer-passes p cells depths (accepted-passes p cells depths (is-accepted .0) accepts)
 
     -- the rows are few enough to count, and the depths enough
     pub few-rows : length cells / 49 ≤ 16777216
     unfolding bufferRefusal firstOf bufferWrong
     few-rows =
-        let (f, g) = buffer-passes p cells (length depths) passed in
-        let (k, l) = none-first (profileWrong p) 1 ((bufferWrong (length cells), 11) ∷ []) f in
+        let (k, l) = none-first (profileWrong p) 1 ((bufferWrong (length cells), 11) ∷ []) (passed .0) in
         let (m, n) = none-first (bufferWrong (length cells)) 10 [] l in
         ltb-false 16777216 (length cells / 49) (neither (ltb 0 (length cells % 49)) (ltb 16777216 (length cells / 49)) m .1)
 
-    pub enough : length cells / 49 ≤ length depths
-    enough = buffer-passes p cells (length depths) passed .1
+    pub enough : length cells / 49 ≤ depths
+    enough = passed .1
 
-    pub filled-depths : (after : List ℕ) → after ≡ levels 0 (wordIn p cells) ++ drop (length cells / 49) depths → after ≡ depthsAfter (length cells / 49) (answer p cells (length depths)) depths
-    unfolding wordIn
-    filled-depths after f =
-        let (b, t) = accepts-exactly p cells (length depths) enough .0 (sym number-of ∙ h) in
-        rw (accepts-traces p cells (length depths) b enough .1 t) (f ∙ sym (accepted-depths p cells depths b t))
+module _ (p : Profile) (cells depths : List ℕ) (read : TraceRead) (v : TellsTrace p cells (length depths) read) where
+  reads-by : (after : List ℕ) → after ≡ depthsAfter (length cells / 49) (v .answered) depths → ReadsTrace p cells depths read after
+  reads-by after f = record { answered = v .answered; is-right = v .is-right; told-is = v .told-is; left-is = f }
+
+  pub kept-depths : (read .refusal ≡ 0 → ⊥) → ReadsTrace p cells depths read depths
+  kept-depths h = reads-by depths (left-by (length cells / 49) (v .answered) depths (λ f. h (number-of p cells (length depths) read v ∙ f)))
+
+  pub filled-depths : read .refusal ≡ 0 → (after : List ℕ) → after ≡ levels 0 (wordIn p cells) ++ drop (length cells / 49) depths → ReadsTrace p cells depths read after
+  unfolding wordIn
+  filled-depths h after f =
+      let (b, e) = is-accepted p cells (length depths) read v h in
+      let g : after ≡ depthsAfter (length cells / 49) (v .answered) depths =
+      rw e (f ∙ sym (accepted-depths p cells depths b (is-trace p cells (length depths) read v h))) in
+      reads-by after g

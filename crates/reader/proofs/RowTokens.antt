@@ -15,12 +15,13 @@ use lib.Dec.{T, eqb}
 use lib.ListN.{length, getD, take, drop}
 use Rattle.rows.specs.declared.records.profile.Profile.{Profile}
 use Rattle.rows.specs.passes.Buffers.{rowsOf}
-use Rattle.rows.specs.passes.LoopCounts as buffer
+use Rattle.rows.specs.passes.Buffers as buffer
 use Rattle.rows.proofs.passes.RowLists.{length-rows, drop-rows}
-use Rattle.readings.specs.Tokens.{OneChild, Kind, Token, start, repeat, end, halt, nothing, tokenOf, tokensOf}
-use Rattle.readings.specs.Readings.{numbered, rowAt, allRows}
-use Rattle.readings.proofs.SpelledRows.{tokensOf-length}
-use Rattle.reader.specs.Rows.{wordIn, rowsFrom, tokenIn, kindOf}
+use Rattle.theory_readings.specs.Tokens.{OneChild, Kind, Token, start, repeat, end, halt, nothing, tokenOf, tokensOf}
+use Rattle.theory_readings.specs.Readings.{numbered, rowAt, allRows}
+use Rattle.theory_readings.proofs.SpelledRows.{tokensOf-length}
+use Rattle.reader.specs.Rows.{wordIn, tokenIn, kindOf}
+use Rattle.reader.specs.ways.FromRow.{rowsFrom}
 use Rattle.reader.specs.declared.token.RowKind.{RowKind}
 use Rattle.reader.specs.declared.token.RowKind.the-variants.{Span, Join, One, Loop, Op, Respan, Repeat, End, Halt, Nothing}
 use Rattle.reader.proofs.token.RowKind as declaredKind

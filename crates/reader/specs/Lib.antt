@@ -1,5 +1,4 @@
 pub mod Rows
-pub mod Parts
-pub mod Levels
 pub mod Reads
 pub mod Views
+pub mod ways

@@ -1,20 +1,16 @@
 -- The rows of a buffer as the reader sees them: tokens by their place, and what the code keeps of a token.
 use mathlib.Core.List.{List}
 use Prim.Native.Nat.{ℕ}
-use lib.ListN.{drop, getD}
+use lib.ListN.{getD}
 use Rattle.rows.specs.declared.records.profile.Profile.{Profile}
-use Rattle.readings.specs.Tokens.{Kind, Token, start, repeat, end, halt, nothing, tokensOf}
-use Rattle.readings.specs.Readings.{Row, numbered, allRows}
+use Rattle.theory_readings.specs.Tokens.{Kind, Token, start, repeat, end, halt, nothing, tokensOf}
+use Rattle.theory_readings.specs.Readings.{allRows}
 use Rattle.reader.specs.declared.token.RowKind.{RowKind}
 use Rattle.reader.specs.declared.token.RowKind.the-variants.{Span, Join, One, Loop, Op, Respan, Repeat, End, Halt, Nothing}
 
 -- the tokens of a buffer's rows
 unfoldable pub wordIn : Profile → (cells : List ℕ) → List Token
 wordIn p cells = tokensOf p (allRows cells)
-
--- the rows from row i on, with their numbers
-unfoldable pub rowsFrom : (w : List Token) → (i : ℕ) → List Row
-rowsFrom w i = drop i (numbered 0 w)
 
 -- the token of row i; past the end, nothing
 unfoldable pub tokenIn : (w : List Token) → (i : ℕ) → Token
@@ -35,16 +31,3 @@ kindOf repeat = Repeat
 kindOf end = End
 kindOf halt = Halt
 kindOf nothing = Nothing
-
--- "An op is a row .. whose opcode is none of the profile's other than PUSH"
-unfoldable pub opKind : (control : RowKind) → RowKind
-opKind Span = Nothing
-opKind Join = Nothing
-opKind One = Nothing
-opKind Loop = Nothing
-opKind Op = Nothing
-opKind Respan = Nothing
-opKind Repeat = Nothing
-opKind End = Nothing
-opKind Halt = Nothing
-opKind Nothing = Op

@@ -1,14 +1,16 @@
 // The depth of each row of a trace, by one scan that counts the open blocks.
 use crate::token::RowKind;
 use crate::token::row_kind;
+use groups::constants::Row;
 use rows::records::profile::Profile;
 ghost use mathlib.Core.Path.{_≡_};
 ghost use mathlib.Core.List.{_++_};
 ghost use Prim.Native.Nat.{_/_, _≤_, _<_};
 ghost use lib.ListN.{length, drop};
-ghost use Rattle.readings.specs.Parser.{levels};
+ghost use Rattle.groups.specs.Constants.{rowWidth, mostRows};
+ghost use Rattle.theory_readings.specs.ways.Parser.{levels};
 ghost use Rattle.reader.specs.Rows.{wordIn};
-ghost use Rattle.reader.specs.Levels.{levelAt, levelBehind};
+ghost use Rattle.reader.specs.ways.Levels.{levelAt, levelBehind};
 
 // The depth of a row, where so many blocks are open before it.
 fn depth_at(kind: RowKind, opened: u32) -> u32
@@ -38,12 +40,13 @@ fn open_behind(kind: RowKind, depth: u32) -> u32
 
 // Fills one depth a row; the numbers past the rows stay.
 pub(crate) fn fill(profile: Profile, cells: &[u64], depths: &mut [u32])
-    requires { ⌜ (length (now cells) / 49 ≤ 16777216) × (length (now cells) / 49 ≤ length (now depths)) ⌝ }
-    ensures { λ _. ⌜ now (depths .exit) ≡ levels 0 (wordIn profile (now (cells .entry))) ++ drop (length (now (cells .entry)) / 49) (now (depths .entry)) ⌝ }
+    requires { ⌜ (length (now cells) / rowWidth ≤ mostRows) × (length (now cells) / rowWidth ≤ length (now depths)) ⌝ }
+    ensures { λ _. ⌜ now (depths .exit) ≡ levels 0 (wordIn profile (now (cells .entry)))
+        ++ drop (length (now (cells .entry)) / rowWidth) (now (depths .entry)) ⌝ }
 {
     let mut at = 0;
     let mut opened: u32 = 0;
-    while at < cells.len() / 49 {
+    while at < cells.len() / Row::WIDTH {
         let kind = row_kind(profile, cells, at);
         let depth = depth_at(kind, opened);
         depths[at] = depth;

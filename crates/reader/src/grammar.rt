@@ -2,15 +2,20 @@
 use crate::token::RowKind;
 use crate::token::row_kind;
 use field::cell::cell;
+use groups::constants::Column;
+use groups::constants::Refusal;
+use groups::constants::Row;
 use rows::records::profile::Profile;
 ghost use mathlib.Core.Path.{_≡_};
 ghost use Prim.Native.Nat.{_/_, _<_, _≤_};
 ghost use lib.Dec.{eqb};
 ghost use lib.ListN.{length};
 ghost use Rattle.field.specs.Cells.{cellAt};
-ghost use Rattle.readings.specs.Readings.{rowAt, allRows};
-ghost use Rattle.reader.specs.Rows.{kindOf, tokenAt, wordIn};
-ghost use Rattle.reader.specs.Parts.{earlier, wrongUnless, tooDeep, closed, OpsRead, BlockRead, PassesRead};
+ghost use Rattle.groups.specs.Constants.{rowWidth};
+ghost use Rattle.theory_readings.specs.Readings.{rowAt, allRows};
+ghost use Rattle.theory_readings.specs.ways.Parser.{orElse};
+ghost use Rattle.reader.specs.Rows.{wordIn};
+ghost use Rattle.reader.specs.ways.Parts.{toldWrong, toldPart, wrongUnless, tooDeep, closedAt, OpsRead, BlockRead, PassesRead};
 
 // The lowest row with a cell that is not as asked.
 pub(crate) enum Wrong {
@@ -26,7 +31,7 @@ pub(crate) enum Part {
 
 // The lower of two wrong rows, the first one's rows being before the second one's.
 fn first(a: Wrong, b: Wrong) -> Wrong
-    ensures { λ r. ⌜ r ≡ earlier a b ⌝ }
+    ensures { λ r. ⌜ toldWrong r ≡ orElse (toldWrong a) (toldWrong b) ⌝ }
 {
     match a {
         Wrong::Nowhere => b,
@@ -36,10 +41,10 @@ fn first(a: Wrong, b: Wrong) -> Wrong
 
 // Whether cell k of a row is as asked.
 fn ask(cells: &[u64], row: usize, k: usize, value: u64) -> Wrong
-    requires { ⌜ (row < length (now cells) / 49) × (k < 49) ⌝ }
-    ensures { λ r. ⌜ r ≡ wrongUnless (eqb (cellAt (rowAt (allRows (now (cells .entry))) row) k) value) row ⌝ }
+    requires { ⌜ (row < length (now cells) / rowWidth) × (k < rowWidth) ⌝ }
+    ensures { λ r. ⌜ toldWrong r ≡ wrongUnless (eqb (cellAt (rowAt (allRows (now (cells .entry))) row) k) value) row ⌝ }
 {
-    if cell(cells, 49 * row + k) == value {
+    if cell(cells, Row::WIDTH * row + k) == value {
         Wrong::Nowhere
     } else {
         Wrong::At(row)
@@ -48,36 +53,39 @@ fn ask(cells: &[u64], row: usize, k: usize, value: u64) -> Wrong
 
 // The refusal of a row where no more block may start: 15 if it starts one, else 12.
 fn too_deep(kind: RowKind, row: usize) -> Part
-    ensures { λ r. ⌜ r ≡ tooDeep kind row ⌝ }
+    ensures { λ r. ⌜ toldPart r ≡ tooDeep kind row ⌝ }
 {
     match kind {
-        RowKind::Span | RowKind::Join | RowKind::One | RowKind::Loop => Part::Refused(15, row),
+        RowKind::Span | RowKind::Join | RowKind::One | RowKind::Loop => Part::Refused(
+            Refusal::BLOCK_65_DEEP,
+            row,
+        ),
         RowKind::Op
         | RowKind::Respan
         | RowKind::Repeat
         | RowKind::End
         | RowKind::Halt
-        | RowKind::Nothing => Part::Refused(12, row),
+        | RowKind::Nothing => Part::Refused(Refusal::NO_WORD_OF_GRAMMAR, row),
     }
 }
 
 // The END of a block; `flag` is what its h4 has to be, `wrong` the lowest wrong row of the block's parts.
 fn close(profile: Profile, cells: &[u64], row: usize, flag: u64, wrong: Wrong) -> Part
-    ensures { λ r. ⌜ r ≡ closed (kindOf (tokenAt profile (now (cells .entry)) row)) row (cellAt (rowAt (allRows (now (cells .entry))) row) 18) flag wrong ⌝ }
+    ensures { λ r. ⌜ toldPart r ≡ closedAt profile (now (cells .entry)) row flag (toldWrong wrong) ⌝ }
 {
     let kind = row_kind(profile, cells, row);
     if let RowKind::End = kind {
-        let own = ask(cells, row, 18, flag);
+        let own = ask(cells, row, Column::H4, flag);
         Part::Done(row + 1, first(wrong, own))
     } else {
-        Part::Refused(12, row)
+        Part::Refused(Refusal::NO_WORD_OF_GRAMMAR, row)
     }
 }
 
 // The rows behind a SPAN: ops and RESPANs, then END.
 fn ops(profile: Profile, cells: &[u64], row: usize, flag: u64) -> Part
-    requires { ⌜ row ≤ length (now cells) / 49 ⌝ }
-    ensures { λ r. ⌜ OpsRead (allRows (now (cells .entry))) (wordIn profile (now (cells .entry))) row flag r ⌝ }
+    requires { ⌜ row ≤ length (now cells) / rowWidth ⌝ }
+    ensures { λ r. ⌜ OpsRead (allRows (now (cells .entry))) (wordIn profile (now (cells .entry))) row flag (toldPart r) ⌝ }
 {
     let mut at = row;
     loop {
@@ -87,7 +95,7 @@ fn ops(profile: Profile, cells: &[u64], row: usize, flag: u64) -> Part
                 at += 1;
             }
             RowKind::End => {
-                let own = ask(cells, at, 18, flag);
+                let own = ask(cells, at, Column::H4, flag);
                 return Part::Done(at + 1, own);
             }
             RowKind::Span
@@ -97,7 +105,7 @@ fn ops(profile: Profile, cells: &[u64], row: usize, flag: u64) -> Part
             | RowKind::Repeat
             | RowKind::Halt
             | RowKind::Nothing => {
-                return Part::Refused(12, at);
+                return Part::Refused(Refusal::NO_WORD_OF_GRAMMAR, at);
             }
         }
     }
@@ -105,8 +113,8 @@ fn ops(profile: Profile, cells: &[u64], row: usize, flag: u64) -> Part
 
 // A Block, where `left` blocks may open one in another; `flag` is what h4 of its END has to be.
 pub(crate) fn block(profile: Profile, cells: &[u64], row: usize, left: u32, flag: u64) -> Part
-    requires { ⌜ row ≤ length (now cells) / 49 ⌝ }
-    ensures { λ r. ⌜ BlockRead (allRows (now (cells .entry))) (wordIn profile (now (cells .entry))) row left flag r ⌝ }
+    requires { ⌜ row ≤ length (now cells) / rowWidth ⌝ }
+    ensures { λ r. ⌜ BlockRead (allRows (now (cells .entry))) (wordIn profile (now (cells .entry))) row left flag (toldPart r) ⌝ }
 {
     let kind = row_kind(profile, cells, row);
     if left == 0 {
@@ -138,18 +146,18 @@ pub(crate) fn block(profile: Profile, cells: &[u64], row: usize, left: u32, flag
         | RowKind::Repeat
         | RowKind::End
         | RowKind::Halt
-        | RowKind::Nothing => Part::Refused(12, row),
+        | RowKind::Nothing => Part::Refused(Refusal::NO_WORD_OF_GRAMMAR, row),
     }
 }
 
-// The Passes behind a LOOP row: a body and END, or a body, REPEAT, and Passes again; the row's count has to be their number, and h4 of END
-// `flag`.
+// The Passes behind a LOOP row: a body and END, or a body, REPEAT, and Passes again; the row's count has to be their number (`count` has the
+// pass that is read), and h4 of END `flag`.
 fn passes(profile: Profile, cells: &[u64], row: usize, left: u32, flag: u64) -> Part
-    requires { ⌜ row < length (now cells) / 49 ⌝ }
-    ensures { λ r. ⌜ PassesRead (allRows (now (cells .entry))) (wordIn profile (now (cells .entry))) row left flag r ⌝ }
+    requires { ⌜ row < length (now cells) / rowWidth ⌝ }
+    ensures { λ r. ⌜ PassesRead (allRows (now (cells .entry))) (wordIn profile (now (cells .entry))) row left flag (toldPart r) ⌝ }
 {
     let mut at = row + 1;
-    let mut count: u64 = 0;
+    let mut count: u64 = 1;
     let mut so_far = Wrong::Nowhere;
     loop {
         let body = block(profile, cells, at, left, 1);
@@ -157,15 +165,15 @@ fn passes(profile: Profile, cells: &[u64], row: usize, left: u32, flag: u64) -> 
             return body;
         };
         let kind = row_kind(profile, cells, next);
-        count += 1;
         so_far = first(so_far, wrong);
         match kind {
             RowKind::Repeat => {
                 at = next + 1;
+                count += 1;
             }
             RowKind::End => {
-                let counted = ask(cells, row, 23, count);
-                let own = ask(cells, next, 18, flag);
+                let counted = ask(cells, row, Column::GROUP_COUNT, count);
+                let own = ask(cells, next, Column::H4, flag);
                 return Part::Done(next + 1, first(counted, first(so_far, own)));
             }
             RowKind::Span
@@ -176,7 +184,7 @@ fn passes(profile: Profile, cells: &[u64], row: usize, left: u32, flag: u64) -> 
             | RowKind::Respan
             | RowKind::Halt
             | RowKind::Nothing => {
-                return Part::Refused(12, next);
+                return Part::Refused(Refusal::NO_WORD_OF_GRAMMAR, next);
             }
         }
     }

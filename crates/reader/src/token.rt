@@ -1,15 +1,19 @@
 // What a row is to the grammar.
 use field::cell::cell;
-use rows::passes::multiplicity::opcode_at;
+use groups::constants::Column;
+use groups::constants::Row;
+use rows::passes::multiplicity::decode_opcode;
 use rows::records::profile::Profile;
 ghost use mathlib.Core.Path.{_≡_};
 ghost use mathlib.Core.List.{_∷_};
 ghost use Prim.Native.Nat.{_/_, _<_};
 ghost use lib.ListN.{length, drop};
+ghost use Rattle.groups.specs.Constants.{rowWidth};
 ghost use Rattle.rows.specs.passes.Passes.{opcodeOf};
-ghost use Rattle.readings.specs.Tokens.{nothing, controls, tokenBeside, controlToken, inSpanOf, opBitsOf, allBits};
-ghost use Rattle.readings.specs.Readings.{rowAt, allRows};
-ghost use Rattle.reader.specs.Rows.{kindOf, opKind, tokenAt};
+ghost use Rattle.theory_readings.specs.Tokens.{nothing, controls, tokenBeside, controlToken, inSpanOf, opBitsOf, allBits};
+ghost use Rattle.theory_readings.specs.Readings.{rowAt, allRows};
+ghost use Rattle.reader.specs.Rows.{kindOf, tokenAt};
+ghost use Rattle.reader.specs.ways.FromRow.{opKind};
 
 // The start of a Block (One: of a kind with one child), an op, the other control rows, or a row that fits nothing.
 pub enum RowKind {
@@ -95,11 +99,11 @@ fn op(control: RowKind) -> RowKind
 
 // Whether in_span and the op bits of a row are 0 or 1.
 fn are_bits(cells: &[u64], row: usize) -> bool
-    requires { ⌜ row < length (now cells) / 49 ⌝ }
+    requires { ⌜ row < length (now cells) / rowWidth ⌝ }
     ensures { λ r. ⌜ r ≡ allBits (inSpanOf (rowAt (allRows (now (cells .entry))) row) ∷ opBitsOf (rowAt (allRows (now (cells .entry))) row)) ⌝ }
 {
-    let at = 49 * row;
-    (cell(cells, at + 22) < 2)
+    let at = Row::WIDTH * row;
+    (cell(cells, at + Column::IN_SPAN) < 2)
         & ((cell(cells, at + 7) < 2)
             & ((cell(cells, at + 8) < 2)
                 & ((cell(cells, at + 9) < 2)
@@ -110,22 +114,22 @@ fn are_bits(cells: &[u64], row: usize) -> bool
 
 // The opcode that the op bits of a row spell.
 fn opcode(cells: &[u64], row: usize) -> u8
-    requires { ⌜ row < length (now cells) / 49 ⌝ }
+    requires { ⌜ row < length (now cells) / rowWidth ⌝ }
     ensures { λ r. ⌜ r ≡ opcodeOf (rowAt (allRows (now (cells .entry))) row) ⌝ }
 {
-    opcode_at(cells, row) as u8
+    decode_opcode(cells, row) as u8
 }
 
 // What a row is; past the end, nothing.
 pub fn row_kind(profile: Profile, cells: &[u64], row: usize) -> RowKind
     ensures { λ r. ⌜ r ≡ kindOf (tokenAt profile (now (cells .entry)) row) ⌝ }
 {
-    if cells.len() / 49 <= row {
+    if cells.len() / Row::WIDTH <= row {
         return RowKind::Nothing;
     }
     if are_bits(cells, row) {
         let kind = control(profile, opcode(cells, row));
-        if cell(cells, 49 * row + 22) == 0 {
+        if cell(cells, Row::WIDTH * row + Column::IN_SPAN) == 0 {
             return kind;
         }
         return op(kind);

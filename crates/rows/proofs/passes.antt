@@ -13,3 +13,4 @@ pub mod Sides
 pub mod Tallies
 pub mod Written
 pub mod ReducedRows
+pub mod ManyRows

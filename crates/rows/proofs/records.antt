@@ -3,5 +3,4 @@ pub mod EndQueue
 pub mod LentState
 pub mod Rooms
 pub mod Slots
-pub mod ToldSteps
 pub mod Windows

@@ -1,3 +1,4 @@
 pub mod CallSteps
 pub mod Cuts
 pub mod ReplaySingly
+pub mod ReplayedRows

@@ -1,5 +1,5 @@
 pub mod records
 pub mod cycles
 pub mod replay
-pub mod sorted
 pub mod passes
+pub mod ways

@@ -1,6 +1,7 @@
 pub mod Profiles
 pub mod Forests
 pub mod Addresses
+pub mod Lent
 pub mod Captured
 pub mod DecoderRows
 pub mod Built

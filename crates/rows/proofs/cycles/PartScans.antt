@@ -9,7 +9,7 @@ use lib.Dec.{leb, ltb, eqb}
 use lib.ListN.{length, take, drop, getD, length-drop}
 use lib.Seq.{getD-take, getD-drop}
 use Rattle.field.specs.Bounds.{anyFrom}
-use Rattle.rows.specs.declared.replay.directory.Parts.{Parts}
+use Rattle.rows.specs.declared.replay.directory.DirectoryEntry.{DirectoryEntry}
 use Rattle.rows.specs.records.Forests.{Forest}
 use Rattle.rows.specs.cycles.Scans.{anyBigOpcode, anyLongBlock, anyLargeBatch, forestTooLarge}
 use Rattle.rows.specs.replay.Calls.{window, forestIn}
@@ -51,7 +51,7 @@ any-window : (limit width first count : ℕ) (xs : List ℕ) → anyFrom limit (
 unfolding window
 any-window limit width first count xs e = any-drop limit (width * first) xs (any-take limit (width * count) (drop (width * first) xs) e)
 
-pub part-big : (f : Forest) (w : Parts) → anyBigOpcode (forestIn f w .ops) ≡ true → anyBigOpcode (f .ops) ≡ true
+pub part-big : (f : Forest) (w : DirectoryEntry) → anyBigOpcode (forestIn f w .ops) ≡ true → anyBigOpcode (f .ops) ≡ true
 unfolding anyBigOpcode forestIn
 part-big f w = any-window 128 1 (w .«first_op») (w .ops) (f .ops)
 
@@ -148,7 +148,7 @@ module _ (first count : ℕ) (batches : List ℕ) where
       large-moved
       (rw (any-large records (length records / 12)) at e))
 
-pub part-too-large : (f : Forest) (w : Parts) → forestTooLarge (forestIn f w .nodes) (forestIn f w .batches) ≡ true → forestTooLarge (f .nodes) (f .batches) ≡ true
+pub part-too-large : (f : Forest) (w : DirectoryEntry) → forestTooLarge (forestIn f w .nodes) (forestIn f w .batches) ≡ true → forestTooLarge (f .nodes) (f .batches) ≡ true
 unfolding forestTooLarge forestIn
 part-too-large f w =
     or-both _ _ _ _ (part-long (w .«first_slot») (w .slots) (f .nodes)) (part-large (w .«first_batch») (w .batches) (f .batches))

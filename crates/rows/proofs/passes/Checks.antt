@@ -2,9 +2,9 @@
 use mathlib.Core.Path.{_≡_, refl}
 use mathlib.Core.Bool.{Bool, true, false, _||_}
 use mathlib.Core.List.{List, _∷_}
-use Prim.Native.Nat.{ℕ, zero, suc}
+use Prim.Native.Nat.{ℕ, suc}
 use native.Mathlib.Omega.{arith}
-use Rattle.rows.specs.passes.Passes.{firstOf, unlessRefused}
+use Rattle.rows.specs.passes.Passes.{firstOf}
 
 pub neither : (a b : Bool) → (a || b) ≡ false → (a ≡ false) × (b ≡ false)
 neither true b e = let z : _≡_ {A = ℕ} 0 1 = cc in absurd (omega arith)
@@ -15,8 +15,3 @@ pub none-first : (t : Bool) (number : ℕ) (rest : List (Bool × ℕ)) → first
 unfolding firstOf
 none-first true number rest e = absurd (omega arith)
 none-first false number rest e = (refl, e)
-
--- a refused call leaves the buffer
-pub refused-stays : (number : ℕ) (before after : List ℕ) → (number ≡ 0 → ⊥) → before ≡ unlessRefused number before after
-refused-stays zero before after h = absurd (h refl)
-refused-stays (suc number) before after h = refl

@@ -17,7 +17,7 @@ few-rows : (cells : ℕ) → bufferWrong cells ≡ false → cells / 49 ≤ 1677
 unfolding bufferWrong
 few-rows cells e = ltb-false 16777216 (cells / 49) (neither (ltb 0 (cells % 49)) (ltb 16777216 (cells / 49)) e .1)
 
-enough : (cells n : ℕ) → fewerRows cells n ≡ false → n ≤ cells / 49
+pub enough : (cells n : ℕ) → fewerRows cells n ≡ false → n ≤ cells / 49
 unfolding fewerRows
 enough cells n e = ltb-false (cells / 49) n e
 
@@ -47,7 +47,7 @@ pub record Ready (cells rows height : ℕ) (counts built : List ℕ) : Type 0 wh
   pub tall : 49 * height ≤ cells
   pub in-built : 25 * length counts ≤ length built
 
-fragments-sum : (cells size : ℕ) (counts built : List ℕ) → fragmentsWrong cells size counts built ≡ false → (sumOf counts ≤ cells / 49) × (cells / 49 ≤ 16777216)
+pub fragments-sum : (cells size : ℕ) (counts built : List ℕ) → fragmentsWrong cells size counts built ≡ false → (sumOf counts ≤ cells / 49) × (cells / 49 ≤ 16777216)
 unfolding fragmentsWrong
 fragments-sum cells size counts built e =
     let a = neither (bufferWrong cells) _ e in

@@ -7,10 +7,11 @@ use native.Mathlib.Omega.{arith}
 use native.Mathlib.Decide.{ℕ-discrete}
 use lib.ListN.{length, take, set}
 use borrow.Author.Tests.{le-leb}
-use Rattle.rows.specs.sorted.Order.{occurrences, Ordered, Sorts, SortsFirst}
+use Rattle.rows.specs.ways.Order.{occurrences, Ordered, Sorts, SortsFirst}
 use Rattle.rows.proofs.sorted.Counts.{hit-same, count-more}
 use Rattle.rows.specs.declared.records.profile.Profile.{Profile}
-use Rattle.rows.specs.passes.LoopCounts.{rowAt, isLoop, nextAddr, endsIn, Tallied, Held, Took, Table}
+use Rattle.rows.specs.passes.Buffers.{rowAt}
+use Rattle.rows.specs.ways.LoopCounts.{isLoop, nextAddr, endsIn, Tallied, Held, Took, Table}
 
 module _ (p : Profile) (c : List ℕ) (from next : ℕ) where
   skip-at : (keys : List ℕ) → isLoop p (rowAt next c) ≡ false → Held p c from next keys → (j : ℕ) → from ≤ j → j < next + 1 → isLoop p (rowAt j c) ≡ true → Dec (j ≡ next) → 0 < occurrences (nextAddr j c) keys

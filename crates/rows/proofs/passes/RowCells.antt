@@ -12,9 +12,9 @@ use Rattle.field.specs.Modulus.{P}
 use Rattle.field.specs.Cells.{cellAt, reduced}
 use Rattle.field.proofs.CellLaws.{getD-reduced, reduced-take}
 use Rattle.rows.specs.declared.records.profile.Profile.{Profile}
-use Rattle.rows.specs.passes.Buffers.{h4Of}
+use Rattle.rows.specs.passes.Buffers.{h4Of, rowAt}
 use Rattle.rows.specs.passes.Passes.{lowBits, opcodeOf, flaggedEnd}
-use Rattle.rows.specs.passes.LoopCounts.{rowAt, Alike}
+use Rattle.rows.specs.ways.LoopCounts.{Alike}
 
 pub row-cell : (c : List ℕ) (i k : ℕ) → k < 49 → getD (rowAt i c) k 0 ≡ getD c (49 * i + k) 0
 unfolding rowAt

@@ -7,12 +7,13 @@ use native.Mathlib.Omega.{arith}
 use native.Mathlib.Decide.{ℕ-discrete}
 use lib.ListN.{length, getD, set, replicate}
 use lib.Seq.{getD-set-same, getD-set-other}
-use Rattle.rows.specs.sorted.Order.{hit, occurrences, Ordered, Lower}
+use Rattle.rows.specs.ways.Order.{hit, occurrences, Ordered, Lower}
 use Rattle.rows.proofs.sorted.Counts.{hit-same, hit-other}
 use Rattle.rows.proofs.sorted.Search.{lower-unique, found-inside, found-is}
 use Rattle.rows.specs.declared.records.profile.Profile.{Profile}
 use Rattle.rows.specs.passes.Passes.{flaggedEnd}
-use Rattle.rows.specs.passes.LoopCounts.{rowAt, nextAddr, endsIn, Tallied, Bumped}
+use Rattle.rows.specs.passes.Buffers.{rowAt}
+use Rattle.rows.specs.ways.LoopCounts.{nextAddr, endsIn, Tallied, Bumped}
 use Rattle.rows.proofs.passes.RowsFrom.{ends-more, ends-one}
 
 module _ (keys counts : List ℕ) (x at : ℕ) (place : Lower keys x at) where

@@ -6,7 +6,7 @@ use Prim.Native.Nat.{ℕ, _<_, _/_}
 use borrow.Author.Tests.{ltb-true}
 use lib.ListN.{length}
 use Rattle.groups.specs.Answer.{accepted, refused, pick}
-use Rattle.rows.specs.declared.records.replay.NodeEndData.{NodeEndData}
+use Rattle.rows.specs.declared.records.address_state.NodeEndData.{NodeEndData}
 use Rattle.rows.specs.records.Addresses.{entryAt, endAt}
 
 -- what is accepted under a test passed it

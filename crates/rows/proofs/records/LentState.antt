@@ -14,9 +14,9 @@ use denote.Memory.{cellAt, partAt, partOf}
 use denote.Steps.{owned}
 use denote.Struct.Steps.{spelt}
 use denote.Struct.Laws as LL
-use Rattle.rows.specs.declared.records.replay.DecoderState.{DecoderState}
-use Rattle.rows.proofs.records.replay.DecoderState as T
-use Rattle.rows.proofs.records.replay.DecoderState.Laws as T′
+use Rattle.rows.specs.declared.records.address_state.DecoderState.{DecoderState}
+use Rattle.rows.proofs.records.address_state.DecoderState as T
+use Rattle.rows.proofs.records.address_state.DecoderState.Laws as T′
 
 module _ {M : Type 1} (𝓤 : URA M) (H : Heap 𝓤) (A : Atoms 𝓤) (W : Given 𝓤 H A) (l : ℕ) (d : DecoderState) where
   pub in-mem : Is T.the-row d (T′.lowered d ∷ []) → ent 𝓤 (sem 𝓤 H A (fat fullShare T′.mir l 0 (T′.lowered d))) (sem 𝓤 H A (partAt T.the-row fullShare d l 0))

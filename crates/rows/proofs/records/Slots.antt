@@ -10,7 +10,7 @@ use lib.Dec.{leb, ltb}
 use lib.ListN.{getD}
 use Rattle.groups.specs.Answer.{Answer, accepted, refused, pick}
 use Rattle.groups.specs.Words.{wordAt}
-use Rattle.groups.specs.declared.batch.Block.{Block}
+use Rattle.groups.specs.declared.batch.BasicBlockNode.{BasicBlockNode}
 use Rattle.groups.specs.declared.word.Word.{Word}
 use Rattle.rows.specs.records.Forests.{isSlot, kindAt, nodeOf, nodeAt, digestAt}
 
@@ -18,7 +18,7 @@ use Rattle.rows.specs.records.Forests.{isSlot, kindAt, nodeOf, nodeAt, d
 abbrev NoKind : ℕ → Type 0
 NoKind kind = (k : ℕ) → 2 ≤ k → k ≤ 10 → kind ≡ k → ⊥
 
-no-kind : (kind first second : ℕ) (block : Block) (digest : Word) → NoKind kind → nodeOf kind first second block digest ≡ refused 3
+no-kind : (kind first second : ℕ) (block : BasicBlockNode) (digest : Word) → NoKind kind → nodeOf kind first second block digest ≡ refused 3
 unfolding nodeOf
 no-kind kind first second block digest h =
     simp (
@@ -43,7 +43,7 @@ from-10 k h a b c d = omega arith
 pub last-kind : (k : ℕ) → 2 ≤ k → k ≤ 10 → (k ≡ 2 → ⊥) → (k ≡ 3 → ⊥) → (k ≡ 4 → ⊥) → (k ≡ 5 → ⊥) → (k ≡ 6 → ⊥) → (k ≡ 7 → ⊥) → (k ≡ 8 → ⊥) → (k ≡ 9 → ⊥) → k ≡ 10
 last-kind k low high a b c d e f g h = le-antisymm high (from-10 k (from-6 k low a b c d) e f g h)
 
-no-node-under : (slot : Bool) (k kind first second : ℕ) (block : Block) (digest : Word) → kind ≡ pick slot k 0 → NoKind kind → pick slot (nodeOf k first second block digest) (refused 3) ≡ refused 3
+no-node-under : (slot : Bool) (k kind first second : ℕ) (block : BasicBlockNode) (digest : Word) → kind ≡ pick slot k 0 → NoKind kind → pick slot (nodeOf k first second block digest) (refused 3) ≡ refused 3
 no-node-under true k kind first second block digest e h = no-kind k first second block digest (λ j low high q. h j low high (e ∙ q))
 no-node-under false k kind first second block digest e h = refl
 

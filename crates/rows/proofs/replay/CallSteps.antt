@@ -53,12 +53,12 @@ module _ (write : Bool) (s : Setting) (records : List ℕ) (t₀ t t′ : CoreTr
   )
 
 final-number : (t : CoreTraceGenerationTracer) (same : Bool) → eqb (t .refusal) 0 ≡ same → pick {A = TracerFinalState} same
-    (record { refusal = 0; «last_system_cols» = readSystem (lastSystem t); «last_stack_cols» = readStack (lastStack t); «num_rows_written» = t .rows })
+    (record { refusal = 0; «last_system_cols» = readSystem (lastSystem t); «last_stack_cols» = readStack (lastStack t); «num_rows_written» = t .«row_write_index» })
     (record { refusal = t .refusal; «last_system_cols» = noSystem; «last_stack_cols» = noStack; «num_rows_written» = 0 }) .refusal ≡ t .refusal
 final-number t true e = rw (eqb-true (t .refusal) 0 e)
 final-number t false e = refl
 
 -- the number that is answered is the kept one
-pub told-number : (t : CoreTraceGenerationTracer) → told t .number ≡ t .refusal
+pub told-number : (t : CoreTraceGenerationTracer) → told t .refusal ≡ t .refusal
 unfolding told finalState
 told-number t = final-number t (eqb (t .refusal) 0) refl

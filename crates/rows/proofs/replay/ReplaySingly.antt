@@ -7,11 +7,11 @@ use native.Mathlib.Omega.{arith}
 use borrow.Author.Tests.{eqb-true, eq-eqb, ne-eqb}
 use lib.Dec.{leb, ltb, eqb}
 use lib.ListN.{length}
-use Rattle.groups.specs.Answer.{Answer, accepted, refused, andThen, pick, number}
+use Rattle.groups.specs.Answer.{Answer, accepted, refused, andThen, pick, refusal}
 use Rattle.groups.specs.declared.helpers.OperationHelperRegisters.{OperationHelperRegisters}
 use Rattle.rows.specs.declared.records.profile.Profile.{Profile}
-use Rattle.rows.specs.declared.records.replay.DecoderState.{DecoderState}
-use Rattle.rows.specs.declared.records.replay.Positions.{Positions}
+use Rattle.rows.specs.declared.records.address_state.DecoderState.{DecoderState}
+use Rattle.rows.specs.declared.records.address_state.Positions.{Positions}
 use Rattle.rows.specs.declared.records.state.SystemState.{SystemState}
 use Rattle.rows.specs.declared.records.state.StackState.{StackState}
 use Rattle.rows.specs.declared.records.continuation.Continuation.{Continuation}
@@ -20,12 +20,12 @@ use Rattle.rows.specs.declared.cycles.tracer.CoreTraceGenerationTracer.{
 use Rattle.rows.specs.records.Forests.{Forest}
 use Rattle.rows.specs.records.Addresses.{Queues}
 use Rattle.rows.specs.records.Profiles.{profileWrong}
-use Rattle.rows.specs.cycles.Made.{place, made}
+use Rattle.rows.specs.cycles.Made.{cursor, made}
 use Rattle.rows.specs.cycles.Scans.{anyBigOpcode, forestTooLarge, scanOf}
 use Rattle.rows.specs.records.Cells.{fragmentWrong}
 use Rattle.rows.specs.cycles.Cycles.{fresh, storing, storedIn, continuationOf, refuseIf, cycleWith, cycle, keeping, tracerAfter, fragmentAfter}
-use Rattle.rows.specs.replay.Calls.{Setting, partsAt, forestIn, forestOf, refusing, callDone, callWritten, through, written, ending, told, scanned, replayed, replayedFragment}
-use Rattle.rows.specs.records.CallRecords.{Call, stores, finishes, callIn, recordAt}
+use Rattle.rows.specs.replay.Calls.{Setting, directoryEntry, forestIn, forestOf, refusing, callDone, callWritten, through, written, ending, told, scanned, replayed, replayedFragment}
+use Rattle.rows.specs.records.CallRecords.{RecordedCall, stores, finishes, callIn, recordAt}
 use Rattle.rows.specs.replay.SingleCalls.{singleDone, singleWritten, singlyThrough, singlyWritten}
 use Rattle.rows.proofs.replay.CallSteps.{told-number}
 use Rattle.rows.proofs.cycles.PartScans.{never, part-big, part-too-large}
@@ -39,7 +39,7 @@ checks kept n found big wrong large length rest =
     refuseIf big 1 (refuseIf wrong 2 (refuseIf (large || length) 11 (rest continuation)))))
 
 -- where nothing is refused, a scan that finds less answers the same
-same-checks : (kept : Bool) (n : ℕ) (found : Answer Continuation) (big big′ wrong large large′ length : Bool) (rest : Continuation → Answer MadeRow) → (big′ ≡ true → big ≡ true) → (large′ ≡ true → large ≡ true) → number (checks kept n found big wrong large length rest) ≡ 0 → checks kept n found big wrong large length rest ≡ checks kept n found big′ wrong large′ length rest
+same-checks : (kept : Bool) (n : ℕ) (found : Answer Continuation) (big big′ wrong large large′ length : Bool) (rest : Continuation → Answer MadeRow) → (big′ ≡ true → big ≡ true) → (large′ ≡ true → large ≡ true) → refusal (checks kept n found big wrong large length rest) ≡ 0 → checks kept n found big wrong large length rest ≡ checks kept n found big′ wrong large′ length rest
 same-checks true n found big big′ wrong large large′ length rest f g e = refl
 same-checks false n (refused m) big big′ wrong large large′ length rest f g e = refl
 same-checks false n (accepted x) true big′ wrong large large′ length rest f g e = absurd (omega arith)
@@ -50,7 +50,7 @@ same-checks false n (accepted x) false false false false true length rest f g e 
 same-checks false n (accepted x) false false false false false length rest f g e = refl
 
 -- the number that a finish keeps
-kept-number : (system : SystemState) (stack : StackState) (t : CoreTraceGenerationTracer) (a : Answer MadeRow) → tracerAfter system stack t a .refusal ≡ number a
+kept-number : (system : SystemState) (stack : StackState) (t : CoreTraceGenerationTracer) (a : Answer MadeRow) → tracerAfter system stack t a .refusal ≡ refusal a
 unfolding tracerAfter
 kept-number system stack t (accepted m) = refl
 kept-number system stack t (refused n) = refl
@@ -72,32 +72,32 @@ module _ (p : Profile) (f : Forest) (directory : List ℕ) (q : Queues) (cells :
     abbrev rest : Continuation → Answer MadeRow
     rest continuation =
         refuseIf (ltb (stack .«stack_depth») 16) 10
-        (andThen (made (forestOf s k) q p registers continuation (t .«is_loop_body») (t .captured) (place (t .state) (t .at))) (λ row.
-        refuseIf (leb (cells / 49) (t .rows)) 24
+        (andThen (made (forestOf s k) q p registers continuation (t .«is_loop_body») (t .captured) (cursor (t .«decoder_state») (t .at))) (λ row.
+        refuseIf (leb (cells / 49) (t .«row_write_index»)) 24
         (accepted row)))
 
-    same-cycle : number finish ≡ 0 → finish ≡ cycle p (forestOf s k) q stack registers cells t
+    same-cycle : refusal finish ≡ 0 → finish ≡ cycle p (forestOf s k) q stack registers cells t
     unfolding scanned cycleWith cycle scanOf forestOf
     same-cycle =
-        let w = partsAt directory k in
-        same-checks (not (eqb (t .refusal) 0)) (t .refusal) (continuationOf (t .stored))
+        let w = directoryEntry directory k in
+        same-checks (not (eqb (t .refusal) 0)) (t .refusal) (continuationOf (t .continuation))
         (anyBigOpcode (f .ops)) (anyBigOpcode (forestIn f w .ops)) (profileWrong p)
-        (forestTooLarge (f .nodes) (f .batches)) (forestTooLarge (forestIn f w .nodes) (forestIn f w .batches)) (fragmentWrong cells (t .rows)) rest
+        (forestTooLarge (f .nodes) (f .batches)) (forestTooLarge (forestIn f w .nodes) (forestIn f w .batches)) (fragmentWrong cells (t .«row_write_index»)) rest
         (part-big f w) (part-too-large f w)
 
-    kept-first : (same : Bool) → eqb (t .refusal) 0 ≡ same → number finish ≡ 0 → t .refusal ≡ 0
+    kept-first : (same : Bool) → eqb (t .refusal) 0 ≡ same → refusal finish ≡ 0 → t .refusal ≡ 0
     unfolding cycleWith
     kept-first true h e = eqb-true (t .refusal) 0 h
     kept-first false h e = rw h at e
 
-  before : (t : CoreTraceGenerationTracer) (a : Answer Call) → callDone s t a .refusal ≡ 0 → t .refusal ≡ 0
+  before : (t : CoreTraceGenerationTracer) (a : Answer RecordedCall) → callDone s t a .refusal ≡ 0 → t .refusal ≡ 0
   unfolding scanned callDone refusing storedIn
   before t (refused n) e = number-stays (eqb (t .refusal) 0) t (keeping n t) refl e
   before t (accepted (stores values)) e = number-stays (eqb (t .refusal) 0) t (storing t values) refl e
   before t (accepted (finishes k system stack registers)) e =
       kept-first k system stack registers t (eqb (t .refusal) 0) refl (sym (kept-number system stack t (finish k system stack registers t)) ∙ e)
 
-  call-singly : (t : CoreTraceGenerationTracer) (a : Answer Call) → callDone s t a .refusal ≡ 0 → (callDone s t a ≡ singleDone s t a) × ((fragment : List ℕ) → callWritten s t a fragment ≡ singleWritten s t a fragment)
+  call-singly : (t : CoreTraceGenerationTracer) (a : Answer RecordedCall) → callDone s t a .refusal ≡ 0 → (callDone s t a ≡ singleDone s t a) × ((fragment : List ℕ) → callWritten s t a fragment ≡ singleWritten s t a fragment)
   unfolding scanned callDone callWritten singleDone singleWritten
   call-singly t (refused n) e = (refl, λ fragment. refl)
   call-singly t (accepted (stores values)) e = (refl, λ fragment. refl)
@@ -107,10 +107,10 @@ module _ (p : Profile) (f : Forest) (directory : List ℕ) (q : Queues) (cells :
 
   -- ALL CALLS
 
-  step-through : (t u : CoreTraceGenerationTracer) (a : Answer Call) → t ≡ u → callDone s t a .refusal ≡ 0 → callDone s t a ≡ singleDone s u a
+  step-through : (t u : CoreTraceGenerationTracer) (a : Answer RecordedCall) → t ≡ u → callDone s t a .refusal ≡ 0 → callDone s t a ≡ singleDone s u a
   step-through t u a same e = call-singly t a e .0 ∙ ap (λ (x : CoreTraceGenerationTracer). singleDone s x a) same
 
-  step-written : (t u : CoreTraceGenerationTracer) (a : Answer Call) (fragment fragment′ : List ℕ) → t ≡ u → fragment ≡ fragment′ → callDone s t a .refusal ≡ 0 → callWritten s t a fragment ≡ singleWritten s u a fragment′
+  step-written : (t u : CoreTraceGenerationTracer) (a : Answer RecordedCall) (fragment fragment′ : List ℕ) → t ≡ u → fragment ≡ fragment′ → callDone s t a .refusal ≡ 0 → callWritten s t a fragment ≡ singleWritten s u a fragment′
   step-written t u a fragment fragment′ same same′ e =
       call-singly t a e .1 fragment ∙ ap (λ (x : CoreTraceGenerationTracer). singleWritten s x a fragment) same ∙ ap (singleWritten s u a) same′
 
@@ -141,7 +141,7 @@ ending-zero numbers t = ended-zero (eqb (numbers % 32) 0) (eqb (t .refusal) 0) t
 -- THE REPLAY
 
 -- where a replay accepts, its answer and the fragment are those of the calls made one by one
-pub replay-singly : (p : Profile) (f : Forest) (directory : List ℕ) (q : Queues) (cells : ℕ) (state : DecoderState) (at : Positions) (records : List ℕ) → replayed (scanned p f directory q cells) state at records .number ≡ 0 → (replayed (scanned p f directory q cells) state at records ≡ told (singlyThrough (scanned p f directory q cells) records (fresh state at) (length records / 32))) × ((fragment : List ℕ) → replayedFragment (scanned p f directory q cells) state at records fragment ≡ singlyWritten (scanned p f directory q cells) records (fresh state at) fragment (length records / 32))
+pub replay-singly : (p : Profile) (f : Forest) (directory : List ℕ) (q : Queues) (cells : ℕ) (state : DecoderState) (at : Positions) (records : List ℕ) → replayed (scanned p f directory q cells) state at records .refusal ≡ 0 → (replayed (scanned p f directory q cells) state at records ≡ told (singlyThrough (scanned p f directory q cells) records (fresh state at) (length records / 32))) × ((fragment : List ℕ) → replayedFragment (scanned p f directory q cells) state at records fragment ≡ singlyWritten (scanned p f directory q cells) records (fresh state at) fragment (length records / 32))
 unfolding replayed replayedFragment
 replay-singly p f directory q cells state at records e =
     let t = through (scanned p f directory q cells) records (fresh state at) (length records / 32) in
@@ -153,6 +153,6 @@ replay-singly p f directory q cells state at records e =
     )
 
 -- where it refuses, the fragment is as it was
-pub refused-whole : (s : Setting) (state : DecoderState) (at : Positions) (records fragment : List ℕ) → (replayed s state at records .number ≡ 0 → ⊥) → replayedFragment s state at records fragment ≡ fragment
+pub refused-whole : (s : Setting) (state : DecoderState) (at : Positions) (records fragment : List ℕ) → (replayed s state at records .refusal ≡ 0 → ⊥) → replayedFragment s state at records fragment ≡ fragment
 unfolding replayedFragment
 refused-whole s state at records fragment h = rw (ne-eqb _ _ h)

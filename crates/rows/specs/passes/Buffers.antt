@@ -3,11 +3,16 @@ use mathlib.Core.List.{List, [], _∷_, _++_}
 use Prim.Native.Nat.{ℕ, zero, suc, _*_}
 use lib.ListN.{length, take, drop}
 use Rattle.field.specs.Cells.{cellAt}
+use Rattle.groups.specs.Constants.{rowWidth, addrColumn, h4Column}
 
 -- the first n rows of a buffer
 unfoldable pub rowsOf : (n : ℕ) → List ℕ → List (List ℕ)
 rowsOf zero buffer = []
-rowsOf (suc n) buffer = take 49 buffer ∷ rowsOf n (drop 49 buffer)
+rowsOf (suc n) buffer = take rowWidth buffer ∷ rowsOf n (drop rowWidth buffer)
+
+-- row i of a buffer
+unfoldable pub rowAt : (i : ℕ) → (buffer : List ℕ) → List ℕ
+rowAt i buffer = take rowWidth (drop (rowWidth * i) buffer)
 
 -- the cells of rows one after another
 unfoldable pub flat : List (List ℕ) → List ℕ
@@ -16,7 +21,7 @@ flat (row ∷ rows) = row ++ flat rows
 
 -- what f makes of the first n rows, and behind it the cells as they are
 unfoldable pub onRows : (n : ℕ) → (List (List ℕ) → List (List ℕ)) → List ℕ → List ℕ
-onRows n f buffer = flat (f (rowsOf n buffer)) ++ drop (49 * length (f (rowsOf n buffer))) buffer
+onRows n f buffer = flat (f (rowsOf n buffer)) ++ drop (rowWidth * length (f (rowsOf n buffer))) buffer
 
 -- the last of some rows, no cells where there is none
 unfoldable pub lastRow : List (List ℕ) → List ℕ
@@ -27,7 +32,7 @@ lastRow (row ∷ next ∷ rows) = lastRow (next ∷ rows)
 -- cells of a row by their places: "clk, ctx, fn_hash (4); addr, op bits (7, lowest first), h0 to h7, in_span, group_count, ..; stack top
 -- (16), b0, b1, helper". Each is read as a cell
 abbrev pub addrOf : List ℕ → ℕ
-addrOf row = cellAt row 6
+addrOf row = cellAt row addrColumn
 
 abbrev pub h4Of : List ℕ → ℕ
-h4Of row = cellAt row 18
+h4Of row = cellAt row h4Column

@@ -7,6 +7,7 @@ use lib.ListN.{length, take, drop, getD, set}
 use Rattle.field.specs.Cells.{reduced}
 use Rattle.field.specs.Inverse.{inverseOf}
 use Rattle.groups.specs.Answer.{pick}
+use Rattle.groups.specs.Constants.{rowWidth, mostRows, addrColumn, opBitsColumn, hasherColumn, countColumn, helperColumn, badProfile, badLength, noBodyEnd, fragmentNotFull, noFragments, stackColumn}
 use Rattle.groups.specs.declared.word.Word.{Word}
 use Rattle.rows.specs.declared.records.profile.Profile.{Profile}
 use Rattle.rows.specs.records.Profiles.{profileWrong}
@@ -18,7 +19,7 @@ use Rattle.rows.specs.passes.Buffers.{rowsOf, onRows, lastRow, addrOf, h
 
 -- a row with other system cells (6) and stack cells (19), its decoder cells as they are
 unfoldable pub withSides : (system stack row : List ℕ) → List ℕ
-withSides system stack row = system ++ take 24 (drop 6 row) ++ stack
+withSides system stack row = system ++ take 24 (drop addrColumn row) ++ stack
 
 -- "row 0 gets the reversed first stack top, depth 16, 0, 0"
 unfoldable pub firstRow : (top row : List ℕ) → List ℕ
@@ -50,7 +51,7 @@ lowBits (bit ∷ bits) = bit % 2 + 2 * lowBits bits
 
 -- "Opcodes are read from each bit cell's lowest bit", that of the reduced cell
 unfoldable pub opcodeOf : List ℕ → ℕ
-opcodeOf row = lowBits (reduced (take 7 (drop 7 row)))
+opcodeOf row = lowBits (reduced (take 7 (drop opBitsColumn row)))
 
 -- an END row whose h4 is exactly 1
 unfoldable pub flaggedEnd : Profile → List ℕ → Bool
@@ -67,7 +68,7 @@ unfoldable pub withCounts : Profile → (count : ℕ → ℕ) → List (List ℕ
 withCounts p count [] = []
 withCounts p count (row ∷ []) = row ∷ []
 withCounts p count (row ∷ next ∷ rows) =
-    pick (eqb (opcodeOf row) (p .«loop_op»)) (set row 23 (count (addrOf next))) row ∷ withCounts p count (next ∷ rows)
+    pick (eqb (opcodeOf row) (p .«loop_op»)) (set row countColumn (count (addrOf next))) row ∷ withCounts p count (next ∷ rows)
 
 -- Refusal 14: "LOOP without body END": the count of a LOOP row but the last comes to 0
 unfoldable pub anyWithoutBody : Profile → (count : ℕ → ℕ) → List (List ℕ) → Bool
@@ -87,7 +88,7 @@ loopWithoutBody p rows = anyWithoutBody p (λ addr. bodyEnds p addr rows) rows
 -- "Each helper cell becomes its inverse, 0 staying 0."
 unfoldable pub inverted : List (List ℕ) → List (List ℕ)
 inverted [] = []
-inverted (row ∷ rows) = set row 48 (inverseOf (getD row 48 0)) ∷ inverted rows
+inverted (row ∷ rows) = set row helperColumn (inverseOf (getD row helperColumn 0)) ∷ inverted rows
 
 -- PASS 4
 
@@ -97,7 +98,7 @@ wordIn cells i = (getD cells i 0, getD cells (i + 1) 0, getD cells (i + 2) 0, ge
 
 -- h0 to h3 of a row
 abbrev pub firstHalf : List ℕ → Word
-firstHalf row = wordIn row 14
+firstHalf row = wordIn row hasherColumn
 
 -- the decoder cells of a HALT row: "h0 to h3 of the row before (0 if there is none); the rest 0 but opcode and extra"
 unfoldable pub haltDecoder : Profile → (before : List ℕ) → List ℕ
@@ -118,7 +119,7 @@ halted p built rows = rows ++ (haltRow p built (lastRow rows) ∷ [])
 
 -- "HALT rows with h0 to h3 and stack of the last, clk the row's number, ctx and fn_hash 0"
 unfoldable pub paddingRow : Profile → (number : ℕ) → (before : List ℕ) → List ℕ
-paddingRow p number before = reduced ((number ∷ 0 ∷ 0 ∷ 0 ∷ 0 ∷ 0 ∷ []) ++ haltDecoder p before ++ take 19 (drop 30 before))
+paddingRow p number before = reduced ((number ∷ 0 ∷ 0 ∷ 0 ∷ 0 ∷ 0 ∷ []) ++ haltDecoder p before ++ take 19 (drop stackColumn before))
 
 -- n padding rows, the first of them having the given number
 unfoldable pub paddingRows : Profile → (n number : ℕ) → (before : List ℕ) → List (List ℕ)
@@ -132,11 +133,11 @@ padded p height rows = rows ++ paddingRows p (height - length rows) (length rows
 
 -- Refusal 11: "buffer no multiple of 49, over 2^24 rows"
 unfoldable pub bufferWrong : (cells : ℕ) → Bool
-bufferWrong cells = ltb 0 (cells % 49) || ltb 16777216 (cells / 49)
+bufferWrong cells = ltb 0 (cells % rowWidth) || ltb mostRows (cells / rowWidth)
 
 -- "fewer rows than said"
 unfoldable pub fewerRows : (cells rows : ℕ) → Bool
-fewerRows cells rows = ltb (cells / 49) rows
+fewerRows cells rows = ltb (cells / rowWidth) rows
 
 -- the sum of the fragments' row counts
 unfoldable pub sumOf : List ℕ → ℕ
@@ -173,35 +174,35 @@ fragmentsWrong cells size counts built =
 unfoldable pub refusal1 : (buffer : List ℕ) → (size : ℕ) → (counts built : List ℕ) → ℕ
 refusal1 buffer size counts built =
     firstOf
-    ((fragmentsWrong (length buffer) size counts built, 11)
-    ∷ (noFragment counts, 26)
-    ∷ (notFull size counts, 25)
+    ((fragmentsWrong (length buffer) size counts built, badLength)
+    ∷ (noFragment counts, noFragments)
+    ∷ (notFull size counts, fragmentNotFull)
     ∷ [])
 
 unfoldable pub refusal2 : Profile → (buffer : List ℕ) → (rows : ℕ) → ℕ
 refusal2 p buffer rows =
     firstOf
-    ((profileWrong p, 2)
-    ∷ (bufferWrong (length buffer) || fewerRows (length buffer) rows, 11)
-    ∷ (loopWithoutBody p (rowsOf rows buffer), 14)
+    ((profileWrong p, badProfile)
+    ∷ (bufferWrong (length buffer) || fewerRows (length buffer) rows, badLength)
+    ∷ (loopWithoutBody p (rowsOf rows buffer), noBodyEnd)
     ∷ [])
 
 unfoldable pub refusal3 : (buffer : List ℕ) → (rows : ℕ) → ℕ
 refusal3 buffer rows =
-    firstOf ((bufferWrong (length buffer) || fewerRows (length buffer) rows, 11) ∷ [])
+    firstOf ((bufferWrong (length buffer) || fewerRows (length buffer) rows, badLength) ∷ [])
 
 unfoldable pub refusal4 : Profile → (buffer : List ℕ) → (rows : ℕ) → ℕ
 refusal4 p buffer rows =
     firstOf
-    ((profileWrong p, 2)
-    ∷ (bufferWrong (length buffer) || fewerRows (length buffer) (rows + 1), 11)
+    ((profileWrong p, badProfile)
+    ∷ (bufferWrong (length buffer) || fewerRows (length buffer) (rows + 1), badLength)
     ∷ [])
 
 unfoldable pub refusal5 : Profile → (buffer : List ℕ) → (rows height : ℕ) → ℕ
 refusal5 p buffer rows height =
     firstOf
-    ((profileWrong p, 2)
-    ∷ (bufferWrong (length buffer) || (eqb rows 0 || (ltb height rows || fewerRows (length buffer) height)), 11)
+    ((profileWrong p, badProfile)
+    ∷ (bufferWrong (length buffer) || (eqb rows 0 || (ltb height rows || fewerRows (length buffer) height)), badLength)
     ∷ [])
 
 -- a buffer that a refused call leaves as it was
@@ -218,11 +219,11 @@ heightWrong cells rows height = leb height rows || fewerRows cells height
 unfoldable pub refusalAll : Profile → (buffer : List ℕ) → (size : ℕ) → (counts built : List ℕ) → (height : ℕ) → ℕ
 refusalAll p buffer size counts built height =
     firstOf
-    ((profileWrong p, 2)
-    ∷ (fragmentsWrong (length buffer) size counts built || heightWrong (length buffer) (sumOf counts) height, 11)
-    ∷ (noFragment counts, 26)
-    ∷ (notFull size counts, 25)
-    ∷ (loopWithoutBody p (rowsOf (sumOf counts) buffer), 14)
+    ((profileWrong p, badProfile)
+    ∷ (fragmentsWrong (length buffer) size counts built || heightWrong (length buffer) (sumOf counts) height, badLength)
+    ∷ (noFragment counts, noFragments)
+    ∷ (notFull size counts, fragmentNotFull)
+    ∷ (loopWithoutBody p (rowsOf (sumOf counts) buffer), noBodyEnd)
     ∷ [])
 
 -- the built cells of the last fragment

@@ -8,15 +8,14 @@ use lib.ListN.{length}
 use Rattle.field.specs.Modulus.{P}
 use Rattle.field.specs.Cells.{read, cellAt}
 use Rattle.groups.specs.Answer.{Answer, accepted, refused, andThen, pick}
-use Rattle.rows.specs.declared.records.replay.DecoderState.{DecoderState}
-use Rattle.rows.specs.declared.records.replay.Positions.{Positions}
-use Rattle.rows.specs.declared.records.replay.NodeEndData.{NodeEndData}
-use Rattle.rows.specs.declared.records.replay.EndFound.{EndFound}
-use Rattle.rows.specs.declared.records.replay.AddressFound.{AddressFound}
-use Rattle.rows.specs.declared.records.replay.Started.{Started}
-use Rattle.rows.specs.declared.records.replay.StartStep.{StartStep}
-use Rattle.rows.specs.declared.records.replay.Ended.{Ended}
-use Rattle.rows.specs.declared.records.replay.EndStep.{EndStep}
+use Rattle.groups.specs.Constants.{addressQueueEmpty, parentQueueEmpty, endQueueEmpty}
+use Rattle.rows.specs.declared.records.address_state.DecoderState.{DecoderState}
+use Rattle.rows.specs.declared.records.address_state.Positions.{Positions}
+use Rattle.rows.specs.declared.records.address_state.NodeEndData.{NodeEndData}
+use Rattle.rows.specs.declared.records.address_state.EndFound.{EndFound}
+use Rattle.rows.specs.declared.records.address_state.AddressFound.{AddressFound}
+use Rattle.rows.specs.declared.records.address_state.Started.{Started}
+use Rattle.rows.specs.declared.records.address_state.Ended.{Ended}
 
 -- an address state as it comes in (N2)
 unfoldable pub readState : DecoderState → DecoderState
@@ -38,8 +37,8 @@ entryAt refusal queue at = pick (ltb at (length queue)) (accepted (cellAt queue 
 -- "20, 21 (current and parent address from their queues)"
 unfoldable pub startedAt : (addresses parents : List ℕ) → Positions → Answer DecoderState
 startedAt addresses parents at =
-    andThen (entryAt 20 addresses (at .addresses)) (λ current.
-    andThen (entryAt 21 parents (at .parents)) (λ parent.
+    andThen (entryAt addressQueueEmpty addresses (at .addresses)) (λ current.
+    andThen (entryAt parentQueueEmpty parents (at .parents)) (λ parent.
     accepted (record { «current_addr» = current; «parent_addr» = parent })))
 
 -- the positions after a start
@@ -55,7 +54,7 @@ endAt ends at =
       «prev_addr» = cellAt ends (3 * at + 1);
       «prev_parent_addr» = cellAt ends (3 * at + 2);
     }))
-    (refused 22)
+    (refused endQueueEmpty)
 
 -- "The queue's entry then sets current and parent address."
 abbrev pub stateAfterEnd : NodeEndData → DecoderState
@@ -77,7 +76,7 @@ toldAddress refusal AddressFound.Missing = refused refusal
 
 abbrev pub toldEnd : EndFound → Answer NodeEndData
 toldEnd (EndFound.At entry) = accepted entry
-toldEnd EndFound.Missing = refused 22
+toldEnd EndFound.Missing = refused endQueueEmpty
 
 -- of a start: the positions after it
 abbrev pub toldStarted : Started → Answer Positions
@@ -89,19 +88,25 @@ abbrev pub toldEnded : Ended → Answer (ℕ × Positions)
 toldEnded (Ended.Moved addr next) = accepted (addr, next)
 toldEnded (Ended.Refused n) = refused n
 
--- what a start answers, and the state after it: as it was on a refusal
-abbrev pub startTold : Answer DecoderState → Positions → DecoderState → StartStep
-startTold (accepted moved) at state = record { answer = Started.Moved (afterStart at); state = moved }
-startTold (refused n) at state = record { answer = Started.Refused n; state = state }
+-- the state after a step: where it leads, and as it was on a refusal
+abbrev pub movedTo : Answer DecoderState → DecoderState → DecoderState
+movedTo (accepted moved) state = moved
+movedTo (refused n) state = state
 
-unfoldable pub startStep : (addresses parents : List ℕ) → Positions → DecoderState → StartStep
-startStep addresses parents at state = startTold (startedAt addresses parents at) at state
+-- a start answers 20, 21, or the positions after it
+unfoldable pub startAnswer : (addresses parents : List ℕ) → Positions → Answer Positions
+startAnswer addresses parents at = andThen (startedAt addresses parents at) (λ _. accepted (afterStart at))
 
--- what an END answers, and the state after it: as it was on a refusal
-abbrev pub endTold : Answer NodeEndData → Positions → DecoderState → EndStep
-endTold (accepted entry) at state =
-    record { answer = Ended.Moved (entry .«ended_node_addr») (afterEnd at); state = stateAfterEnd entry }
-endTold (refused n) at state = record { answer = Ended.Refused n; state = state }
+-- the state after a start
+unfoldable pub startState : (addresses parents : List ℕ) → Positions → DecoderState → DecoderState
+startState addresses parents at state = movedTo (startedAt addresses parents at) state
 
-unfoldable pub endStep : (ends : List ℕ) → Positions → DecoderState → EndStep
-endStep ends at state = endTold (endAt ends (at .ends)) at state
+-- an END answers 22, or the address that ended and the positions after it
+unfoldable pub endAnswer : (ends : List ℕ) → Positions → Answer (ℕ × Positions)
+endAnswer ends at =
+    andThen (endAt ends (at .ends)) (λ entry. accepted (entry .«ended_node_addr», afterEnd at))
+
+-- the state after an END
+unfoldable pub endState : (ends : List ℕ) → Positions → DecoderState → DecoderState
+endState ends at state =
+    movedTo (andThen (endAt ends (at .ends)) (λ entry. accepted (stateAfterEnd entry))) state

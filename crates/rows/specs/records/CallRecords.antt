@@ -7,6 +7,7 @@ use lib.Dec.{ltb, eqb}
 use lib.ListN.{take, drop, getD}
 use Rattle.groups.specs.Answer.{Answer, accepted, refused, andThen, pick}
 use Rattle.field.specs.Cells.{cellAt}
+use Rattle.groups.specs.Constants.{storedAbsent}
 use Rattle.groups.specs.Words.{wordAt}
 use Rattle.groups.specs.declared.word.Word.{Word}
 use Rattle.groups.specs.declared.word.QuadFelt.{QuadFelt}
@@ -72,7 +73,7 @@ continuationOn r kind id =
     (pick (eqb kind 7) (resumeIn r id)
     (pick (eqb kind 8) (respanIn r id)
     (pick (eqb kind 9) (accepted (Continuation.FinishBasicBlock id))
-    (refused 23)))))))))
+    (refused storedAbsent)))))))))
 
 -- the kinds are 1 to 10
 unfoldable pub namesNoKind : ℕ → Bool
@@ -82,7 +83,7 @@ namesNoKind kind = eqb kind 0 || ltb 10 kind
 unfoldable pub continuationIn : List ℕ → Answer Continuation
 continuationIn r =
     pick (namesNoKind (getD r 1 0))
-    (refused 23)
+    (refused storedAbsent)
     (pick (eqb (getD r 1 0) 10)
     (accepted Continuation.EnterForest)
     (andThen (of32 3 (getD r 2 0)) (λ id. continuationOn r (getD r 1 0) (nodeId id))))
@@ -97,11 +98,11 @@ storedInRecord r =
     andThen (continuationIn r) (λ continuation.
     andThen (infoIn r) (λ info.
     pick (namesNothing r)
-    (refused 23)
+    (refused storedAbsent)
     (accepted (record {
       continuation = continuation;
       «is_loop_body» = eqb (getD r 5 0) 1;
-      captured = record { condition = conditionIn r; callee = calleeIn r; info = info };
+      captured = record { «finish_loop_condition» = conditionIn r; «dyn_callee_hash» = calleeIn r; «ctx_info» = info };
     }))))
 
 -- number 2 the clock row, 3 the context, 4 to 7 fn_hash
@@ -137,7 +138,7 @@ fewCells kind a b =
     (pick (eqb kind 13) (accepted (OperationHelperRegisters.HPerm a))
     (pick (eqb kind 14) (accepted (OperationHelperRegisters.MerklePath a))
     (pick (eqb kind 18) (accepted OperationHelperRegisters.Empty)
-    (refused 23)))))))))))))
+    (refused storedAbsent)))))))))))))
 
 -- the cases with more
 unfoldable pub manyCells : (kind : ℕ) → (a b : Word) → Answer OperationHelperRegisters
@@ -154,23 +155,23 @@ unfoldable pub registersIn : List ℕ → Answer OperationHelperRegisters
 registersIn r = manyCells (getD r 0 0) (wordAt r 26) (wordAt r 30)
 
 -- a call: values that are stored, or a finish in the forest of a number
-pub data Call : Type 0 where
-  stores : StoredValues → Call
-  finishes : (forest : ℕ) → SystemState → StackState → OperationHelperRegisters → Call
+pub data RecordedCall : Type 0 where
+  stores : StoredValues → RecordedCall
+  finishes : (forest : ℕ) → SystemState → StackState → OperationHelperRegisters → RecordedCall
 
 -- a finish: number 1 the forest's number, 24 the depth
-unfoldable pub finishIn : List ℕ → Answer Call
+unfoldable pub finishIn : List ℕ → Answer RecordedCall
 finishIn r =
     andThen (systemIn r) (λ system.
     andThen (of32 23 (getD r 24 0)) (λ depth.
     andThen (registersIn r) (λ registers.
     accepted (finishes (getD r 1 0) system (stackIn r depth) registers))))
 
-abbrev pub storing : Answer StoredValues → Answer Call
+abbrev pub storing : Answer StoredValues → Answer RecordedCall
 storing found = andThen found (λ values. accepted (stores values))
 
 -- number 0 is 0: a storing; else a finish
-unfoldable pub callIn : List ℕ → Answer Call
+unfoldable pub callIn : List ℕ → Answer RecordedCall
 callIn r = pick (eqb (getD r 0 0) 0) (storing (storedInRecord r)) (finishIn r)
 
 -- record k of a list of numbers
@@ -189,7 +190,7 @@ ReadAs32 r x = (n : ℕ) → toldSmall n r ≡ of32 n x
 
 abbrev pub toldInfo : InfoFound → Answer ContextInfo
 toldInfo (InfoFound.Is info) = accepted info
-toldInfo InfoFound.Over = refused 23
+toldInfo InfoFound.Over = refused storedAbsent
 
 abbrev pub toldContinuation : ContinuationFound → Answer Continuation
 toldContinuation (ContinuationFound.Is continuation) = accepted continuation
@@ -201,8 +202,8 @@ toldStored (StoredFound.Refused n) = refused n
 
 abbrev pub toldSystem : SystemFound → Answer SystemState
 toldSystem (SystemFound.Is system) = accepted system
-toldSystem SystemFound.Over = refused 23
+toldSystem SystemFound.Over = refused storedAbsent
 
 abbrev pub toldRegisters : RegistersFound → Answer OperationHelperRegisters
 toldRegisters (RegistersFound.Are registers) = accepted registers
-toldRegisters RegistersFound.Missing = refused 23
+toldRegisters RegistersFound.Missing = refused storedAbsent

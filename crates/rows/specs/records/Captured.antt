@@ -15,4 +15,4 @@ readInfo (ContextInfo.Is info) =
     ContextInfo.Is (record { «stack_depth» = info .«stack_depth»; «next_overflow_addr» = read (info .«next_overflow_addr») })
 
 unfoldable pub readCaptured : Captured → Captured
-readCaptured c = record { condition = c .condition; callee = readCallee (c .callee); info = readInfo (c .info) }
+readCaptured c = record { «finish_loop_condition» = c .«finish_loop_condition»; «dyn_callee_hash» = readCallee (c .«dyn_callee_hash»); «ctx_info» = readInfo (c .«ctx_info») }

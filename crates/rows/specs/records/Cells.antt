@@ -7,6 +7,7 @@ use lib.ListN.{length, take, drop}
 use lib.Seq.{paste}
 use Rattle.field.specs.Cells.{reduced}
 use Rattle.groups.specs.Answer.{pick}
+use Rattle.groups.specs.Constants.{rowWidth, mostRows}
 use Rattle.rows.specs.declared.records.decoder_row.DecoderRow.{DecoderRow}
 use Rattle.rows.specs.declared.records.state.SystemCols.{SystemCols}
 use Rattle.rows.specs.declared.records.state.StackCols.{StackCols}
@@ -19,11 +20,11 @@ rowCells system row stack = reduced (systemCells system ++ decoderCells row ++ s
 
 -- a buffer with the given cells in the place of row r
 unfoldable pub putRow : List ℕ → (r : ℕ) → (cells : List ℕ) → List ℕ
-putRow buffer r cells = take (49 * r) buffer ++ cells ++ drop (49 * r + 49) buffer
+putRow buffer r cells = take (rowWidth * r) buffer ++ cells ++ drop (rowWidth * r + rowWidth) buffer
 
 -- a row written where the buffer has it
 unfoldable pub rowWritten : List ℕ → (r : ℕ) → (cells : List ℕ) → List ℕ
-rowWritten buffer r cells = pick (ltb r (length buffer / 49)) (putRow buffer r cells) buffer
+rowWritten buffer r cells = pick (ltb r (length buffer / rowWidth)) (putRow buffer r cells) buffer
 
 -- numbers put in from index `at` on, where they fit
 unfoldable pub putIn : List ℕ → (at : ℕ) → (cells : List ℕ) → List ℕ
@@ -35,4 +36,4 @@ copiedIn buffer at cells = putIn buffer at (reduced cells)
 
 -- Refusal 11 of a finish, of its fragment: "buffer no multiple of 49, over 2^24 rows, fewer rows than said"
 unfoldable pub fragmentWrong : (cells rows : ℕ) → Bool
-fragmentWrong cells rows = ltb 0 (cells % 49) || (ltb 16777216 (cells / 49) || ltb (cells / 49) rows)
+fragmentWrong cells rows = ltb 0 (cells % rowWidth) || (ltb mostRows (cells / rowWidth) || ltb (cells / rowWidth) rows)

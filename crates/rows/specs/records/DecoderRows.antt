@@ -3,7 +3,7 @@ use mathlib.Core.Bool.{Bool, true, false}
 use mathlib.Core.List.{List, [], _∷_, _++_}
 use Prim.Native.Nat.{ℕ, _*_, _-_, _/_, _%_}
 use Rattle.groups.specs.declared.word.Word.{Word}
-use Rattle.groups.specs.declared.batch.Batch.{Batch}
+use Rattle.groups.specs.declared.batch.OpBatch.{OpBatch}
 use Rattle.groups.specs.declared.flags.BatchFlags.{BatchFlags}
 use Rattle.groups.specs.declared.helpers.UserOpHelpers.{UserOpHelpers}
 use Rattle.rows.specs.declared.records.decoder_row.DecoderRow.{DecoderRow}
@@ -18,25 +18,25 @@ unfoldable pub controlFlow : (opcode : ℕ) → (first second : Word) → (addr 
 controlFlow opcode first second addr = record {
   addr = addr;
   opcode = opcode;
-  first = first;
-  second = second;
+  «hasher_state_first_word» = first;
+  «hasher_state_second_word» = second;
   «in_basic_block» = 0;
   «group_count» = 0;
   «op_index» = 0;
-  «batch_flags» = (0, 0, 0);
+  «op_batch_flags» = (0, 0, 0);
 }
 
 -- SPAN and RESPAN: "eight groups in h, count and batch flags"
-unfoldable pub basicBlockBatch : (opcode : ℕ) → Batch → (addr count : ℕ) → BatchFlags → DecoderRow
+unfoldable pub basicBlockBatch : (opcode : ℕ) → OpBatch → (addr count : ℕ) → BatchFlags → DecoderRow
 basicBlockBatch opcode batch addr count flags = record {
   addr = addr;
   opcode = opcode;
-  first = batch .low;
-  second = batch .high;
+  «hasher_state_first_word» = batch .low;
+  «hasher_state_second_word» = batch .high;
   «in_basic_block» = 0;
   «group_count» = count;
   «op_index» = 0;
-  «batch_flags» = flags;
+  «op_batch_flags» = flags;
 }
 
 -- "Operation: current address; h0 the group shifted right .., h1 the parent address, h2 to h7 the helpers; op_index that index, count
@@ -45,12 +45,12 @@ unfoldable pub operation : (opcode addr parent index group count : ℕ) → User
 operation opcode addr parent index group count helpers = record {
   addr = addr;
   opcode = opcode;
-  first = (group, parent, helpers .h2, helpers .h3);
-  second = (helpers .h4, helpers .h5, helpers .h6, helpers .h7);
+  «hasher_state_first_word» = (group, parent, helpers .h2, helpers .h3);
+  «hasher_state_second_word» = (helpers .h4, helpers .h5, helpers .h6, helpers .h7);
   «in_basic_block» = 1;
   «group_count» = count;
   «op_index» = index;
-  «batch_flags» = (0, 0, 0);
+  «op_batch_flags» = (0, 0, 0);
 }
 
 abbrev pub bit : Bool → ℕ
@@ -83,7 +83,7 @@ wordCells w = w .0 ∷ w .1 ∷ w .2 ∷ w .3 ∷ []
 -- "addr, op bits (7, lowest first), h0 to h7, in_span, group_count, op_index, batch flags (3), extra (2)"
 unfoldable pub decoderCells : DecoderRow → List ℕ
 decoderCells d =
-    (d .addr ∷ opBits (d .opcode)) ++ wordCells (d .first) ++ wordCells (d .second)
+    (d .addr ∷ opBits (d .opcode)) ++ wordCells (d .«hasher_state_first_word») ++ wordCells (d .«hasher_state_second_word»)
     ++ (d .«in_basic_block» ∷ d .«group_count» ∷ d .«op_index»
-    ∷ d .«batch_flags» .0 ∷ d .«batch_flags» .1 ∷ d .«batch_flags» .2
+    ∷ d .«op_batch_flags» .0 ∷ d .«op_batch_flags» .1 ∷ d .«op_batch_flags» .2
     ∷ extra0 (d .opcode) ∷ extra1 (d .opcode) ∷ [])

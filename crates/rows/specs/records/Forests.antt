@@ -8,12 +8,13 @@ use Prim.Native.Nat.{ℕ, _+_, _*_}
 use lib.Dec.{leb, ltb, eqb}
 use lib.ListN.{length, getD}
 use Rattle.groups.specs.Answer.{Answer, accepted, refused, pick}
+use Rattle.groups.specs.Constants.{noSuchNode, wrongNodeKind, noSuchOperation}
 use Rattle.groups.specs.Words.{wordAt}
 use Rattle.groups.specs.declared.word.Word.{Word}
-use Rattle.groups.specs.declared.batch.Block.{Block}
-use Rattle.groups.specs.declared.batch.Batch.{Batch}
+use Rattle.groups.specs.declared.batch.BasicBlockNode.{BasicBlockNode}
+use Rattle.groups.specs.declared.batch.OpBatch.{OpBatch}
 use Rattle.rows.specs.declared.records.ids.MastNodeId.{MastNodeId}
-use Rattle.rows.specs.declared.records.forest.Node.{Node}
+use Rattle.rows.specs.declared.records.forest.MastNode.{MastNode}
 use Rattle.rows.specs.declared.records.forest.NodeEntry.{NodeEntry}
 use Rattle.rows.specs.declared.records.forest.NodeFound.{NodeFound}
 use Rattle.rows.specs.declared.records.forest.DigestFound.{DigestFound}
@@ -43,29 +44,29 @@ kindAt nodes digests id = pick (isSlot nodes digests id) (getD nodes (6 * id) 0)
 abbrev pub nodeId : ℕ → MastNodeId
 nodeId n = record { 0 = n }
 
-abbrev pub nodeEntry : Node → Word → Answer NodeEntry
+abbrev pub nodeEntry : MastNode → Word → Answer NodeEntry
 nodeEntry node digest = accepted (record { node = node; digest = digest })
 
 -- Refusal 3: "no such node"; a slot that has its digest alone is none
-unfoldable pub nodeOf : (kind first second : ℕ) → Block → Word → Answer NodeEntry
+unfoldable pub nodeOf : (kind first second : ℕ) → BasicBlockNode → Word → Answer NodeEntry
 nodeOf kind first second block digest =
-    pick (eqb kind 2) (nodeEntry (Node.Block block) digest)
-    (pick (eqb kind 3) (nodeEntry (Node.Join (nodeId first) (nodeId second)) digest)
-    (pick (eqb kind 4) (nodeEntry (Node.Split (nodeId first) (nodeId second)) digest)
-    (pick (eqb kind 5) (nodeEntry (Node.Loop (nodeId first)) digest)
-    (pick (eqb kind 6) (nodeEntry (Node.Call (nodeId first)) digest)
-    (pick (eqb kind 7) (nodeEntry (Node.Syscall (nodeId first)) digest)
-    (pick (eqb kind 8) (nodeEntry Node.Dyn digest)
-    (pick (eqb kind 9) (nodeEntry Node.Dyncall digest)
-    (pick (eqb kind 10) (nodeEntry Node.External digest)
-    (refused 3)))))))))
+    pick (eqb kind 2) (nodeEntry (MastNode.Block block) digest)
+    (pick (eqb kind 3) (nodeEntry (MastNode.Join (nodeId first) (nodeId second)) digest)
+    (pick (eqb kind 4) (nodeEntry (MastNode.Split (nodeId first) (nodeId second)) digest)
+    (pick (eqb kind 5) (nodeEntry (MastNode.Loop (nodeId first)) digest)
+    (pick (eqb kind 6) (nodeEntry (MastNode.Call (nodeId first)) digest)
+    (pick (eqb kind 7) (nodeEntry (MastNode.Syscall (nodeId first)) digest)
+    (pick (eqb kind 8) (nodeEntry MastNode.Dyn digest)
+    (pick (eqb kind 9) (nodeEntry MastNode.Dyncall digest)
+    (pick (eqb kind 10) (nodeEntry MastNode.External digest)
+    (refused noSuchNode)))))))))
 
 -- a node is the one of its kind, whatever its digest
-abbrev pub IsNodeOf : Node → (kind first second : ℕ) → Block → Type 0
+abbrev pub IsNodeOf : MastNode → (kind first second : ℕ) → BasicBlockNode → Type 0
 IsNodeOf node kind first second block = (digest : Word) → nodeEntry node digest ≡ nodeOf kind first second block digest
 
 -- the block of slot id, where it is one
-abbrev pub slotBlock : (nodes : List ℕ) → ℕ → Block
+abbrev pub slotBlock : (nodes : List ℕ) → ℕ → BasicBlockNode
 slotBlock nodes id = record {
   total = getD nodes (6 * id + 3) 0;
   «first_batch» = getD nodes (6 * id + 4) 0;
@@ -77,47 +78,47 @@ unfoldable pub nodeAt : (nodes digests : List ℕ) → ℕ → Answer NodeEntry
 nodeAt nodes digests id =
     pick (isSlot nodes digests id)
     (nodeOf (getD nodes (6 * id) 0) (getD nodes (6 * id + 1) 0) (getD nodes (6 * id + 2) 0) (slotBlock nodes id) (wordAt digests (4 * id)))
-    (refused 3)
+    (refused noSuchNode)
 
 -- the digest of an id: a slot with its digest alone has one too
 unfoldable pub digestAt : (nodes digests : List ℕ) → ℕ → Answer Word
 digestAt nodes digests id =
     pick (isSlot nodes digests id && (ltb 0 (getD nodes (6 * id) 0) && leb (getD nodes (6 * id) 0) 10))
     (accepted (wordAt digests (4 * id)))
-    (refused 3)
+    (refused noSuchNode)
 
 -- Refusal 6: "operation past the batch's"; operations past the slice are past the batch's
-unfoldable pub opcodeAt : (ops : List ℕ) → Batch → ℕ → Answer ℕ
+unfoldable pub opcodeAt : (ops : List ℕ) → OpBatch → ℕ → Answer ℕ
 opcodeAt ops batch op =
     pick (ltb op (batch .«num_ops») && ltb (batch .«first_op» + op) (length ops))
     (accepted (getD ops (batch .«first_op» + op) 0))
-    (refused 6)
+    (refused noSuchOperation)
 
 -- Refusal 4: "wrong node kind"
-unfoldable pub blockOf : Node → Answer Block
-blockOf (Node.Block block) = accepted block
-blockOf (Node.Join a b) = refused 4
-blockOf (Node.Split a b) = refused 4
-blockOf (Node.Loop a) = refused 4
-blockOf (Node.Call a) = refused 4
-blockOf (Node.Syscall a) = refused 4
-blockOf Node.Dyn = refused 4
-blockOf Node.Dyncall = refused 4
-blockOf Node.External = refused 4
+unfoldable pub blockOf : MastNode → Answer BasicBlockNode
+blockOf (MastNode.Block block) = accepted block
+blockOf (MastNode.Join a b) = refused wrongNodeKind
+blockOf (MastNode.Split a b) = refused wrongNodeKind
+blockOf (MastNode.Loop a) = refused wrongNodeKind
+blockOf (MastNode.Call a) = refused wrongNodeKind
+blockOf (MastNode.Syscall a) = refused wrongNodeKind
+blockOf MastNode.Dyn = refused wrongNodeKind
+blockOf MastNode.Dyncall = refused wrongNodeKind
+blockOf MastNode.External = refused wrongNodeKind
 
 -- the number and the values of each look-up's cases
 abbrev pub toldNode : NodeFound → Answer NodeEntry
 toldNode (NodeFound.At entry) = accepted entry
-toldNode NodeFound.Missing = refused 3
+toldNode NodeFound.Missing = refused noSuchNode
 
 abbrev pub toldDigest : DigestFound → Answer Word
 toldDigest (DigestFound.Is digest) = accepted digest
-toldDigest DigestFound.Missing = refused 3
+toldDigest DigestFound.Missing = refused noSuchNode
 
 abbrev pub toldOpcode : OpcodeFound → Answer ℕ
 toldOpcode (OpcodeFound.Is opcode) = accepted opcode
-toldOpcode OpcodeFound.Missing = refused 6
+toldOpcode OpcodeFound.Missing = refused noSuchOperation
 
-abbrev pub toldBlock : BlockFound → Answer Block
+abbrev pub toldBlock : BlockFound → Answer BasicBlockNode
 toldBlock (BlockFound.Is block) = accepted block
-toldBlock BlockFound.Other = refused 4
+toldBlock BlockFound.Other = refused wrongNodeKind

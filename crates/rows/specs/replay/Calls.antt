@@ -1,31 +1,31 @@
 -- Replay: several forests in the lent slices, and the calls of all records one after another.
-use mathlib.Core.List.{List, _++_}
+use mathlib.Core.List.{List}
 use Prim.Native.Nat.{ℕ, zero, suc, _+_, _*_, _/_, _%_}
 use lib.Dec.{ltb, eqb}
 use lib.ListN.{length, take, drop, getD}
+use denote.Ref.{now}
 use Rattle.groups.specs.Answer.{Answer, accepted, refused, pick}
+use Rattle.groups.specs.Constants.{badLength}
 use Rattle.rows.specs.declared.records.profile.Profile.{Profile}
-use Rattle.rows.specs.declared.records.replay.DecoderState.{DecoderState}
-use Rattle.rows.specs.declared.records.replay.Positions.{Positions}
-use Rattle.rows.specs.declared.records.state.SystemCols.{SystemCols}
-use Rattle.rows.specs.declared.records.state.StackCols.{StackCols}
+use Rattle.rows.specs.declared.records.address_state.DecoderState.{DecoderState}
+use Rattle.rows.specs.declared.records.address_state.Positions.{Positions}
 use Rattle.rows.specs.declared.records.continuation.StoredValues.{StoredValues}
 use Rattle.rows.specs.declared.cycles.scan.Scan.{Scan}
 use Rattle.rows.specs.declared.cycles.tracer.CoreTraceGenerationTracer.{CoreTraceGenerationTracer}
-use Rattle.rows.specs.declared.replay.directory.Parts.{Parts}
+use Rattle.rows.specs.declared.replay.directory.DirectoryEntry.{DirectoryEntry}
 use Rattle.rows.specs.declared.replay.calls.Replayed.{Replayed}
 use Rattle.rows.specs.records.Forests.{Forest, forest}
 use Rattle.rows.specs.records.Addresses.{Queues}
-use Rattle.rows.specs.records.Built.{systemCells, stackCells}
-use Rattle.rows.specs.records.CallRecords.{Call, stores, finishes, callIn, recordAt}
+use Rattle.rows.specs.records.Lent.{Slice, lentForest, lentQueues}
+use Rattle.rows.specs.records.CallRecords.{RecordedCall, stores, finishes, callIn, recordAt}
 use Rattle.rows.specs.cycles.Scans.{scanOf}
-use Rattle.rows.specs.cycles.Cycles.{fresh, storedIn, cycleWith, keeping, tracerAfter, fragmentAfter, finalState}
+use Rattle.rows.specs.cycles.Cycles.{fresh, storedIn, cycleWith, keeping, tracerAfter, fragmentAfter, finalState, forPasses}
 
 -- SEVERAL FORESTS
 
 -- where a forest lies, by the six numbers of the directory; a number that is not in it has no slot: "no such node"
-unfoldable pub partsAt : (directory : List ℕ) → ℕ → Parts
-partsAt directory k =
+unfoldable pub directoryEntry : (directory : List ℕ) → ℕ → DirectoryEntry
+directoryEntry directory k =
     pick (ltb k (length directory / 6))
     (record {
       «first_slot» = getD directory (6 * k) 0;
@@ -46,7 +46,7 @@ unfoldable pub clipped : (limit n : ℕ) → ℕ
 clipped limit n = pick (ltb limit n) limit n
 
 -- the forest that lies there
-unfoldable pub forestIn : Forest → Parts → Forest
+unfoldable pub forestIn : Forest → DirectoryEntry → Forest
 forestIn f w =
     forest
     (window 6 (w .«first_slot») (w .slots) (f .nodes))
@@ -70,9 +70,14 @@ abbrev pub setting : Scan → Profile → Forest → (directory : List ℕ) → 
 setting scan profile forests directory queues cells =
     record { scan = scan; profile = profile; forests = forests; directory = directory; queues = queues; cells = cells }
 
+-- the setting of a function that is lent its slices
+abbrev pub lentSetting : Scan → Profile → (nodes digests batches groups ops directory addresses parents ends fragment : Slice) → Setting
+lentSetting scan profile nodes digests batches groups ops directory addresses parents ends fragment =
+    setting scan profile (lentForest nodes digests batches groups ops) (now (directory .entry)) (lentQueues addresses parents ends) (length (now (fragment .entry)))
+
 -- the forest of a number
 unfoldable pub forestOf : Setting → ℕ → Forest
-forestOf s k = forestIn (s .forests) (partsAt (s .directory) k)
+forestOf s k = forestIn (s .forests) (directoryEntry (s .directory) k)
 
 -- a record that encodes nothing is refused like a call
 unfoldable pub refusing : ℕ → CoreTraceGenerationTracer → CoreTraceGenerationTracer
@@ -84,14 +89,14 @@ storingDone t (refused n) = refusing n t
 storingDone t (accepted values) = storedIn t values
 
 -- the tracer after a call
-unfoldable pub callDone : Setting → CoreTraceGenerationTracer → Answer Call → CoreTraceGenerationTracer
+unfoldable pub callDone : Setting → CoreTraceGenerationTracer → Answer RecordedCall → CoreTraceGenerationTracer
 callDone s t (refused n) = refusing n t
 callDone s t (accepted (stores values)) = storedIn t values
 callDone s t (accepted (finishes k system stack registers)) =
     tracerAfter system stack t (cycleWith (s .scan) (s .profile) (forestOf s k) (s .queues) stack registers (s .cells) t)
 
 -- the fragment after a call
-unfoldable pub callWritten : Setting → CoreTraceGenerationTracer → Answer Call → List ℕ → List ℕ
+unfoldable pub callWritten : Setting → CoreTraceGenerationTracer → Answer RecordedCall → List ℕ → List ℕ
 callWritten s t (refused n) fragment = fragment
 callWritten s t (accepted (stores values)) fragment = fragment
 callWritten s t (accepted (finishes k system stack registers)) fragment =
@@ -112,15 +117,11 @@ written s records t fragment (suc k) =
 
 -- a part of a record at the end: "lengths" (11)
 unfoldable pub ending : (numbers : ℕ) → CoreTraceGenerationTracer → CoreTraceGenerationTracer
-ending numbers t = pick (eqb (numbers % 32) 0) t (refusing 11 t)
-
--- the 25 cells of a final state
-unfoldable pub builtCells : SystemCols → StackCols → List ℕ
-builtCells system stack = systemCells system ++ stackCells stack
+ending numbers t = pick (eqb (numbers % 32) 0) t (refusing badLength t)
 
 -- "address state and queues continuing"; "Each returns its number, other answers 0"
 unfoldable pub nextState : CoreTraceGenerationTracer → DecoderState
-nextState t = pick (eqb (t .refusal) 0) (t .state) (record { «current_addr» = 0; «parent_addr» = 0 })
+nextState t = pick (eqb (t .refusal) 0) (t .«decoder_state») (record { «current_addr» = 0; «parent_addr» = 0 })
 
 unfoldable pub nextPositions : CoreTraceGenerationTracer → Positions
 nextPositions t = pick (eqb (t .refusal) 0) (t .at) (record { addresses = 0; parents = 0; ends = 0 })
@@ -128,9 +129,9 @@ nextPositions t = pick (eqb (t .refusal) 0) (t .at) (record { addresses = 0; par
 -- what is answered: the final state, and what the next fragment goes on from
 unfoldable pub told : CoreTraceGenerationTracer → Replayed
 told t = record {
-  number = finalState t .refusal;
-  rows = finalState t .«num_rows_written»;
-  built = builtCells (finalState t .«last_system_cols») (finalState t .«last_stack_cols»);
+  refusal = finalState t .refusal;
+  rows = forPasses (finalState t) .count;
+  built = forPasses (finalState t) .built;
   state = nextState t;
   at = nextPositions t;
 }
@@ -138,6 +139,11 @@ told t = record {
 -- all forests are scanned, also those that no record names: "used or not"
 unfoldable pub scanned : Profile → Forest → (directory : List ℕ) → Queues → (cells : ℕ) → Setting
 scanned p f directory q cells = setting (scanOf p (f .nodes) (f .batches) (f .ops)) p f directory q cells
+
+-- of a function that is lent its slices
+abbrev pub lentScanned : Profile → (nodes digests batches groups ops directory addresses parents ends fragment : Slice) → Setting
+lentScanned profile nodes digests batches groups ops directory addresses parents ends fragment =
+    scanned profile (lentForest nodes digests batches groups ops) (now (directory .entry)) (lentQueues addresses parents ends) (length (now (fragment .entry)))
 
 -- "each fragment takes a fresh tracer (nothing stored, no refusal, no row) and ends with its final state, address state and queues
 -- continuing"
@@ -147,6 +153,6 @@ replayed s state at records = told (ending (length records) (through s records (
 -- a replay refuses whole: the fragment is as it was
 unfoldable pub replayedFragment : Setting → DecoderState → Positions → (records fragment : List ℕ) → List ℕ
 replayedFragment s state at records fragment =
-    pick (eqb (replayed s state at records .number) 0)
+    pick (eqb (replayed s state at records .refusal) 0)
     (written s records (fresh state at) fragment (length records / 32))
     fragment

@@ -5,17 +5,17 @@ use Rattle.groups.specs.Answer.{Answer, accepted, refused}
 use Rattle.rows.specs.declared.cycles.tracer.CoreTraceGenerationTracer.{CoreTraceGenerationTracer}
 use Rattle.rows.specs.cycles.Cycles.{storedIn, cycle, tracerAfter, fragmentAfter}
 use Rattle.rows.specs.replay.Calls.{Setting, forestOf, refusing}
-use Rattle.rows.specs.records.CallRecords.{Call, stores, finishes, callIn, recordAt}
+use Rattle.rows.specs.records.CallRecords.{RecordedCall, stores, finishes, callIn, recordAt}
 
 -- the tracer after a call: that of `start_clock_cycle` or `finalize_clock_cycle`. The scan of the setting is not used
-unfoldable pub singleDone : Setting → CoreTraceGenerationTracer → Answer Call → CoreTraceGenerationTracer
+unfoldable pub singleDone : Setting → CoreTraceGenerationTracer → Answer RecordedCall → CoreTraceGenerationTracer
 singleDone s t (refused n) = refusing n t
 singleDone s t (accepted (stores values)) = storedIn t values
 singleDone s t (accepted (finishes k system stack registers)) =
     tracerAfter system stack t (cycle (s .profile) (forestOf s k) (s .queues) stack registers (s .cells) t)
 
 -- the fragment after a call
-unfoldable pub singleWritten : Setting → CoreTraceGenerationTracer → Answer Call → List ℕ → List ℕ
+unfoldable pub singleWritten : Setting → CoreTraceGenerationTracer → Answer RecordedCall → List ℕ → List ℕ
 singleWritten s t (refused n) fragment = fragment
 singleWritten s t (accepted (stores values)) fragment = fragment
 singleWritten s t (accepted (finishes k system stack registers)) fragment =

@@ -19,20 +19,22 @@ use crate::records::state::StackCols;
 use crate::records::state::StackState;
 use crate::records::state::SystemCols;
 use crate::records::state::SystemState;
+use groups::constants::Refusal;
+use groups::constants::Row;
 use groups::helpers::OperationHelperRegisters;
 ghost use mathlib.Core.Path.{_≡_};
 ghost use Prim.Native.Nat.{_+_, _/_, _<_};
 ghost use lib.ListN.{length};
-ghost use Rattle.groups.specs.Answer.{number, accepted, pick};
-ghost use Rattle.rows.specs.records.Forests.{forest};
-ghost use Rattle.rows.specs.records.Addresses.{queues};
+ghost use Rattle.groups.specs.Answer.{refusal, accepted, pick};
+ghost use Rattle.groups.specs.Constants.{rowWidth};
+ghost use Rattle.rows.specs.records.Lent.{lentForest, lentQueues};
 ghost use Rattle.rows.specs.cycles.Made.{toldMade};
 ghost use Rattle.rows.specs.records.Cells.{rowCells, putRow};
 ghost use Rattle.rows.specs.cycles.Cycles.{cycleWith, HasRoom, cycle, leftAfter, keeping, tracerAfter, lastSystem, lastStack, fragmentAfter};
 
 // What a finish answers: 0 or the refusal's number, and the tracer.
 pub struct Finished {
-    pub number: u32,
+    pub refusal: u32,
     pub tracer: CoreTraceGenerationTracer,
 }
 
@@ -40,25 +42,25 @@ pub struct Finished {
 fn left_after(used: Used, captured: Captured) -> Captured
     ensures { λ r. ⌜ r ≡ leftAfter used captured ⌝ }
 {
-    let condition = captured.condition;
-    let callee = captured.callee;
-    let info = captured.info;
+    let condition = captured.finish_loop_condition;
+    let callee = captured.dyn_callee_hash;
+    let info = captured.ctx_info;
     match used {
         Used::Nothing => captured,
         Used::Condition => Captured {
-            condition: LoopCondition::Absent,
-            callee,
-            info,
+            finish_loop_condition: LoopCondition::Absent,
+            dyn_callee_hash: callee,
+            ctx_info: info,
         },
         Used::Callee => Captured {
-            condition,
-            callee: CalleeWord::Absent,
-            info,
+            finish_loop_condition: condition,
+            dyn_callee_hash: CalleeWord::Absent,
+            ctx_info: info,
         },
         Used::CalleeAndInfo => Captured {
-            condition,
-            callee: CalleeWord::Absent,
-            info: ContextInfo::Absent,
+            finish_loop_condition: condition,
+            dyn_callee_hash: CalleeWord::Absent,
+            ctx_info: ContextInfo::Absent,
         },
     }
 }
@@ -80,30 +82,31 @@ fn checked(
     registers: OperationHelperRegisters,
     tracer: CoreTraceGenerationTracer,
 ) -> Made
-    ensures { λ r. ⌜ toldMade r ≡ cycleWith scan profile (forest (now (nodes .entry)) (now (digests .entry)) (now (batches .entry)) (now (groups .entry)) (now (ops .entry))) (queues (now (addresses .entry)) (now (parents .entry)) (now (ends .entry))) stack registers cells tracer ⌝ }
-    ensures { λ r. ⌜ HasRoom r cells (tracer .rows) ⌝ }
+    ensures { λ r. ⌜ toldMade r ≡ cycleWith scan profile (lentForest nodes digests batches groups ops)
+        (lentQueues addresses parents ends) stack registers cells tracer ⌝ }
+    ensures { λ r. ⌜ HasRoom r cells (tracer .«row_write_index») ⌝ }
 {
     if tracer.refusal != 0 {
         return Made::Refused(tracer.refusal);
     }
-    let stored = tracer.stored;
+    let stored = tracer.continuation;
     let StoredContinuation::Is(continuation) = stored else {
-        return Made::Refused(23);
+        return Made::Refused(Refusal::STORED_ABSENT);
     };
     if scan.big {
-        return Made::Refused(1);
+        return Made::Refused(Refusal::BIG_OPCODE);
     }
     if scan.profile_wrong {
-        return Made::Refused(2);
+        return Made::Refused(Refusal::BAD_PROFILE);
     }
-    if scan.too_large | fragment_wrong(cells, tracer.rows) {
-        return Made::Refused(11);
+    if scan.too_large | fragment_wrong(cells, tracer.row_write_index) {
+        return Made::Refused(Refusal::BAD_LENGTH);
     }
     if stack.stack_depth < 16 {
-        return Made::Refused(10);
+        return Made::Refused(Refusal::LOW_DEPTH);
     }
     let captured = tracer.captured;
-    let state = tracer.state;
+    let state = tracer.decoder_state;
     let at = tracer.at;
     let made = make(
         nodes,
@@ -125,15 +128,15 @@ fn checked(
     let Made::Row(row) = made else {
         return made;
     };
-    if cells / 49 <= tracer.rows {
-        return Made::Refused(24);
+    if cells / Row::WIDTH <= tracer.row_write_index {
+        return Made::Refused(Refusal::NO_ROW_LEFT);
     }
     Made::Row(row)
 }
 
 // The number that a cycle refuses with, or 0.
-fn made_number(made: Made) -> u32
-    ensures { λ r. ⌜ r ≡ number (toldMade made) ⌝ }
+fn made_refusal(made: Made) -> u32
+    ensures { λ r. ⌜ r ≡ refusal (toldMade made) ⌝ }
 {
     match made {
         Made::Refused(n) => n,
@@ -157,10 +160,10 @@ fn moved(
     stack: StackState,
     tracer: CoreTraceGenerationTracer,
 ) -> CoreTraceGenerationTracer
-    requires { ⌜ tracer .rows + 1 < 18446744073709551616 ⌝ }
+    requires { ⌜ tracer .«row_write_index» + 1 < 18446744073709551616 ⌝ }
     ensures { λ r. ⌜ r ≡ tracerAfter system stack tracer (accepted row) ⌝ }
 {
-    let stored = tracer.stored;
+    let stored = tracer.continuation;
     let before = tracer.captured;
     let used = row.used;
     let captured = left_after(used, before);
@@ -170,14 +173,14 @@ fn moved(
     let built_stack = StackCols::build(stack);
     CoreTraceGenerationTracer {
         refusal: 0,
-        rows: tracer.rows + 1,
-        stored,
+        row_write_index: tracer.row_write_index + 1,
+        continuation: stored,
         is_loop_body: tracer.is_loop_body,
         captured,
-        state,
+        decoder_state: state,
         at,
-        system: built_system,
-        stack: built_stack,
+        system_cols: built_system,
+        stack_cols: built_stack,
     }
 }
 
@@ -188,13 +191,21 @@ fn put_row(
     tracer: CoreTraceGenerationTracer,
     fragment: &mut [u64],
 )
-    requires { ⌜ tracer .rows < length (now fragment) / 49 ⌝ }
-    ensures { λ _. ⌜ now (fragment .exit) ≡ pick write (putRow (now (fragment .entry)) (tracer .rows) (rowCells (lastSystem tracer) decoder (lastStack tracer))) (now (fragment .entry)) ⌝ }
+    requires { ⌜ tracer .«row_write_index» < length (now fragment) / rowWidth ⌝ }
+    ensures { λ _. ⌜ now (fragment .exit) ≡ pick write
+        (putRow (now (fragment .entry)) (tracer .«row_write_index») (rowCells (lastSystem tracer) decoder (lastStack tracer)))
+        (now (fragment .entry)) ⌝ }
 {
     if write {
         let last_system = tracer.last_system();
         let last_stack = tracer.last_stack();
-        write_row(fragment, tracer.rows, last_system, decoder, last_stack);
+        write_row(
+            fragment,
+            tracer.row_write_index,
+            last_system,
+            decoder,
+            last_stack,
+        );
     }
 }
 
@@ -218,9 +229,14 @@ pub(crate) fn cycle_with(
     tracer: CoreTraceGenerationTracer,
     fragment: &mut [u64],
 ) -> Finished
-    ensures { λ r. ⌜ r .number ≡ number (cycleWith scan profile (forest (now (nodes .entry)) (now (digests .entry)) (now (batches .entry)) (now (groups .entry)) (now (ops .entry))) (queues (now (addresses .entry)) (now (parents .entry)) (now (ends .entry))) stack registers (length (now (fragment .entry))) tracer) ⌝ }
-    ensures { λ r. ⌜ r .tracer ≡ tracerAfter system stack tracer (cycleWith scan profile (forest (now (nodes .entry)) (now (digests .entry)) (now (batches .entry)) (now (groups .entry)) (now (ops .entry))) (queues (now (addresses .entry)) (now (parents .entry)) (now (ends .entry))) stack registers (length (now (fragment .entry))) tracer) ⌝ }
-    ensures { λ _. ⌜ now (fragment .exit) ≡ pick write (fragmentAfter (now (fragment .entry)) tracer (cycleWith scan profile (forest (now (nodes .entry)) (now (digests .entry)) (now (batches .entry)) (now (groups .entry)) (now (ops .entry))) (queues (now (addresses .entry)) (now (parents .entry)) (now (ends .entry))) stack registers (length (now (fragment .entry))) tracer)) (now (fragment .entry)) ⌝ }
+    ensures { λ r. ⌜ r .refusal ≡ refusal (cycleWith scan profile (lentForest nodes digests batches groups ops)
+        (lentQueues addresses parents ends) stack registers (length (now (fragment .entry))) tracer) ⌝ }
+    ensures { λ r. ⌜ r .tracer ≡ tracerAfter system stack tracer (cycleWith scan profile (lentForest nodes digests batches groups ops)
+        (lentQueues addresses parents ends) stack registers (length (now (fragment .entry))) tracer) ⌝ }
+    ensures { λ _. ⌜ now (fragment .exit) ≡ pick write
+        (fragmentAfter (now (fragment .entry)) tracer (cycleWith scan profile (lentForest nodes digests batches groups ops)
+        (lentQueues addresses parents ends) stack registers (length (now (fragment .entry))) tracer))
+        (now (fragment .entry)) ⌝ }
 {
     let made = checked(
         scan,
@@ -239,16 +255,16 @@ pub(crate) fn cycle_with(
         tracer,
     );
     let Made::Row(row) = made else {
-        let n = made_number(made);
+        let n = made_refusal(made);
         return Finished {
-            number: n,
+            refusal: n,
             tracer: kept(n, tracer),
         };
     };
     let decoder = row.row;
     put_row(write, decoder, tracer, fragment);
     Finished {
-        number: 0,
+        refusal: 0,
         tracer: moved(row, system, stack, tracer),
     }
 }
@@ -270,9 +286,12 @@ pub fn finalize_clock_cycle(
     tracer: CoreTraceGenerationTracer,
     fragment: &mut [u64],
 ) -> Finished
-    ensures { λ r. ⌜ r .number ≡ number (cycle profile (forest (now (nodes .entry)) (now (digests .entry)) (now (batches .entry)) (now (groups .entry)) (now (ops .entry))) (queues (now (addresses .entry)) (now (parents .entry)) (now (ends .entry))) stack registers (length (now (fragment .entry))) tracer) ⌝ }
-    ensures { λ r. ⌜ r .tracer ≡ tracerAfter system stack tracer (cycle profile (forest (now (nodes .entry)) (now (digests .entry)) (now (batches .entry)) (now (groups .entry)) (now (ops .entry))) (queues (now (addresses .entry)) (now (parents .entry)) (now (ends .entry))) stack registers (length (now (fragment .entry))) tracer) ⌝ }
-    ensures { λ _. ⌜ now (fragment .exit) ≡ fragmentAfter (now (fragment .entry)) tracer (cycle profile (forest (now (nodes .entry)) (now (digests .entry)) (now (batches .entry)) (now (groups .entry)) (now (ops .entry))) (queues (now (addresses .entry)) (now (parents .entry)) (now (ends .entry))) stack registers (length (now (fragment .entry))) tracer) ⌝ }
+    ensures { λ r. ⌜ r .refusal ≡ refusal (cycle profile (lentForest nodes digests batches groups ops)
+        (lentQueues addresses parents ends) stack registers (length (now (fragment .entry))) tracer) ⌝ }
+    ensures { λ r. ⌜ r .tracer ≡ tracerAfter system stack tracer (cycle profile (lentForest nodes digests batches groups ops)
+        (lentQueues addresses parents ends) stack registers (length (now (fragment .entry))) tracer) ⌝ }
+    ensures { λ _. ⌜ now (fragment .exit) ≡ fragmentAfter (now (fragment .entry)) tracer (cycle profile (lentForest nodes digests batches groups ops)
+        (lentQueues addresses parents ends) stack registers (length (now (fragment .entry))) tracer) ⌝ }
 {
     let found = scan_lent(profile, nodes, batches, ops);
     cycle_with(

@@ -1,5 +1,12 @@
 // What a continuation makes of the forest, the queues and the tracer: a decoder row, the address state and queue positions after it,
 // and which captured values it used up; or the refusal. Nothing here reads or writes a fragment.
+use crate::records::address_state::DecoderState;
+use crate::records::address_state::Ended;
+use crate::records::address_state::Positions;
+use crate::records::address_state::Started;
+use crate::records::address_state::end_lent;
+use crate::records::address_state::respan_step;
+use crate::records::address_state::start_lent;
 use crate::records::continuation::CalleeWord;
 use crate::records::continuation::Captured;
 use crate::records::continuation::ContextInfo;
@@ -11,7 +18,7 @@ use crate::records::decoder_row::EndBlockFlags;
 use crate::records::decoder_row::EndBlockStackEntryKind;
 use crate::records::forest::BlockFound;
 use crate::records::forest::DigestFound;
-use crate::records::forest::Node;
+use crate::records::forest::MastNode;
 use crate::records::forest::NodeFound;
 use crate::records::forest::OpcodeFound;
 use crate::records::forest::as_block;
@@ -20,31 +27,27 @@ use crate::records::forest::node_at;
 use crate::records::forest::opcode_at;
 use crate::records::ids::MastNodeId;
 use crate::records::profile::Profile;
-use crate::records::replay::DecoderState;
-use crate::records::replay::Ended;
-use crate::records::replay::Positions;
-use crate::records::replay::Started;
-use crate::records::replay::end_lent;
-use crate::records::replay::respan_step;
-use crate::records::replay::start_lent;
+use field::felt::Felt;
+use groups::batch::BasicBlockNode;
 use groups::batch::BatchFound;
-use groups::batch::Block;
 use groups::batch::batch_at;
+use groups::constants::Refusal;
 use groups::context::BasicBlockContext;
 use groups::context::BatchContextFound;
 use groups::context::OpContext;
 use groups::context::OpContextFound;
 use groups::flags::FlagsFound;
-use groups::flags::batch_flags;
+use groups::flags::get_op_batch_flags;
 use groups::helpers::HelpersFound;
 use groups::helpers::OperationHelperRegisters;
 use groups::word::Word;
 ghost use mathlib.Core.Path.{_≡_};
-ghost use Rattle.groups.specs.Answer.{Answer, accepted, number};
+ghost use Rattle.groups.specs.Answer.{Answer, accepted, refusal};
 ghost use Rattle.groups.specs.Contexts.{toldOp, toldBatchStart};
-ghost use Rattle.rows.specs.records.Forests.{Forest, forest};
-ghost use Rattle.rows.specs.records.Addresses.{Queues, queues, toldStarted};
-ghost use Rattle.rows.specs.cycles.Made.{Place, place, madeRow, toldMade, toldKind, callKind, dynKind, blockKind, entryKind, startBlock, startTwo, startOne, startDyn, startDyncall, startKind, startNode, finished, repeated, finishLoop, operationMade, resumed, respanned, made};
+ghost use Rattle.rows.specs.records.Addresses.{toldStarted};
+ghost use Rattle.rows.specs.records.Lent.{lentForest, lentQueues};
+ghost use Rattle.rows.specs.cycles.Made.{Cursor, cursor, madeRow, toldMade, toldKind, callKind, dynKind, blockKind, entryKind, startBlock, startTwo, startOne, startDyn, startDyncall, startKind, startNode, madeEnd, madeRepeat, finishLoop, operationMade, resumed, madeRespan, made};
+ghost use Rattle.rows.specs.ways.ContinuationKinds.{continuationKind};
 
 // A row, and what follows it.
 pub struct MadeRow {
@@ -68,44 +71,54 @@ pub enum Finish {
     Block,
 }
 
+// The kinds of continuation: a start, the END of a node, a loop's REPEAT or END, an operation of a batch, a RESPAN, one that makes nothing.
+enum ContinuationKind {
+    Start(MastNodeId),
+    End(MastNodeId, Finish),
+    LoopPass(MastNodeId),
+    Operation(MastNodeId, u32, u32),
+    Respan(MastNodeId, u32),
+    Nothing,
+}
+
 enum KindFound {
     Is(EndBlockStackEntryKind),
     Other,
 }
 
-fn call_kind(node: Node) -> KindFound
+fn call_kind(node: MastNode) -> KindFound
     ensures { λ r. ⌜ toldKind r ≡ callKind node ⌝ }
 {
     match node {
-        Node::Call(_) => KindFound::Is(EndBlockStackEntryKind::CallerFrame),
-        Node::Syscall(_) => KindFound::Is(EndBlockStackEntryKind::CallerFrame),
-        Node::Block(_) => KindFound::Other,
-        Node::Join(_, _) => KindFound::Other,
-        Node::Split(_, _) => KindFound::Other,
-        Node::Loop(_) => KindFound::Other,
-        Node::Dyn => KindFound::Other,
-        Node::Dyncall => KindFound::Other,
-        Node::External => KindFound::Other,
+        MastNode::Call(_) => KindFound::Is(EndBlockStackEntryKind::CallerFrame),
+        MastNode::Syscall(_) => KindFound::Is(EndBlockStackEntryKind::CallerFrame),
+        MastNode::Block(_) => KindFound::Other,
+        MastNode::Join(_, _) => KindFound::Other,
+        MastNode::Split(_, _) => KindFound::Other,
+        MastNode::Loop(_) => KindFound::Other,
+        MastNode::Dyn => KindFound::Other,
+        MastNode::Dyncall => KindFound::Other,
+        MastNode::External => KindFound::Other,
     }
 }
 
-fn dyn_kind(node: Node) -> KindFound
+fn dyn_kind(node: MastNode) -> KindFound
     ensures { λ r. ⌜ toldKind r ≡ dynKind node ⌝ }
 {
     match node {
-        Node::Dyn => KindFound::Is(EndBlockStackEntryKind::Continuation),
-        Node::Dyncall => KindFound::Is(EndBlockStackEntryKind::CallerFrame),
-        Node::Block(_) => KindFound::Other,
-        Node::Join(_, _) => KindFound::Other,
-        Node::Split(_, _) => KindFound::Other,
-        Node::Loop(_) => KindFound::Other,
-        Node::Call(_) => KindFound::Other,
-        Node::Syscall(_) => KindFound::Other,
-        Node::External => KindFound::Other,
+        MastNode::Dyn => KindFound::Is(EndBlockStackEntryKind::Continuation),
+        MastNode::Dyncall => KindFound::Is(EndBlockStackEntryKind::CallerFrame),
+        MastNode::Block(_) => KindFound::Other,
+        MastNode::Join(_, _) => KindFound::Other,
+        MastNode::Split(_, _) => KindFound::Other,
+        MastNode::Loop(_) => KindFound::Other,
+        MastNode::Call(_) => KindFound::Other,
+        MastNode::Syscall(_) => KindFound::Other,
+        MastNode::External => KindFound::Other,
     }
 }
 
-fn block_kind(node: Node) -> KindFound
+fn block_kind(node: MastNode) -> KindFound
     ensures { λ r. ⌜ toldKind r ≡ blockKind node ⌝ }
 {
     let BlockFound::Is(_) = as_block(node) else {
@@ -115,7 +128,7 @@ fn block_kind(node: Node) -> KindFound
 }
 
 // How the END of a node is marked, or 4: the continuation is not for this kind of node.
-fn entry_kind(finish: Finish, node: Node) -> KindFound
+fn entry_kind(finish: Finish, node: MastNode) -> KindFound
     ensures { λ r. ⌜ toldKind r ≡ entryKind finish node ⌝ }
 {
     match finish {
@@ -132,18 +145,18 @@ fn start_block(
     batches: &[u32],
     groups: &[u64],
     span: u8,
-    block: Block,
+    block: BasicBlockNode,
     state: DecoderState,
     at: Positions,
 ) -> Made
-    ensures { λ r. ⌜ toldMade r ≡ startBlock (now (batches .entry)) (now (groups .entry)) span block (place state at) ⌝ }
+    ensures { λ r. ⌜ toldMade r ≡ startBlock (now (batches .entry)) (now (groups .entry)) span block (cursor state at) ⌝ }
 {
     let BatchFound::At(batch) = batch_at(batches, groups, block, 0) else {
-        return Made::Refused(5);
+        return Made::Refused(Refusal::NO_SUCH_BATCH);
     };
     let count = block.total as u64;
-    let FlagsFound::Are(flags) = batch_flags(count) else {
-        return Made::Refused(7);
+    let FlagsFound::Are(flags) = get_op_batch_flags(count) else {
+        return Made::Refused(Refusal::BAD_GROUP_COUNT);
     };
     let row = DecoderRow::new_basic_block_batch(span, batch, state.parent_addr, count, flags);
     Made::Row(MadeRow {
@@ -164,13 +177,13 @@ fn start_two(
     state: DecoderState,
     at: Positions,
 ) -> Made
-    ensures { λ r. ⌜ toldMade r ≡ startTwo (now (nodes .entry)) (now (digests .entry)) opcode first second (place state at) ⌝ }
+    ensures { λ r. ⌜ toldMade r ≡ startTwo (now (nodes .entry)) (now (digests .entry)) opcode first second (cursor state at) ⌝ }
 {
     let DigestFound::Is(a) = digest_at(nodes, digests, first) else {
-        return Made::Refused(3);
+        return Made::Refused(Refusal::NO_SUCH_NODE);
     };
     let DigestFound::Is(b) = digest_at(nodes, digests, second) else {
-        return Made::Refused(3);
+        return Made::Refused(Refusal::NO_SUCH_NODE);
     };
     let row = DecoderRow::new_control_flow(opcode, a, b, state.parent_addr);
     Made::Row(MadeRow {
@@ -190,12 +203,13 @@ fn start_one(
     state: DecoderState,
     at: Positions,
 ) -> Made
-    ensures { λ r. ⌜ toldMade r ≡ startOne (now (nodes .entry)) (now (digests .entry)) opcode child (place state at) ⌝ }
+    ensures { λ r. ⌜ toldMade r ≡ startOne (now (nodes .entry)) (now (digests .entry)) opcode child (cursor state at) ⌝ }
 {
     let DigestFound::Is(a) = digest_at(nodes, digests, child) else {
-        return Made::Refused(3);
+        return Made::Refused(Refusal::NO_SUCH_NODE);
     };
-    let row = DecoderRow::new_control_flow(opcode, a, Word(0, 0, 0, 0), state.parent_addr);
+    let second = Word(Felt::ZERO, Felt::ZERO, Felt::ZERO, Felt::ZERO);
+    let row = DecoderRow::new_control_flow(opcode, a, second, state.parent_addr);
     Made::Row(MadeRow {
         row,
         state,
@@ -206,12 +220,13 @@ fn start_one(
 
 // DYN: 23 for the callee word.
 fn start_dyn(opcode: u8, callee: CalleeWord, state: DecoderState, at: Positions) -> Made
-    ensures { λ r. ⌜ toldMade r ≡ startDyn opcode callee (place state at) ⌝ }
+    ensures { λ r. ⌜ toldMade r ≡ startDyn opcode callee (cursor state at) ⌝ }
 {
     let CalleeWord::Is(word) = callee else {
-        return Made::Refused(23);
+        return Made::Refused(Refusal::STORED_ABSENT);
     };
-    let row = DecoderRow::new_control_flow(opcode, word, Word(0, 0, 0, 0), state.parent_addr);
+    let second = Word(Felt::ZERO, Felt::ZERO, Felt::ZERO, Felt::ZERO);
+    let row = DecoderRow::new_control_flow(opcode, word, second, state.parent_addr);
     Made::Row(MadeRow {
         row,
         state,
@@ -228,15 +243,20 @@ fn start_dyncall(
     state: DecoderState,
     at: Positions,
 ) -> Made
-    ensures { λ r. ⌜ toldMade r ≡ startDyncall opcode callee info (place state at) ⌝ }
+    ensures { λ r. ⌜ toldMade r ≡ startDyncall opcode callee info (cursor state at) ⌝ }
 {
     let CalleeWord::Is(word) = callee else {
-        return Made::Refused(23);
+        return Made::Refused(Refusal::STORED_ABSENT);
     };
     let ContextInfo::Is(context) = info else {
-        return Made::Refused(23);
+        return Made::Refused(Refusal::STORED_ABSENT);
     };
-    let second = Word(context.stack_depth as u64, context.next_overflow_addr, 0, 0);
+    let second = Word(
+        context.stack_depth as u64,
+        context.next_overflow_addr,
+        Felt::ZERO,
+        Felt::ZERO,
+    );
     let row = DecoderRow::new_control_flow(opcode, word, second, state.parent_addr);
     Made::Row(MadeRow {
         row,
@@ -253,31 +273,32 @@ fn start_kind(
     batches: &[u32],
     groups: &[u64],
     profile: Profile,
-    node: Node,
+    node: MastNode,
     captured: Captured,
     state: DecoderState,
     at: Positions,
 ) -> Made
-    ensures { λ r. ⌜ toldMade r ≡ startKind (now (nodes .entry)) (now (digests .entry)) (now (batches .entry)) (now (groups .entry)) profile node captured (place state at) ⌝ }
+    ensures { λ r. ⌜ toldMade r ≡ startKind (now (nodes .entry)) (now (digests .entry)) (now (batches .entry)) (now (groups .entry))
+        profile node captured (cursor state at) ⌝ }
 {
-    let callee = captured.callee;
-    let info = captured.info;
+    let callee = captured.dyn_callee_hash;
+    let info = captured.ctx_info;
     match node {
-        Node::Block(block) => start_block(batches, groups, profile.span, block, state, at),
-        Node::Join(a, b) => start_two(nodes, digests, profile.join, a, b, state, at),
-        Node::Split(a, b) => start_two(nodes, digests, profile.split, a, b, state, at),
-        Node::Loop(a) => start_one(nodes, digests, profile.loop_op, a, state, at),
-        Node::Call(a) => start_one(nodes, digests, profile.call, a, state, at),
-        Node::Syscall(a) => start_one(nodes, digests, profile.syscall, a, state, at),
-        Node::Dyn => start_dyn(profile.dyn_op, callee, state, at),
-        Node::Dyncall => start_dyncall(profile.dyncall, callee, info, state, at),
-        Node::External => Made::Refused(4),
+        MastNode::Block(block) => start_block(batches, groups, profile.span, block, state, at),
+        MastNode::Join(a, b) => start_two(nodes, digests, profile.join, a, b, state, at),
+        MastNode::Split(a, b) => start_two(nodes, digests, profile.split, a, b, state, at),
+        MastNode::Loop(a) => start_one(nodes, digests, profile.loop_op, a, state, at),
+        MastNode::Call(a) => start_one(nodes, digests, profile.call, a, state, at),
+        MastNode::Syscall(a) => start_one(nodes, digests, profile.syscall, a, state, at),
+        MastNode::Dyn => start_dyn(profile.dyn_op, callee, state, at),
+        MastNode::Dyncall => start_dyncall(profile.dyncall, callee, info, state, at),
+        MastNode::External => Made::Refused(Refusal::WRONG_NODE_KIND),
     }
 }
 
 // The number that a start refuses with, or 0.
-fn start_number(answer: Started) -> u32
-    ensures { λ r. ⌜ r ≡ number (toldStarted answer) ⌝ }
+fn start_refusal(answer: Started) -> u32
+    ensures { λ r. ⌜ r ≡ refusal (toldStarted answer) ⌝ }
 {
     match answer {
         Started::Refused(n) => n,
@@ -299,15 +320,16 @@ fn start_node(
     state: DecoderState,
     at: Positions,
 ) -> Made
-    ensures { λ r. ⌜ toldMade r ≡ startNode (now (nodes .entry)) (now (digests .entry)) (now (batches .entry)) (now (groups .entry)) (now (addresses .entry)) (now (parents .entry)) profile id captured (place state at) ⌝ }
+    ensures { λ r. ⌜ toldMade r ≡ startNode (now (nodes .entry)) (now (digests .entry)) (now (batches .entry)) (now (groups .entry))
+        (now (addresses .entry)) (now (parents .entry)) profile id captured (cursor state at) ⌝ }
 {
     let step = start_lent(state, addresses, parents, at);
     let answer = step.answer;
     let Started::Moved(next) = answer else {
-        return Made::Refused(start_number(answer));
+        return Made::Refused(start_refusal(answer));
     };
     let NodeFound::At(entry) = node_at(nodes, digests, id) else {
-        return Made::Refused(3);
+        return Made::Refused(Refusal::NO_SUCH_NODE);
     };
     let node = entry.node;
     let started = step.state;
@@ -337,19 +359,20 @@ fn finish_node(
     state: DecoderState,
     at: Positions,
 ) -> Made
-    ensures { λ r. ⌜ toldMade r ≡ finished (now (nodes .entry)) (now (digests .entry)) (now (ends .entry)) end id finish «is_loop_body» used (place state at) ⌝ }
+    ensures { λ r. ⌜ toldMade r ≡ madeEnd (now (nodes .entry)) (now (digests .entry)) (now (ends .entry)) end id finish
+        «is_loop_body» used (cursor state at) ⌝ }
 {
     let NodeFound::At(entry) = node_at(nodes, digests, id) else {
-        return Made::Refused(3);
+        return Made::Refused(Refusal::NO_SUCH_NODE);
     };
     let node = entry.node;
     let KindFound::Is(entry_kind) = entry_kind(finish, node) else {
-        return Made::Refused(4);
+        return Made::Refused(Refusal::WRONG_NODE_KIND);
     };
     let step = end_lent(state, ends, at);
     let answer = step.answer;
     let Ended::Moved(addr, next) = answer else {
-        return Made::Refused(22);
+        return Made::Refused(Refusal::END_QUEUE_EMPTY);
     };
     let flags = EndBlockFlags {
         is_loop_body,
@@ -375,19 +398,20 @@ fn repeat_row(
     state: DecoderState,
     at: Positions,
 ) -> Made
-    ensures { λ r. ⌜ toldMade r ≡ repeated (now (nodes .entry)) (now (digests .entry)) repeat id (place state at) ⌝ }
+    ensures { λ r. ⌜ toldMade r ≡ madeRepeat (now (nodes .entry)) (now (digests .entry)) repeat id (cursor state at) ⌝ }
 {
     let NodeFound::At(entry) = node_at(nodes, digests, id) else {
-        return Made::Refused(3);
+        return Made::Refused(Refusal::NO_SUCH_NODE);
     };
     let node = entry.node;
-    let Node::Loop(body) = node else {
-        return Made::Refused(4);
+    let MastNode::Loop(body) = node else {
+        return Made::Refused(Refusal::WRONG_NODE_KIND);
     };
     let DigestFound::Is(digest) = digest_at(nodes, digests, body) else {
-        return Made::Refused(3);
+        return Made::Refused(Refusal::NO_SUCH_NODE);
     };
-    let row = DecoderRow::new_control_flow(repeat, digest, Word(1, 0, 0, 0), state.current_addr);
+    let second = Word(Felt::ONE, Felt::ZERO, Felt::ZERO, Felt::ZERO);
+    let row = DecoderRow::new_control_flow(repeat, digest, second, state.current_addr);
     Made::Row(MadeRow {
         row,
         state,
@@ -408,10 +432,11 @@ fn finish_loop(
     state: DecoderState,
     at: Positions,
 ) -> Made
-    ensures { λ r. ⌜ toldMade r ≡ finishLoop (now (nodes .entry)) (now (digests .entry)) (now (ends .entry)) profile id condition «is_loop_body» (place state at) ⌝ }
+    ensures { λ r. ⌜ toldMade r ≡ finishLoop (now (nodes .entry)) (now (digests .entry)) (now (ends .entry)) profile id condition
+        «is_loop_body» (cursor state at) ⌝ }
 {
     let LoopCondition::Is(again) = condition else {
-        return Made::Refused(23);
+        return Made::Refused(Refusal::STORED_ABSENT);
     };
     if again {
         repeat_row(nodes, digests, profile.repeat, id, state, at)
@@ -439,11 +464,11 @@ fn operation_row(
     state: DecoderState,
     at: Positions,
 ) -> Made
-    ensures { λ r. ⌜ toldMade r ≡ operationMade opcode found registers (place state at) ⌝ }
+    ensures { λ r. ⌜ toldMade r ≡ operationMade opcode found registers (cursor state at) ⌝ }
 {
     let helped = registers.to_user_op_helpers();
     let HelpersFound::Are(helpers) = helped else {
-        return Made::Refused(9);
+        return Made::Refused(Refusal::BIG_HELPER_VALUE);
     };
     let context = found.context;
     let row = DecoderRow::new_operation(
@@ -464,8 +489,8 @@ fn operation_row(
 }
 
 // The number that a context at an operation is refused with, or 0.
-fn op_number(found: OpContextFound) -> u32
-    ensures { λ r. ⌜ r ≡ number (toldOp found) ⌝ }
+fn op_refusal(found: OpContextFound) -> u32
+    ensures { λ r. ⌜ r ≡ refusal (toldOp found) ⌝ }
 {
     match found {
         OpContextFound::Refused(n) => n,
@@ -488,31 +513,31 @@ fn resume(
     state: DecoderState,
     at: Positions,
 ) -> Made
-    ensures { λ r. ⌜ toldMade r ≡ resumed (forest (now (nodes .entry)) (now (digests .entry)) (now (batches .entry)) (now (groups .entry)) (now (ops .entry))) push id index op registers (place state at) ⌝ }
+    ensures { λ r. ⌜ toldMade r ≡ resumed (lentForest nodes digests batches groups ops) push id index op registers (cursor state at) ⌝ }
 {
     let NodeFound::At(entry) = node_at(nodes, digests, id) else {
-        return Made::Refused(3);
+        return Made::Refused(Refusal::NO_SUCH_NODE);
     };
     let node = entry.node;
     let BlockFound::Is(block) = as_block(node) else {
-        return Made::Refused(4);
+        return Made::Refused(Refusal::WRONG_NODE_KIND);
     };
     let BatchFound::At(batch) = batch_at(batches, groups, block, index) else {
-        return Made::Refused(5);
+        return Made::Refused(Refusal::NO_SUCH_BATCH);
     };
     let OpcodeFound::Is(opcode) = opcode_at(ops, batch, op) else {
-        return Made::Refused(6);
+        return Made::Refused(Refusal::NO_SUCH_OPERATION);
     };
     let found = BasicBlockContext::new_at_op(push, block, batches, groups, index, op);
     let OpContextFound::At(context) = found else {
-        return Made::Refused(op_number(found));
+        return Made::Refused(op_refusal(found));
     };
     operation_row(opcode, context, registers, state, at)
 }
 
 // The number that a context at a batch's start is refused with, or 0.
-fn batch_number(found: BatchContextFound) -> u32
-    ensures { λ r. ⌜ r ≡ number (toldBatchStart found) ⌝ }
+fn batch_refusal(found: BatchContextFound) -> u32
+    ensures { λ r. ⌜ r ≡ refusal (toldBatchStart found) ⌝ }
 {
     match found {
         BatchContextFound::Refused(n) => n,
@@ -533,18 +558,19 @@ fn respan(
     state: DecoderState,
     at: Positions,
 ) -> Made
-    ensures { λ r. ⌜ toldMade r ≡ respanned (now (nodes .entry)) (now (digests .entry)) (now (batches .entry)) (now (groups .entry)) opcode step id index (place state at) ⌝ }
+    ensures { λ r. ⌜ toldMade r ≡ madeRespan (now (nodes .entry)) (now (digests .entry)) (now (batches .entry)) (now (groups .entry))
+        opcode step id index (cursor state at) ⌝ }
 {
     let NodeFound::At(entry) = node_at(nodes, digests, id) else {
-        return Made::Refused(3);
+        return Made::Refused(Refusal::NO_SUCH_NODE);
     };
     let node = entry.node;
     let BlockFound::Is(block) = as_block(node) else {
-        return Made::Refused(4);
+        return Made::Refused(Refusal::WRONG_NODE_KIND);
     };
     let found = BasicBlockContext::new_at_batch_start(block, batches, groups, index);
     let BatchContextFound::At(c) = found else {
-        return Made::Refused(batch_number(found));
+        return Made::Refused(batch_refusal(found));
     };
     let batch = c.batch;
     let flags = c.flags;
@@ -562,6 +588,31 @@ fn respan(
         at,
         used: Used::Nothing,
     })
+}
+
+// The kind of a continuation.
+fn continuation_kind(continuation: Continuation) -> ContinuationKind
+    ensures { λ r. ⌜ r ≡ continuationKind continuation ⌝ }
+{
+    match continuation {
+        Continuation::StartNode(id) => ContinuationKind::Start(id),
+        Continuation::FinishJoin(id) => ContinuationKind::End(id, Finish::Any),
+        Continuation::FinishSplit(id) => ContinuationKind::End(id, Finish::Any),
+        Continuation::FinishLoop(id) => ContinuationKind::LoopPass(id),
+        Continuation::FinishCall(id) => ContinuationKind::End(id, Finish::Call),
+        Continuation::FinishDyn(id) => ContinuationKind::End(id, Finish::Dyn),
+        Continuation::ResumeBasicBlock {
+            node_id,
+            batch_index,
+            op_idx_in_batch,
+        } => ContinuationKind::Operation(node_id, batch_index, op_idx_in_batch),
+        Continuation::Respan {
+            node_id,
+            batch_index,
+        } => ContinuationKind::Respan(node_id, batch_index),
+        Continuation::FinishBasicBlock(id) => ContinuationKind::End(id, Finish::Block),
+        Continuation::EnterForest => ContinuationKind::Nothing,
+    }
 }
 
 // What the continuation makes, by its kind; 4 for EnterForest.
@@ -582,11 +633,13 @@ pub fn make(
     state: DecoderState,
     at: Positions,
 ) -> Made
-    ensures { λ r. ⌜ toldMade r ≡ made (forest (now (nodes .entry)) (now (digests .entry)) (now (batches .entry)) (now (groups .entry)) (now (ops .entry))) (queues (now (addresses .entry)) (now (parents .entry)) (now (ends .entry))) profile registers continuation «is_loop_body» captured (place state at) ⌝ }
+    ensures { λ r. ⌜ toldMade r ≡ made (lentForest nodes digests batches groups ops) (lentQueues addresses parents ends)
+        profile registers continuation «is_loop_body» captured (cursor state at) ⌝ }
 {
-    let condition = captured.condition;
-    match continuation {
-        Continuation::StartNode(id) => start_node(
+    let kind = continuation_kind(continuation);
+    let condition = captured.finish_loop_condition;
+    match kind {
+        ContinuationKind::Start(id) => start_node(
             nodes,
             digests,
             batches,
@@ -599,31 +652,19 @@ pub fn make(
             state,
             at,
         ),
-        Continuation::FinishJoin(id) => finish_node(
+        ContinuationKind::End(id, finish) => finish_node(
             nodes,
             digests,
             ends,
             profile.end,
             id,
-            Finish::Any,
+            finish,
             is_loop_body,
             Used::Nothing,
             state,
             at,
         ),
-        Continuation::FinishSplit(id) => finish_node(
-            nodes,
-            digests,
-            ends,
-            profile.end,
-            id,
-            Finish::Any,
-            is_loop_body,
-            Used::Nothing,
-            state,
-            at,
-        ),
-        Continuation::FinishLoop(id) => finish_loop(
+        ContinuationKind::LoopPass(id) => finish_loop(
             nodes,
             digests,
             ends,
@@ -634,75 +675,32 @@ pub fn make(
             state,
             at,
         ),
-        Continuation::FinishCall(id) => finish_node(
-            nodes,
-            digests,
-            ends,
-            profile.end,
-            id,
-            Finish::Call,
-            is_loop_body,
-            Used::Nothing,
-            state,
-            at,
-        ),
-        Continuation::FinishDyn(id) => finish_node(
-            nodes,
-            digests,
-            ends,
-            profile.end,
-            id,
-            Finish::Dyn,
-            is_loop_body,
-            Used::Nothing,
-            state,
-            at,
-        ),
-        Continuation::ResumeBasicBlock {
-            node_id,
-            batch_index,
-            op_idx_in_batch,
-        } => resume(
+        ContinuationKind::Operation(id, index, op) => resume(
             nodes,
             digests,
             batches,
             groups,
             ops,
             profile.push,
-            node_id,
-            batch_index,
-            op_idx_in_batch,
+            id,
+            index,
+            op,
             registers,
             state,
             at,
         ),
-        Continuation::Respan {
-            node_id,
-            batch_index,
-        } => respan(
+        ContinuationKind::Respan(id, index) => respan(
             nodes,
             digests,
             batches,
             groups,
             profile.respan,
             profile.step,
-            node_id,
-            batch_index,
-            state,
-            at,
-        ),
-        Continuation::FinishBasicBlock(id) => finish_node(
-            nodes,
-            digests,
-            ends,
-            profile.end,
             id,
-            Finish::Block,
-            is_loop_body,
-            Used::Nothing,
+            index,
             state,
             at,
         ),
-        Continuation::EnterForest => Made::Refused(4),
+        ContinuationKind::Nothing => Made::Refused(Refusal::WRONG_NODE_KIND),
     }
 }

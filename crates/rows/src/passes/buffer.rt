@@ -1,4 +1,5 @@
 // What every finishing pass checks of its buffer. A number of rows may be any; nothing is multiplied before it is known to fit.
+use groups::constants::Row;
 ghost use mathlib.Core.Path.{_≡_};
 ghost use Rattle.rows.specs.passes.Passes.{bufferWrong, fewerRows};
 
@@ -6,12 +7,12 @@ ghost use Rattle.rows.specs.passes.Passes.{bufferWrong, fewerRows};
 pub fn buffer_wrong(cells: usize) -> bool
     ensures { λ r. ⌜ r ≡ bufferWrong cells ⌝ }
 {
-    (0 < cells % 49) | (16777216 < cells / 49)
+    (0 < cells % Row::WIDTH) | (Row::MOST < cells / Row::WIDTH)
 }
 
 // Refusal 11: fewer rows than said.
 pub fn fewer_rows(cells: usize, rows: usize) -> bool
     ensures { λ r. ⌜ r ≡ fewerRows cells rows ⌝ }
 {
-    cells / 49 < rows
+    cells / Row::WIDTH < rows
 }

@@ -12,6 +12,8 @@ use crate::passes::multiplicity::any_without_body;
 use crate::passes::multiplicity::write_multiplicities;
 use crate::records::profile::Profile;
 use crate::records::profile::is_wrong;
+use groups::constants::Refusal;
+use groups::constants::Row;
 ghost use mathlib.Core.Path.{_≡_};
 ghost use mathlib.Core.Bool.{false};
 ghost use Prim.Native.Nat.{_+_, _-_, _*_, _≤_, _<_};
@@ -37,23 +39,23 @@ fn finish_refusal(
     ensures { λ r. ⌜ r ≡ refusalAll profile (now (buffer .entry)) «fragment_size» (now (counts .entry)) (now (built .entry)) height ⌝ }
 {
     if is_wrong(profile) {
-        return 2;
+        return Refusal::BAD_PROFILE;
     }
     if fragments_wrong(buffer.len(), fragment_size, counts, built) {
-        return 11;
+        return Refusal::BAD_LENGTH;
     }
-    let rows = sum_up_to(buffer.len() / 49 + 1, counts);
+    let rows = sum_up_to(buffer.len() / Row::WIDTH + 1, counts);
     if height_wrong(buffer.len(), rows, height) {
-        return 11;
+        return Refusal::BAD_LENGTH;
     }
     if no_fragment(counts) {
-        return 26;
+        return Refusal::NO_FRAGMENTS;
     }
     if not_full(fragment_size, counts) {
-        return 25;
+        return Refusal::FRAGMENT_NOT_FULL;
     }
     if any_without_body(profile, buffer, rows) {
-        return 14;
+        return Refusal::NO_BODY_END;
     }
     0
 }
@@ -68,11 +70,13 @@ fn finish_rows(
     first_stack_top: [u64; 16],
     height: usize,
 )
-    requires { ⌜ (fragmentsWrong (length (now buffer)) «fragment_size» (now counts) (now built) ≡ false) × (heightWrong (length (now buffer)) (sumOf (now counts)) height ≡ false) ⌝ }
+    requires { ⌜ (fragmentsWrong (length (now buffer)) «fragment_size» (now counts) (now built) ≡ false)
+        × (heightWrong (length (now buffer)) (sumOf (now counts)) height ≡ false) ⌝ }
     requires { ⌜ (noFragment (now counts) ≡ false) × (notFull «fragment_size» (now counts) ≡ false) ⌝ }
-    ensures { λ _. ⌜ now (buffer .exit) ≡ allPasses profile «fragment_size» (now (counts .entry)) (now (built .entry)) «first_stack_top» height (now (buffer .entry)) ⌝ }
+    ensures { λ _. ⌜ now (buffer .exit) ≡ allPasses profile «fragment_size» (now (counts .entry)) (now (built .entry)) «first_stack_top» height
+        (now (buffer .entry)) ⌝ }
 {
-    let rows = sum_up_to(buffer.len() / 49 + 1, counts);
+    let rows = sum_up_to(buffer.len() / Row::WIDTH + 1, counts);
     let last = 25 * (counts.len() - 1);
     let end = last + 25;
     fixup_rows(buffer, fragment_size, counts, built, first_stack_top);
@@ -94,7 +98,10 @@ pub fn finish(
     height: usize,
 ) -> u32
     ensures { λ r. ⌜ r ≡ refusalAll profile (now (buffer .entry)) «fragment_size» (now (counts .entry)) (now (built .entry)) height ⌝ }
-    ensures { λ _. ⌜ now (buffer .exit) ≡ unlessRefused (refusalAll profile (now (buffer .entry)) «fragment_size» (now (counts .entry)) (now (built .entry)) height) (now (buffer .entry)) (allPasses profile «fragment_size» (now (counts .entry)) (now (built .entry)) «first_stack_top» height (now (buffer .entry))) ⌝ }
+    ensures { λ _. ⌜ now (buffer .exit) ≡ unlessRefused
+        (refusalAll profile (now (buffer .entry)) «fragment_size» (now (counts .entry)) (now (built .entry)) height)
+        (now (buffer .entry))
+        (allPasses profile «fragment_size» (now (counts .entry)) (now (built .entry)) «first_stack_top» height (now (buffer .entry))) ⌝ }
 {
     let number = finish_refusal(profile, buffer, fragment_size, counts, built, height);
     if number != 0 {

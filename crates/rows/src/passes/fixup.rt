@@ -1,12 +1,17 @@
 // Finishing pass 1: the system and stack cells of each fragment's first row.
 use crate::records::row::copy_in;
 use crate::records::row::fragment_wrong;
+use field::felt::Felt;
+use groups::constants::Column;
+use groups::constants::Refusal;
+use groups::constants::Row;
 use groups::number::number;
 ghost use mathlib.Core.Path.{_≡_};
 ghost use mathlib.Core.Bool.{false};
 ghost use Prim.Native.Nat.{_+_, _-_, _*_, _≤_, _<_, min};
 ghost use lib.ListN.{length, getD, take, drop};
 ghost use Rattle.field.specs.Cells.{reduced};
+ghost use Rattle.groups.specs.Constants.{rowWidth};
 ghost use Rattle.rows.specs.records.Cells.{putRow};
 ghost use Rattle.rows.specs.passes.Buffers.{onRows};
 ghost use Rattle.rows.specs.passes.Passes.{withSides, firstRow, laterRows, fixedUp, builtOf, sumOf, anyAbove, notFull, noFragment, fragmentsWrong, refusal1, unlessRefused};
@@ -58,7 +63,7 @@ pub(crate) fn fragments_wrong(
 ) -> bool
     ensures { λ r. ⌜ r ≡ fragmentsWrong cells «fragment_size» (now (counts .entry)) (now (built .entry)) ⌝ }
 {
-    let rows = sum_up_to(cells / 49 + 1, counts);
+    let rows = sum_up_to(cells / Row::WIDTH + 1, counts);
     fragment_wrong(cells, rows)
         | ((fragment_size == 0)
             | (any_above(fragment_size, counts) | (built.len() / 25 < counts.len())))
@@ -93,21 +98,21 @@ fn fixup_refusal(buffer: &[u64], fragment_size: usize, counts: &[u32], built: &[
     ensures { λ r. ⌜ r ≡ refusal1 (now (buffer .entry)) «fragment_size» (now (counts .entry)) (now (built .entry)) ⌝ }
 {
     if fragments_wrong(buffer.len(), fragment_size, counts, built) {
-        return 11;
+        return Refusal::BAD_LENGTH;
     }
     if no_fragment(counts) {
-        return 26;
+        return Refusal::NO_FRAGMENTS;
     }
     if not_full(fragment_size, counts) {
-        return 25;
+        return Refusal::FRAGMENT_NOT_FULL;
     }
     0
 }
 
 // Row 0 gets the reversed first stack top, depth 16, 0, 0.
 fn write_first_stack(buffer: &mut [u64], first_stack_top: [u64; 16])
-    requires { ⌜ 49 ≤ length (now buffer) ⌝ }
-    ensures { λ _. ⌜ now (buffer .exit) ≡ putRow (now (buffer .entry)) 0 (firstRow «first_stack_top» (take 49 (now (buffer .entry)))) ⌝ }
+    requires { ⌜ rowWidth ≤ length (now buffer) ⌝ }
+    ensures { λ _. ⌜ now (buffer .exit) ≡ putRow (now (buffer .entry)) 0 (firstRow «first_stack_top» (take rowWidth (now (buffer .entry)))) ⌝ }
 {
     let t = first_stack_top;
     let stack = [
@@ -128,25 +133,29 @@ fn write_first_stack(buffer: &mut [u64], first_stack_top: [u64; 16])
         t[1],
         t[0],
         16,
-        0,
-        0,
+        Felt::ZERO,
+        Felt::ZERO,
     ];
-    copy_in(buffer, 30, &stack);
+    copy_in(buffer, Column::STACK, &stack);
 }
 
 // The row gets a fragment's 25 built cells: 6 system cells and 19 stack cells.
 fn write_sides(buffer: &mut [u64], row: usize, cells: &[u64])
-    requires { ⌜ (49 * row + 49 ≤ length (now buffer)) × (length (now cells) ≡ 25) ⌝ }
-    ensures { λ _. ⌜ now (buffer .exit) ≡ putRow (now (buffer .entry)) row (withSides (take 6 (reduced (now (cells .entry)))) (drop 6 (reduced (now (cells .entry)))) (take 49 (drop (49 * row) (now (buffer .entry))))) ⌝ }
+    requires { ⌜ (rowWidth * row + rowWidth ≤ length (now buffer)) × (length (now cells) ≡ 25) ⌝ }
+    ensures { λ _. ⌜ now (buffer .exit) ≡ putRow (now (buffer .entry)) row
+        (withSides (take 6 (reduced (now (cells .entry)))) (drop 6 (reduced (now (cells .entry))))
+        (take rowWidth (drop (rowWidth * row) (now (buffer .entry))))) ⌝ }
 {
-    copy_in(buffer, 49 * row, &cells[..6]);
-    copy_in(buffer, 49 * row + 30, &cells[6..]);
+    copy_in(buffer, Row::WIDTH * row, &cells[..6]);
+    copy_in(buffer, Row::WIDTH * row + Column::STACK, &cells[6..]);
 }
 
 // The first row of each later fragment gets the previous fragment's built cells.
 fn write_later_rows(buffer: &mut [u64], fragment_size: usize, counts: &[u32], built: &[u64])
-    requires { ⌜ (0 < «fragment_size») × ((length (now counts) - 1) * «fragment_size» < sumOf (now counts)) × (49 * sumOf (now counts) ≤ length (now buffer)) × (25 * length (now counts) ≤ length (now built)) ⌝ }
-    ensures { λ _. ⌜ now (buffer .exit) ≡ onRows (sumOf (now (counts .entry))) (laterRows «fragment_size» «fragment_size» (builtOf (length (now (counts .entry)) - 1) (now (built .entry)))) (now (buffer .entry)) ⌝ }
+    requires { ⌜ (0 < «fragment_size») × ((length (now counts) - 1) * «fragment_size» < sumOf (now counts))
+        × (rowWidth * sumOf (now counts) ≤ length (now buffer)) × (25 * length (now counts) ≤ length (now built)) ⌝ }
+    ensures { λ _. ⌜ now (buffer .exit) ≡ onRows (sumOf (now (counts .entry)))
+        (laterRows «fragment_size» «fragment_size» (builtOf (length (now (counts .entry)) - 1) (now (built .entry)))) (now (buffer .entry)) ⌝ }
 {
     let mut k = 1;
     while k < counts.len() {
@@ -165,8 +174,10 @@ pub(crate) fn fixup_rows(
     built: &[u64],
     first_stack_top: [u64; 16],
 )
-    requires { ⌜ (fragmentsWrong (length (now buffer)) «fragment_size» (now counts) (now built) ≡ false) × (noFragment (now counts) ≡ false) × (notFull «fragment_size» (now counts) ≡ false) ⌝ }
-    ensures { λ _. ⌜ now (buffer .exit) ≡ onRows (sumOf (now (counts .entry))) (fixedUp «fragment_size» «first_stack_top» (builtOf (length (now (counts .entry)) - 1) (now (built .entry)))) (now (buffer .entry)) ⌝ }
+    requires { ⌜ (fragmentsWrong (length (now buffer)) «fragment_size» (now counts) (now built) ≡ false) × (noFragment (now counts) ≡ false)
+        × (notFull «fragment_size» (now counts) ≡ false) ⌝ }
+    ensures { λ _. ⌜ now (buffer .exit) ≡ onRows (sumOf (now (counts .entry)))
+        (fixedUp «fragment_size» «first_stack_top» (builtOf (length (now (counts .entry)) - 1) (now (built .entry)))) (now (buffer .entry)) ⌝ }
 {
     write_first_stack(buffer, first_stack_top);
     write_later_rows(buffer, fragment_size, counts, built);
@@ -182,7 +193,12 @@ pub fn fixup_stack_and_system_rows(
     first_stack_top: [u64; 16],
 ) -> u32
     ensures number { λ r. ⌜ r ≡ refusal1 (now (buffer .entry)) «fragment_size» (now (counts .entry)) (now (built .entry)) ⌝ }
-    ensures cells { λ _. ⌜ now (buffer .exit) ≡ unlessRefused (refusal1 (now (buffer .entry)) «fragment_size» (now (counts .entry)) (now (built .entry))) (now (buffer .entry)) (onRows (sumOf (now (counts .entry))) (fixedUp «fragment_size» «first_stack_top» (builtOf (length (now (counts .entry)) - 1) (now (built .entry)))) (now (buffer .entry))) ⌝ }
+    ensures cells { λ _. ⌜ now (buffer .exit) ≡ unlessRefused
+        (refusal1 (now (buffer .entry)) «fragment_size» (now (counts .entry)) (now (built .entry)))
+        (now (buffer .entry))
+        (onRows (sumOf (now (counts .entry)))
+        (fixedUp «fragment_size» «first_stack_top» (builtOf (length (now (counts .entry)) - 1) (now (built .entry))))
+        (now (buffer .entry))) ⌝ }
 {
     let number = fixup_refusal(buffer, fragment_size, counts, built);
     if number != 0 {

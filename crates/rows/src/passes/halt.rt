@@ -8,11 +8,15 @@ use crate::records::row::write_row;
 use crate::records::state::StackCols;
 use crate::records::state::SystemCols;
 use field::cell::number_at;
+use field::felt::Felt;
+use groups::constants::Refusal;
+use groups::constants::Row;
 use groups::word::Word;
 ghost use mathlib.Core.Path.{_≡_};
 ghost use mathlib.Core.List.{[], _∷_};
 ghost use Prim.Native.Nat.{_+_, _*_, _≤_, _<_};
 ghost use lib.ListN.{length, take};
+ghost use Rattle.groups.specs.Constants.{rowWidth};
 ghost use Rattle.rows.specs.records.DecoderRows.{noWord, controlFlow};
 ghost use Rattle.rows.specs.records.Built.{systemCells, stackCells};
 ghost use Rattle.rows.specs.passes.Buffers.{rowsOf, onRows, lastRow};
@@ -71,22 +75,23 @@ fn stack_of(cells: &[u64]) -> StackCols
 
 // h0 to h3 of the last of the first `rows` rows, 0 where there is none.
 fn last_half(buffer: &[u64], rows: usize) -> Word
-    requires { ⌜ 49 * rows ≤ length (now buffer) ⌝ }
+    requires { ⌜ rowWidth * rows ≤ length (now buffer) ⌝ }
     ensures { λ r. ⌜ r ≡ firstHalf (lastRow (rowsOf rows (now (buffer .entry)))) ⌝ }
 {
     if rows == 0 {
-        return Word(0, 0, 0, 0);
+        return Word(Felt::ZERO, Felt::ZERO, Felt::ZERO, Felt::ZERO);
     }
-    word_in(buffer, 49 * rows - 35)
+    word_in(buffer, Row::WIDTH * rows - 35)
 }
 
 // The decoder part of a HALT row behind the first `rows` rows.
 fn halt_decoder(profile: Profile, buffer: &[u64], rows: usize) -> DecoderRow
-    requires { ⌜ 49 * rows ≤ length (now buffer) ⌝ }
+    requires { ⌜ rowWidth * rows ≤ length (now buffer) ⌝ }
     ensures { λ r. ⌜ r ≡ controlFlow (profile .halt) (firstHalf (lastRow (rowsOf rows (now (buffer .entry))))) noWord 0 ⌝ }
 {
     let first = last_half(buffer, rows);
-    DecoderRow::new_control_flow(profile.halt, first, Word(0, 0, 0, 0), 0)
+    let second = Word(Felt::ZERO, Felt::ZERO, Felt::ZERO, Felt::ZERO);
+    DecoderRow::new_control_flow(profile.halt, first, second, Felt::ZERO)
 }
 
 // What pass 4 refuses, 0 where it does not.
@@ -94,17 +99,17 @@ fn halt_refusal(profile: Profile, buffer: &[u64], rows: usize) -> u32
     ensures { λ r. ⌜ r ≡ refusal4 profile (now (buffer .entry)) rows ⌝ }
 {
     if is_wrong(profile) {
-        return 2;
+        return Refusal::BAD_PROFILE;
     }
-    if buffer_wrong(buffer.len()) | (buffer.len() / 49 <= rows) {
-        return 11;
+    if buffer_wrong(buffer.len()) | (buffer.len() / Row::WIDTH <= rows) {
+        return Refusal::BAD_LENGTH;
     }
     0
 }
 
 // Pass 4 where nothing is refused.
 pub(crate) fn push_halt(profile: Profile, buffer: &mut [u64], rows: usize, built: &[u64])
-    requires { ⌜ (49 * rows + 49 ≤ length (now buffer)) × (25 ≤ length (now built)) ⌝ }
+    requires { ⌜ (rowWidth * rows + rowWidth ≤ length (now buffer)) × (25 ≤ length (now built)) ⌝ }
     ensures { λ _. ⌜ now (buffer .exit) ≡ onRows rows (halted profile (now (built .entry))) (now (buffer .entry)) ⌝ }
 {
     let decoder = halt_decoder(profile, buffer, rows);
@@ -121,7 +126,8 @@ pub fn push_halt_opcode_row(
     built: [u64; 25],
 ) -> u32
     ensures { λ r. ⌜ r ≡ refusal4 profile (now (buffer .entry)) rows ⌝ }
-    ensures { λ _. ⌜ now (buffer .exit) ≡ unlessRefused (refusal4 profile (now (buffer .entry)) rows) (now (buffer .entry)) (onRows rows (halted profile built) (now (buffer .entry))) ⌝ }
+    ensures { λ _. ⌜ now (buffer .exit) ≡ unlessRefused (refusal4 profile (now (buffer .entry)) rows) (now (buffer .entry))
+        (onRows rows (halted profile built) (now (buffer .entry))) ⌝ }
 {
     let refusal = halt_refusal(profile, buffer, rows);
     if refusal != 0 {
@@ -136,12 +142,12 @@ fn padding_refusal(profile: Profile, buffer: &[u64], rows: usize, height: usize)
     ensures { λ r. ⌜ r ≡ refusal5 profile (now (buffer .entry)) rows height ⌝ }
 {
     if is_wrong(profile) {
-        return 2;
+        return Refusal::BAD_PROFILE;
     }
     if buffer_wrong(buffer.len())
         | ((rows == 0) | ((height < rows) | fewer_rows(buffer.len(), height)))
     {
-        return 11;
+        return Refusal::BAD_LENGTH;
     }
     0
 }
@@ -152,18 +158,18 @@ fn padding_system(row: usize) -> SystemCols
 {
     SystemCols {
         clk: row as u64,
-        ctx: 0,
-        fn_hash: Word(0, 0, 0, 0),
+        ctx: Felt::ZERO,
+        fn_hash: Word(Felt::ZERO, Felt::ZERO, Felt::ZERO, Felt::ZERO),
     }
 }
 
 // Pass 5 where nothing is refused.
 pub(crate) fn pad(profile: Profile, buffer: &mut [u64], rows: usize, height: usize)
-    requires { ⌜ (0 < rows) × (rows ≤ height) × (49 * height ≤ length (now buffer)) ⌝ }
+    requires { ⌜ (0 < rows) × (rows ≤ height) × (rowWidth * height ≤ length (now buffer)) ⌝ }
     ensures { λ _. ⌜ now (buffer .exit) ≡ onRows rows (padded profile height) (now (buffer .entry)) ⌝ }
 {
     let decoder = halt_decoder(profile, buffer, rows);
-    let at = 49 * rows - 19;
+    let at = Row::WIDTH * rows - 19;
     let stack = stack_of(&buffer[at..]);
     let mut row = rows;
     while row < height {
@@ -175,7 +181,8 @@ pub(crate) fn pad(profile: Profile, buffer: &mut [u64], rows: usize, height: usi
 // Writes HALT rows from row `rows` to the height, or answers the refusal's number and changes nothing.
 pub fn pad_core_row_major(profile: Profile, buffer: &mut [u64], rows: usize, height: usize) -> u32
     ensures { λ r. ⌜ r ≡ refusal5 profile (now (buffer .entry)) rows height ⌝ }
-    ensures { λ _. ⌜ now (buffer .exit) ≡ unlessRefused (refusal5 profile (now (buffer .entry)) rows height) (now (buffer .entry)) (onRows rows (padded profile height) (now (buffer .entry))) ⌝ }
+    ensures { λ _. ⌜ now (buffer .exit) ≡ unlessRefused (refusal5 profile (now (buffer .entry)) rows height) (now (buffer .entry))
+        (onRows rows (padded profile height) (now (buffer .entry))) ⌝ }
 {
     let refusal = padding_refusal(profile, buffer, rows, height);
     if refusal != 0 {

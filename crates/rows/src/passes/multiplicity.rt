@@ -8,14 +8,19 @@ use crate::records::profile::Profile;
 use crate::records::profile::is_wrong;
 use field::cell::cell;
 use field::cell::number_at;
+use field::felt::Felt;
+use groups::constants::Column;
+use groups::constants::Refusal;
+use groups::constants::Row;
 ghost use mathlib.Core.Path.{_≡_};
 ghost use mathlib.Core.Bool.{_||_};
 ghost use Prim.Native.Nat.{ℕ, _+_, _*_, _<_, _≤_};
 ghost use lib.ListN.{length, take, getD};
-ghost use Rattle.rows.specs.sorted.Order.{occurrences, Ordered};
-ghost use Rattle.rows.specs.passes.Buffers.{rowsOf, onRows, addrOf};
+ghost use Rattle.groups.specs.Constants.{rowWidth, mostRows};
+ghost use Rattle.rows.specs.ways.Order.{occurrences, Ordered};
+ghost use Rattle.rows.specs.passes.Buffers.{rowsOf, onRows, addrOf, rowAt};
 ghost use Rattle.rows.specs.passes.Passes.{opcodeOf, flaggedEnd, multiplied, loopWithoutBody, refusal2, unlessRefused};
-ghost use Rattle.rows.specs.passes.LoopCounts.{rowAt, isLoop, endsIn, lacksFrom, countedFrom, Alike, Tallied, Bumped, Took, Table};
+ghost use Rattle.rows.specs.ways.LoopCounts.{isLoop, endsIn, lacksFrom, countedFrom, Alike, Tallied, Bumped, Took, Table};
 
 // LOOP rows that were taken: their number, and the row behind the last of them.
 struct Taken {
@@ -24,13 +29,13 @@ struct Taken {
 }
 
 // The opcode of row i, from each bit cell's lowest bit; past the end, 0.
-pub fn opcode_at(buffer: &[u64], i: usize) -> u64
+pub fn decode_opcode(buffer: &[u64], i: usize) -> u64
     ensures { λ r. ⌜ r ≡ opcodeOf (rowAt i (now (buffer .entry))) ⌝ }
 {
-    if buffer.len() / 49 < i {
+    if buffer.len() / Row::WIDTH < i {
         return 0;
     }
-    let at = 49 * i;
+    let at = Row::WIDTH * i;
     cell(buffer, at + 7) % 2
         + 2 * (cell(buffer, at + 8) % 2)
         + 4 * (cell(buffer, at + 9) % 2)
@@ -41,33 +46,33 @@ pub fn opcode_at(buffer: &[u64], i: usize) -> u64
 }
 
 fn is_loop(profile: Profile, buffer: &[u64], i: usize) -> bool
-    requires { ⌜ i < 16777216 ⌝ }
+    requires { ⌜ i < mostRows ⌝ }
     ensures { λ r. ⌜ r ≡ isLoop profile (rowAt i (now (buffer .entry))) ⌝ }
 {
-    opcode_at(buffer, i) == profile.loop_op as u64
+    decode_opcode(buffer, i) == profile.loop_op as u64
 }
 
 fn is_flagged_end(profile: Profile, buffer: &[u64], i: usize) -> bool
-    requires { ⌜ i < 16777216 ⌝ }
+    requires { ⌜ i < mostRows ⌝ }
     ensures { λ r. ⌜ r ≡ flaggedEnd profile (rowAt i (now (buffer .entry))) ⌝ }
 {
-    if cell(buffer, 49 * i + 18) == 1 {
-        opcode_at(buffer, i) == profile.end as u64
+    if cell(buffer, Row::WIDTH * i + Column::H4) == Felt::ONE {
+        decode_opcode(buffer, i) == profile.end as u64
     } else {
         false
     }
 }
 
 fn addr_at(buffer: &[u64], i: usize) -> u64
-    requires { ⌜ i ≤ 16777216 ⌝ }
+    requires { ⌜ i ≤ mostRows ⌝ }
     ensures { λ r. ⌜ r ≡ addrOf (rowAt i (now (buffer .entry))) ⌝ }
 {
-    cell(buffer, 49 * i + 6)
+    cell(buffer, Row::WIDTH * i + Column::ADDR)
 }
 
 // Puts the addresses behind the LOOP rows from row `from` on into `keys`, at most 4096.
 fn gather(profile: Profile, buffer: &[u64], rows: usize, from: usize, keys: &mut [u64]) -> Taken
-    requires { ⌜ (from + 1 < rows) × (rows ≤ 16777216) × (length (now keys) ≡ 8192) ⌝ }
+    requires { ⌜ (from + 1 < rows) × (rows ≤ mostRows) × (length (now keys) ≡ 8192) ⌝ }
     ensures { λ r. ⌜ Took profile (now (buffer .entry)) rows from (now (keys .exit)) (r .count) (r .next) ⌝ }
 {
     let mut count: usize = 0;
@@ -89,7 +94,7 @@ fn gather(profile: Profile, buffer: &[u64], rows: usize, from: usize, keys: &mut
 
 // The same, the keys being in order.
 fn take_loops(profile: Profile, buffer: &[u64], rows: usize, from: usize, keys: &mut [u64]) -> Taken
-    requires { ⌜ (from + 1 < rows) × (rows ≤ 16777216) × (length (now keys) ≡ 8192) ⌝ }
+    requires { ⌜ (from + 1 < rows) × (rows ≤ mostRows) × (length (now keys) ≡ 8192) ⌝ }
     ensures { λ r. ⌜ Took profile (now (buffer .entry)) rows from (now (keys .exit)) (r .count) (r .next) × Ordered (take (r .count) (now (keys .exit))) ⌝ }
 {
     let taken = gather(profile, buffer, rows, from, keys);
@@ -99,7 +104,7 @@ fn take_loops(profile: Profile, buffer: &[u64], rows: usize, from: usize, keys: 
 
 // Adds 1 to the count of the key x, if there is such a key.
 fn bump(keys: &[u64], counts: &mut [u64], x: u64)
-    requires { ⌜ (length (now keys) ≤ 4096) × (length (now counts) ≡ 4096) × Ordered (now keys) × ((p : ℕ) → getD (now counts) p 0 < 16777216) ⌝ }
+    requires { ⌜ (length (now keys) ≤ 4096) × (length (now counts) ≡ 4096) × Ordered (now keys) × ((p : ℕ) → getD (now counts) p 0 < mostRows) ⌝ }
     ensures { λ _. ⌜ Bumped (now (keys .entry)) x (now (counts .entry)) (now (counts .exit)) ⌝ }
 {
     let at = crate::sorted::lower(keys, x);
@@ -112,7 +117,7 @@ fn bump(keys: &[u64], counts: &mut [u64], x: u64)
 
 // Counts, at the first place of each key, the flagged ENDs but the last row that have the key's address behind them.
 fn count_ends(profile: Profile, buffer: &[u64], rows: usize, keys: &[u64]) -> [u64; 4096]
-    requires { ⌜ (0 < rows) × (rows ≤ 16777216) × (length (now keys) ≤ 4096) × Ordered (now keys) ⌝ }
+    requires { ⌜ (0 < rows) × (rows ≤ mostRows) × (length (now keys) ≤ 4096) × Ordered (now keys) ⌝ }
     ensures { λ r. ⌜ (length r ≡ 4096) × Tallied (now (keys .entry)) r (endsIn profile rows (now (buffer .entry))) ⌝ }
 {
     let mut counts = [0u64; 4096];
@@ -131,7 +136,8 @@ fn count_ends(profile: Profile, buffer: &[u64], rows: usize, keys: &[u64]) -> [u
 
 // The count of the key x.
 fn count_of(keys: &[u64], counts: &[u64], x: u64) -> u64
-    ensures { λ r. ⌜ (Ordered (now (keys .entry)) → 0 < occurrences x (now (keys .entry)) → (count : ℕ → ℕ) → Tallied (now (keys .entry)) (now (counts .entry)) count → r ≡ count x) ⌝ }
+    ensures { λ r. ⌜ (Ordered (now (keys .entry)) → 0 < occurrences x (now (keys .entry)) → (count : ℕ → ℕ)
+        → Tallied (now (keys .entry)) (now (counts .entry)) count → r ≡ count x) ⌝ }
 {
     number_at(counts, crate::sorted::lower(keys, x))
 }
@@ -146,9 +152,10 @@ fn any_between(
     keys: &[u64],
     counts: &[u64],
 ) -> bool
-    requires { ⌜ (from ≤ next) × (next < rows) × (rows ≤ 16777216) ⌝ }
+    requires { ⌜ (from ≤ next) × (next < rows) × (rows ≤ mostRows) ⌝ }
     requires { ⌜ Table profile (now buffer) rows from next (now keys) (now counts) ⌝ }
-    ensures { λ r. ⌜ (r || lacksFrom profile (endsIn profile rows (now (buffer .entry))) rows next (now (buffer .entry))) ≡ lacksFrom profile (endsIn profile rows (now (buffer .entry))) rows from (now (buffer .entry)) ⌝ }
+    ensures { λ r. ⌜ (r || lacksFrom profile (endsIn profile rows (now (buffer .entry))) rows next (now (buffer .entry)))
+        ≡ lacksFrom profile (endsIn profile rows (now (buffer .entry))) rows from (now (buffer .entry)) ⌝ }
 {
     let mut i = from;
     while i < next {
@@ -166,7 +173,7 @@ fn any_between(
 
 // Refusal 14: whether the count of a LOOP row but the last comes to 0.
 pub(crate) fn any_without_body(profile: Profile, buffer: &[u64], rows: usize) -> bool
-    requires { ⌜ (49 * rows ≤ length (now buffer)) × (rows ≤ 16777216) ⌝ }
+    requires { ⌜ (rowWidth * rows ≤ length (now buffer)) × (rows ≤ mostRows) ⌝ }
     ensures { λ r. ⌜ r ≡ loopWithoutBody profile (rowsOf rows (now (buffer .entry))) ⌝ }
 {
     let mut keys = [0u64; 8192];
@@ -194,15 +201,17 @@ fn write_between(
     keys: &[u64],
     counts: &[u64],
 )
-    requires { ⌜ (from ≤ next) × (next < rows) × (rows ≤ 16777216) × (49 * rows ≤ length (now buffer)) ⌝ }
+    requires { ⌜ (from ≤ next) × (next < rows) × (rows ≤ mostRows) × (rowWidth * rows ≤ length (now buffer)) ⌝ }
     requires { ⌜ Table profile (now buffer) rows from next (now keys) (now counts) ⌝ }
-    ensures { λ _. ⌜ Alike (now (buffer .exit)) (now (buffer .entry)) × (countedFrom profile (endsIn profile rows (now (buffer .entry))) rows next (now (buffer .exit)) ≡ countedFrom profile (endsIn profile rows (now (buffer .entry))) rows from (now (buffer .entry))) ⌝ }
+    ensures { λ _. ⌜ Alike (now (buffer .exit)) (now (buffer .entry))
+        × (countedFrom profile (endsIn profile rows (now (buffer .entry))) rows next (now (buffer .exit))
+        ≡ countedFrom profile (endsIn profile rows (now (buffer .entry))) rows from (now (buffer .entry))) ⌝ }
 {
     let mut i = from;
     while i < next {
         if is_loop(profile, buffer, i) {
             let count = count_of(keys, counts, addr_at(buffer, i + 1));
-            buffer[49 * i + 23] = count;
+            buffer[Row::WIDTH * i + Column::GROUP_COUNT] = count;
             i += 1;
         } else {
             i += 1;
@@ -212,7 +221,7 @@ fn write_between(
 
 // Each LOOP row but the last row gets the number of its body's ENDs.
 pub(crate) fn write_multiplicities(profile: Profile, buffer: &mut [u64], rows: usize)
-    requires { ⌜ (49 * rows ≤ length (now buffer)) × (rows ≤ 16777216) ⌝ }
+    requires { ⌜ (rowWidth * rows ≤ length (now buffer)) × (rows ≤ mostRows) ⌝ }
     ensures { λ _. ⌜ now (buffer .exit) ≡ onRows rows (multiplied profile) (now (buffer .entry)) ⌝ }
 {
     let mut keys = [0u64; 8192];
@@ -232,13 +241,13 @@ fn multiplicity_refusal(profile: Profile, buffer: &[u64], rows: usize) -> u32
     ensures { λ r. ⌜ r ≡ refusal2 profile (now (buffer .entry)) rows ⌝ }
 {
     if is_wrong(profile) {
-        return 2;
+        return Refusal::BAD_PROFILE;
     }
     if buffer_wrong(buffer.len()) | fewer_rows(buffer.len(), rows) {
-        return 11;
+        return Refusal::BAD_LENGTH;
     }
     if any_without_body(profile, buffer, rows) {
-        return 14;
+        return Refusal::NO_BODY_END;
     }
     0
 }
@@ -246,7 +255,8 @@ fn multiplicity_refusal(profile: Profile, buffer: &[u64], rows: usize) -> u32
 // Finishing pass 2: each LOOP row but the last of the first `rows` rows gets the number of its body's ENDs.
 pub fn set_loop_body_multiplicities(profile: Profile, buffer: &mut [u64], rows: usize) -> u32
     ensures { λ r. ⌜ r ≡ refusal2 profile (now (buffer .entry)) rows ⌝ }
-    ensures { λ _. ⌜ now (buffer .exit) ≡ unlessRefused (refusal2 profile (now (buffer .entry)) rows) (now (buffer .entry)) (onRows rows (multiplied profile) (now (buffer .entry))) ⌝ }
+    ensures { λ _. ⌜ now (buffer .exit) ≡ unlessRefused (refusal2 profile (now (buffer .entry)) rows) (now (buffer .entry))
+        (onRows rows (multiplied profile) (now (buffer .entry))) ⌝ }
 {
     let number = multiplicity_refusal(profile, buffer, rows);
     if number != 0 {

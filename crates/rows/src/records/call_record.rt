@@ -15,11 +15,13 @@ use crate::records::state::StackState;
 use crate::records::state::SystemState;
 use field::cell::cell;
 use field::cell::number_at;
+use groups::constants::Refusal;
 use groups::helpers::OperationHelperRegisters;
 use groups::word::QuadFelt;
 use groups::word::Word;
 use groups::word::word_at;
 ghost use mathlib.Core.Path.{_≡_};
+ghost use Rattle.groups.specs.Answer.{refusal};
 ghost use Rattle.rows.specs.records.CallRecords.{ReadAs32, conditionIn, calleeIn, infoIn, toldInfo, resumeIn, respanIn, continuationOn, namesNoKind, continuationIn, toldContinuation, namesNothing, storedInRecord, toldStored, systemIn, toldSystem, stackIn, fewCells, manyCells, registersIn, toldRegisters};
 
 // A number of 32 bits.
@@ -108,11 +110,11 @@ fn resume_at(numbers: &[u64], node_id: MastNodeId) -> ContinuationFound
 {
     let batch = narrow(number_at(numbers, 3));
     let Small::Is(batch_index) = batch else {
-        return ContinuationFound::Refused(5);
+        return ContinuationFound::Refused(Refusal::NO_SUCH_BATCH);
     };
     let op = narrow(number_at(numbers, 4));
     let Small::Is(op_idx_in_batch) = op else {
-        return ContinuationFound::Refused(6);
+        return ContinuationFound::Refused(Refusal::NO_SUCH_OPERATION);
     };
     ContinuationFound::Is(Continuation::ResumeBasicBlock {
         node_id,
@@ -127,7 +129,7 @@ fn respan_at(numbers: &[u64], node_id: MastNodeId) -> ContinuationFound
 {
     let batch = narrow(number_at(numbers, 3));
     let Small::Is(batch_index) = batch else {
-        return ContinuationFound::Refused(5);
+        return ContinuationFound::Refused(Refusal::NO_SUCH_BATCH);
     };
     ContinuationFound::Is(Continuation::Respan {
         node_id,
@@ -149,7 +151,7 @@ fn continuation_on(numbers: &[u64], kind: u64, id: MastNodeId) -> ContinuationFo
         7 => resume_at(numbers, id),
         8 => respan_at(numbers, id),
         9 => ContinuationFound::Is(Continuation::FinishBasicBlock(id)),
-        _ => ContinuationFound::Refused(23),
+        _ => ContinuationFound::Refused(Refusal::STORED_ABSENT),
     }
 }
 
@@ -166,14 +168,14 @@ fn continuation_at(numbers: &[u64]) -> ContinuationFound
 {
     let kind = number_at(numbers, 1);
     if names_no_kind(kind) {
-        return ContinuationFound::Refused(23);
+        return ContinuationFound::Refused(Refusal::STORED_ABSENT);
     }
     if kind == 10 {
         return ContinuationFound::Is(Continuation::EnterForest);
     }
     let node = narrow(number_at(numbers, 2));
     let Small::Is(id) = node else {
-        return ContinuationFound::Refused(3);
+        return ContinuationFound::Refused(Refusal::NO_SUCH_NODE);
     };
     continuation_on(numbers, kind, MastNodeId(id))
 }
@@ -187,35 +189,43 @@ fn names_nothing(numbers: &[u64]) -> bool
             | ((1 < number_at(numbers, 7)) | (1 < number_at(numbers, 12))))
 }
 
+// The number that a continuation is refused with, or 0.
+fn continuation_refusal(found: ContinuationFound) -> u32
+    ensures { λ r. ⌜ r ≡ refusal (toldContinuation found) ⌝ }
+{
+    match found {
+        ContinuationFound::Refused(n) => n,
+        ContinuationFound::Is(_) => 0,
+    }
+}
+
 // What a storing is given, or the lowest number that holds of 3, 5, 6 and 23.
 pub fn stored_at(numbers: &[u64]) -> StoredFound
     ensures { λ r. ⌜ toldStored r ≡ storedInRecord (now (numbers .entry)) ⌝ }
 {
     let next = continuation_at(numbers);
-    match next {
-        ContinuationFound::Refused(n) => StoredFound::Refused(n),
-        ContinuationFound::Is(continuation) => {
-            let found = info_at(numbers);
-            let InfoFound::Is(info) = found else {
-                return StoredFound::Refused(23);
-            };
-            if names_nothing(numbers) {
-                return StoredFound::Refused(23);
-            }
-            let condition = condition_at(numbers);
-            let callee = callee_at(numbers);
-            let captured = Captured {
-                condition,
-                callee,
-                info,
-            };
-            StoredFound::Are(StoredValues {
-                continuation,
-                is_loop_body: number_at(numbers, 5) == 1,
-                captured,
-            })
-        }
+    let ContinuationFound::Is(continuation) = next else {
+        return StoredFound::Refused(continuation_refusal(next));
+    };
+    let found = info_at(numbers);
+    let InfoFound::Is(info) = found else {
+        return StoredFound::Refused(Refusal::STORED_ABSENT);
+    };
+    if names_nothing(numbers) {
+        return StoredFound::Refused(Refusal::STORED_ABSENT);
     }
+    let condition = condition_at(numbers);
+    let callee = callee_at(numbers);
+    let captured = Captured {
+        finish_loop_condition: condition,
+        dyn_callee_hash: callee,
+        ctx_info: info,
+    };
+    StoredFound::Are(StoredValues {
+        continuation,
+        is_loop_body: number_at(numbers, 5) == 1,
+        captured,
+    })
 }
 
 // Number 2 the clock row, 3 the context, each of 32 bits (23), 4 to 7 fn_hash.

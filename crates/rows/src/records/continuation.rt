@@ -74,9 +74,9 @@ fn read_info(info: ContextInfo) -> ContextInfo
 
 // The captured values that a row uses up.
 pub struct Captured {
-    pub condition: LoopCondition,
-    pub callee: CalleeWord,
-    pub info: ContextInfo,
+    pub finish_loop_condition: LoopCondition,
+    pub dyn_callee_hash: CalleeWord,
+    pub ctx_info: ContextInfo,
 }
 
 impl Captured {
@@ -84,15 +84,15 @@ impl Captured {
     pub fn read(self) -> Self
         ensures { λ r. ⌜ r ≡ readCaptured self ⌝ }
     {
-        let condition = self.condition;
-        let word = self.callee;
+        let condition = self.finish_loop_condition;
+        let word = self.dyn_callee_hash;
         let callee = read_callee(word);
-        let context = self.info;
+        let context = self.ctx_info;
         let info = read_info(context);
         Self {
-            condition,
-            callee,
-            info,
+            finish_loop_condition: condition,
+            dyn_callee_hash: callee,
+            ctx_info: info,
         }
     }
 }

@@ -1,5 +1,6 @@
 // The decoder part of a row.
-use groups::batch::Batch;
+use field::felt::Felt;
+use groups::batch::OpBatch;
 use groups::flags::BatchFlags;
 use groups::helpers::UserOpHelpers;
 use groups::word::Word;
@@ -9,12 +10,12 @@ ghost use Rattle.rows.specs.records.DecoderRows.{controlFlow, basicBlock
 pub struct DecoderRow {
     pub addr: u64,
     pub opcode: u8,
-    pub first: Word,
-    pub second: Word,
+    pub hasher_state_first_word: Word,
+    pub hasher_state_second_word: Word,
     pub in_basic_block: u64,
     pub group_count: u64,
     pub op_index: u64,
-    pub batch_flags: BatchFlags,
+    pub op_batch_flags: BatchFlags,
 }
 
 // How an END's entry of the block stack is marked.
@@ -32,7 +33,7 @@ pub struct EndBlockFlags {
 fn one_if(flag: bool) -> u64
     ensures { λ r. ⌜ r ≡ bit flag ⌝ }
 {
-    if flag { 1 } else { 0 }
+    if flag { Felt::ONE } else { Felt::ZERO }
 }
 
 impl EndBlockFlags {
@@ -43,9 +44,14 @@ impl EndBlockFlags {
         let body = one_if(self.is_loop_body);
         let kind = self.entry_kind;
         match kind {
-            EndBlockStackEntryKind::Continuation => Word(body, 0, 0, 0),
-            EndBlockStackEntryKind::LoopContinuation => Word(body, 1, 0, 0),
-            EndBlockStackEntryKind::CallerFrame => Word(body, 0, 1, 0),
+            EndBlockStackEntryKind::Continuation => Word(body, Felt::ZERO, Felt::ZERO, Felt::ZERO),
+            EndBlockStackEntryKind::LoopContinuation => Word(
+                body,
+                Felt::ONE,
+                Felt::ZERO,
+                Felt::ZERO,
+            ),
+            EndBlockStackEntryKind::CallerFrame => Word(body, Felt::ZERO, Felt::ONE, Felt::ZERO),
         }
     }
 }
@@ -58,19 +64,19 @@ impl DecoderRow {
         Self {
             addr,
             opcode,
-            first,
-            second,
-            in_basic_block: 0,
-            group_count: 0,
-            op_index: 0,
-            batch_flags: BatchFlags(0, 0, 0),
+            hasher_state_first_word: first,
+            hasher_state_second_word: second,
+            in_basic_block: Felt::ZERO,
+            group_count: Felt::ZERO,
+            op_index: Felt::ZERO,
+            op_batch_flags: BatchFlags(Felt::ZERO, Felt::ZERO, Felt::ZERO),
         }
     }
 
     // A SPAN or RESPAN row.
     pub fn new_basic_block_batch(
         opcode: u8,
-        batch: Batch,
+        batch: OpBatch,
         addr: u64,
         group_count: u64,
         batch_flags: BatchFlags,
@@ -82,12 +88,12 @@ impl DecoderRow {
         Self {
             addr,
             opcode,
-            first,
-            second,
-            in_basic_block: 0,
+            hasher_state_first_word: first,
+            hasher_state_second_word: second,
+            in_basic_block: Felt::ZERO,
             group_count,
-            op_index: 0,
-            batch_flags,
+            op_index: Felt::ZERO,
+            op_batch_flags: batch_flags,
         }
     }
 
@@ -106,12 +112,12 @@ impl DecoderRow {
         Self {
             addr,
             opcode,
-            first: Word(group, parent_addr, helpers.h2, helpers.h3),
-            second: Word(helpers.h4, helpers.h5, helpers.h6, helpers.h7),
-            in_basic_block: 1,
+            hasher_state_first_word: Word(group, parent_addr, helpers.h2, helpers.h3),
+            hasher_state_second_word: Word(helpers.h4, helpers.h5, helpers.h6, helpers.h7),
+            in_basic_block: Felt::ONE,
             group_count,
             op_index,
-            batch_flags: BatchFlags(0, 0, 0),
+            op_batch_flags: BatchFlags(Felt::ZERO, Felt::ZERO, Felt::ZERO),
         }
     }
 }

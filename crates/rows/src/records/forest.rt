@@ -1,8 +1,8 @@
 // The lent forest. Six numbers a node in `nodes`: what the slot holds, two children, and of a block its total of groups, the record
 // of its first batch and how many batches it has. Four cells a node in `digests`. `ops` has one opcode a byte.
 use crate::records::ids::MastNodeId;
-use groups::batch::Batch;
-use groups::batch::Block;
+use groups::batch::BasicBlockNode;
+use groups::batch::OpBatch;
 use groups::number::number;
 use groups::word::Word;
 use groups::word::word_at;
@@ -10,8 +10,8 @@ ghost use mathlib.Core.Path.{_≡_};
 ghost use Prim.Native.Nat.{_+_, _*_, _≤_, _<_};
 ghost use Rattle.rows.specs.records.Forests.{isSlot, kindAt, slotBlock, IsNodeOf, nodeAt, digestAt, opcodeAt, blockOf, toldNode, toldDigest, toldOpcode, toldBlock};
 
-pub enum Node {
-    Block(Block),
+pub enum MastNode {
+    Block(BasicBlockNode),
     Join(MastNodeId, MastNodeId),
     Split(MastNodeId, MastNodeId),
     Loop(MastNodeId),
@@ -24,7 +24,7 @@ pub enum Node {
 
 // A node and its digest.
 pub struct NodeEntry {
-    pub node: Node,
+    pub node: MastNode,
     pub digest: Word,
 }
 
@@ -44,7 +44,7 @@ pub enum OpcodeFound {
 }
 
 pub enum BlockFound {
-    Is(Block),
+    Is(BasicBlockNode),
     Other,
 }
 
@@ -70,11 +70,11 @@ fn kind_at(nodes: &[u32], digests: &[u64], id: MastNodeId) -> u32
 }
 
 // The block of a slot, where it is one.
-fn slot_block(nodes: &[u32], id: MastNodeId) -> Block
+fn slot_block(nodes: &[u32], id: MastNodeId) -> BasicBlockNode
     ensures { λ r. ⌜ r ≡ slotBlock (now (nodes .entry)) (id .0) ⌝ }
 {
     let at = 6 * (id.0 as usize);
-    Block {
+    BasicBlockNode {
         total: number(nodes, at + 3),
         first_batch: number(nodes, at + 4),
         batches: number(nodes, at + 5),
@@ -82,20 +82,20 @@ fn slot_block(nodes: &[u32], id: MastNodeId) -> Block
 }
 
 // The node of a slot, by what it holds.
-fn node_of(kind: u32, first: u32, second: u32, block: Block) -> Node
+fn node_of(kind: u32, first: u32, second: u32, block: BasicBlockNode) -> MastNode
     requires { ⌜ (2 ≤ kind) × (kind ≤ 10) ⌝ }
     ensures { λ r. ⌜ IsNodeOf r kind first second block ⌝ }
 {
     match kind {
-        2 => Node::Block(block),
-        3 => Node::Join(MastNodeId(first), MastNodeId(second)),
-        4 => Node::Split(MastNodeId(first), MastNodeId(second)),
-        5 => Node::Loop(MastNodeId(first)),
-        6 => Node::Call(MastNodeId(first)),
-        7 => Node::Syscall(MastNodeId(first)),
-        8 => Node::Dyn,
-        9 => Node::Dyncall,
-        _ => Node::External,
+        2 => MastNode::Block(block),
+        3 => MastNode::Join(MastNodeId(first), MastNodeId(second)),
+        4 => MastNode::Split(MastNodeId(first), MastNodeId(second)),
+        5 => MastNode::Loop(MastNodeId(first)),
+        6 => MastNode::Call(MastNodeId(first)),
+        7 => MastNode::Syscall(MastNodeId(first)),
+        8 => MastNode::Dyn,
+        9 => MastNode::Dyncall,
+        _ => MastNode::External,
     }
 }
 
@@ -136,7 +136,7 @@ pub fn digest_at(nodes: &[u32], digests: &[u64], id: MastNodeId) -> DigestFound
 }
 
 // The opcode of operation `op` of the batch, or 6: the batch has no such operation, or it lies past the slice.
-pub fn opcode_at(ops: &[u8], batch: Batch, op: u32) -> OpcodeFound
+pub fn opcode_at(ops: &[u8], batch: OpBatch, op: u32) -> OpcodeFound
     ensures { λ r. ⌜ toldOpcode r ≡ opcodeAt (now (ops .entry)) batch op ⌝ }
 {
     if batch.num_ops <= op {
@@ -151,18 +151,18 @@ pub fn opcode_at(ops: &[u8], batch: Batch, op: u32) -> OpcodeFound
 }
 
 // The block that a node is, or 4.
-pub fn as_block(node: Node) -> BlockFound
+pub fn as_block(node: MastNode) -> BlockFound
     ensures { λ r. ⌜ toldBlock r ≡ blockOf node ⌝ }
 {
     match node {
-        Node::Block(block) => BlockFound::Is(block),
-        Node::Join(_, _) => BlockFound::Other,
-        Node::Split(_, _) => BlockFound::Other,
-        Node::Loop(_) => BlockFound::Other,
-        Node::Call(_) => BlockFound::Other,
-        Node::Syscall(_) => BlockFound::Other,
-        Node::Dyn => BlockFound::Other,
-        Node::Dyncall => BlockFound::Other,
-        Node::External => BlockFound::Other,
+        MastNode::Block(block) => BlockFound::Is(block),
+        MastNode::Join(_, _) => BlockFound::Other,
+        MastNode::Split(_, _) => BlockFound::Other,
+        MastNode::Loop(_) => BlockFound::Other,
+        MastNode::Call(_) => BlockFound::Other,
+        MastNode::Syscall(_) => BlockFound::Other,
+        MastNode::Dyn => BlockFound::Other,
+        MastNode::Dyncall => BlockFound::Other,
+        MastNode::External => BlockFound::Other,
     }
 }

@@ -2,7 +2,10 @@
 use crate::records::decoder_row::DecoderRow;
 use crate::records::state::StackCols;
 use crate::records::state::SystemCols;
+use field::felt::Felt;
 use field::felt::reduce;
+use groups::constants::Column;
+use groups::constants::Row;
 ghost use mathlib.Core.Path.{_≡_};
 ghost use mathlib.Core.List.{_++_};
 ghost use Rattle.rows.specs.records.DecoderRows.{extra0, extra1, decoderCells};
@@ -36,7 +39,7 @@ pub fn copy_in(dst: &mut [u64], at: usize, src: &[u64])
 fn extra_0(op: u64) -> u64
     ensures { λ r. ⌜ r ≡ extra0 op ⌝ }
 {
-    (op / 64 % 2) * (1 - op / 32 % 2) * (op / 16 % 2)
+    (op / 64 % 2) * (Felt::ONE - op / 32 % 2) * (op / 16 % 2)
 }
 
 fn extra_1(op: u64) -> u64
@@ -67,20 +70,20 @@ fn first_cells(system: SystemCols, d: DecoderRow) -> [u64; 30]
         op / 16 % 2,
         op / 32 % 2,
         op / 64 % 2,
-        d.first.0,
-        d.first.1,
-        d.first.2,
-        d.first.3,
-        d.second.0,
-        d.second.1,
-        d.second.2,
-        d.second.3,
+        d.hasher_state_first_word.0,
+        d.hasher_state_first_word.1,
+        d.hasher_state_first_word.2,
+        d.hasher_state_first_word.3,
+        d.hasher_state_second_word.0,
+        d.hasher_state_second_word.1,
+        d.hasher_state_second_word.2,
+        d.hasher_state_second_word.3,
         d.in_basic_block,
         d.group_count,
         d.op_index,
-        d.batch_flags.0,
-        d.batch_flags.1,
-        d.batch_flags.2,
+        d.op_batch_flags.0,
+        d.op_batch_flags.1,
+        d.op_batch_flags.2,
         x0,
         x1,
     ]
@@ -96,20 +99,20 @@ pub fn write_row(
 )
     ensures { λ _. ⌜ now (buffer .exit) ≡ rowWritten (now (buffer .entry)) row (rowCells system d stack) ⌝ }
 {
-    if buffer.len() / 49 <= row {
+    if buffer.len() / Row::WIDTH <= row {
         return;
     }
     let first = first_cells(system, d);
     let top = stack.top;
     let rest = [stack.b0, stack.b1, stack.h0];
-    copy_in(buffer, 49 * row, &first);
-    copy_in(buffer, 49 * row + 30, &top);
-    copy_in(buffer, 49 * row + 46, &rest);
+    copy_in(buffer, Row::WIDTH * row, &first);
+    copy_in(buffer, Row::WIDTH * row + Column::STACK, &top);
+    copy_in(buffer, Row::WIDTH * row + Column::B0, &rest);
 }
 
 // Refusal 11 of the fragment.
 pub fn fragment_wrong(cells: usize, rows: usize) -> bool
     ensures { λ r. ⌜ r ≡ fragmentWrong cells rows ⌝ }
 {
-    (0 < cells % 49) | ((16777216 < cells / 49) | (cells / 49 < rows))
+    (0 < cells % Row::WIDTH) | ((Row::MOST < cells / Row::WIDTH) | (cells / Row::WIDTH < rows))
 }

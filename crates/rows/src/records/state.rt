@@ -1,6 +1,7 @@
 // What a cycle is given of the system and the stack, and the cells that are built of them for the next row.
 use crate::records::ids::ContextId;
 use crate::records::ids::RowIndex;
+use field::felt::Felt;
 use field::felt::reduce;
 use groups::word::Word;
 use groups::word::read_word;
@@ -41,9 +42,9 @@ impl SystemCols {
         ensures { λ r. ⌜ r ≡ noSystem ⌝ }
     {
         Self {
-            clk: 0,
-            ctx: 0,
-            fn_hash: Word(0, 0, 0, 0),
+            clk: Felt::ZERO,
+            ctx: Felt::ZERO,
+            fn_hash: Word(Felt::ZERO, Felt::ZERO, Felt::ZERO, Felt::ZERO),
         }
     }
 
@@ -137,10 +138,10 @@ impl StackCols {
         ensures { λ r. ⌜ r ≡ noStack ⌝ }
     {
         Self {
-            top: [0, 0, 0, 0, 0, 0, 0, 0, 0, 0, 0, 0, 0, 0, 0, 0],
-            b0: 0,
-            b1: 0,
-            h0: 0,
+            top: [Felt::ZERO; 16],
+            b0: Felt::ZERO,
+            b1: Felt::ZERO,
+            h0: Felt::ZERO,
         }
     }
 

@@ -5,6 +5,8 @@ use crate::cycles::cycle::kept;
 use crate::cycles::scan::Scan;
 use crate::cycles::scan::scan_lent;
 use crate::cycles::tracer::CoreTraceGenerationTracer;
+use crate::records::address_state::DecoderState;
+use crate::records::address_state::Positions;
 use crate::records::call_record::RegistersFound;
 use crate::records::call_record::Small;
 use crate::records::call_record::StoredFound;
@@ -15,32 +17,27 @@ use crate::records::call_record::stack_at;
 use crate::records::call_record::stored_at;
 use crate::records::call_record::system_at;
 use crate::records::profile::Profile;
-use crate::records::replay::DecoderState;
-use crate::records::replay::Positions;
-use crate::records::state::StackCols;
 use crate::records::state::StackState;
-use crate::records::state::SystemCols;
 use crate::records::state::SystemState;
+use crate::replay::directory::directory_entry;
 use crate::replay::directory::part_of_cells;
 use crate::replay::directory::part_of_numbers;
 use crate::replay::directory::part_of_opcodes;
-use crate::replay::directory::parts_at;
 use field::cell::number_at;
+use groups::constants::Refusal;
 use groups::helpers::OperationHelperRegisters;
 ghost use mathlib.Core.Path.{_≡_};
 ghost use Prim.Native.Nat.{_/_};
 ghost use lib.ListN.{length};
-ghost use Rattle.groups.specs.Answer.{accepted, pick};
-ghost use Rattle.rows.specs.records.Forests.{forest};
-ghost use Rattle.rows.specs.records.Addresses.{queues};
-ghost use Rattle.rows.specs.replay.Calls.{setting, scanned, refusing, storingDone, callDone, callWritten, through, written, ending, builtCells, nextState, nextPositions, told, replayed, replayedFragment};
-ghost use Rattle.rows.specs.records.CallRecords.{storedInRecord, finishIn, finishes, callIn};
+ghost use Rattle.groups.specs.Answer.{refusal, accepted, pick};
+ghost use Rattle.rows.specs.replay.Calls.{lentSetting, lentScanned, refusing, storingDone, callDone, callWritten, through, written, ending, nextState, nextPositions, told, replayed, replayedFragment};
+ghost use Rattle.rows.specs.records.CallRecords.{storedInRecord, toldStored, finishIn, finishes, callIn};
 
 // What a replay answers: 0 or the refusal's number, and on 0 how many rows are written, the cells built last (clk, ctx, fn_hash 4; top
 // 16, b0, b1, helper), and the address state and queue positions for the next fragment. On a refusal all others are 0.
 #[repr(C)]
 pub struct Replayed {
-    pub number: u32,
+    pub refusal: u32,
     pub rows: usize,
     pub built: [u64; 25],
     pub state: DecoderState,
@@ -57,18 +54,26 @@ fn refuse(n: u32, tracer: CoreTraceGenerationTracer) -> CoreTraceGenerationTrace
     kept(n, tracer)
 }
 
+// The number that a storing's record is refused with, or 0.
+fn stored_refusal(found: StoredFound) -> u32
+    ensures { λ r. ⌜ r ≡ refusal (toldStored found) ⌝ }
+{
+    match found {
+        StoredFound::Refused(n) => n,
+        StoredFound::Are(_) => 0,
+    }
+}
+
 // A storing.
 fn store(numbers: &[u64], tracer: CoreTraceGenerationTracer) -> CoreTraceGenerationTracer
     ensures { λ r. ⌜ r ≡ storingDone tracer (storedInRecord (now (numbers .entry))) ⌝ }
 {
     let found = stored_at(numbers);
-    match found {
-        StoredFound::Refused(n) => refuse(n, tracer),
-        StoredFound::Are(values) => {
-            let stored = tracer.start_clock_cycle(values);
-            stored.tracer
-        }
-    }
+    let StoredFound::Are(values) = found else {
+        return refuse(stored_refusal(found), tracer);
+    };
+    let stored = tracer.start_clock_cycle(values);
+    stored.tracer
 }
 
 // A finish in the forest of a number. `write` says whether its row is written.
@@ -92,10 +97,14 @@ fn finish_in(
     tracer: CoreTraceGenerationTracer,
     fragment: &mut [u64],
 ) -> CoreTraceGenerationTracer
-    ensures { λ r. ⌜ r ≡ callDone (setting scan profile (forest (now (nodes .entry)) (now (digests .entry)) (now (batches .entry)) (now (groups .entry)) (now (ops .entry))) (now (directory .entry)) (queues (now (addresses .entry)) (now (parents .entry)) (now (ends .entry))) (length (now (fragment .entry)))) tracer (accepted (finishes «forest_number» system stack registers)) ⌝ }
-    ensures { λ _. ⌜ now (fragment .exit) ≡ pick write (callWritten (setting scan profile (forest (now (nodes .entry)) (now (digests .entry)) (now (batches .entry)) (now (groups .entry)) (now (ops .entry))) (now (directory .entry)) (queues (now (addresses .entry)) (now (parents .entry)) (now (ends .entry))) (length (now (fragment .entry)))) tracer (accepted (finishes «forest_number» system stack registers)) (now (fragment .entry))) (now (fragment .entry)) ⌝ }
+    ensures { λ r. ⌜ r ≡ callDone (lentSetting scan profile nodes digests batches groups ops directory addresses parents ends fragment) tracer
+        (accepted (finishes «forest_number» system stack registers)) ⌝ }
+    ensures { λ _. ⌜ now (fragment .exit) ≡ pick write
+        (callWritten (lentSetting scan profile nodes digests batches groups ops directory addresses parents ends fragment)
+        tracer (accepted (finishes «forest_number» system stack registers)) (now (fragment .entry)))
+        (now (fragment .entry)) ⌝ }
 {
-    let parts = parts_at(directory, forest_number);
+    let parts = directory_entry(directory, forest_number);
     let own_nodes = part_of_numbers(nodes, 6, parts.first_slot, parts.slots);
     let own_digests = part_of_cells(digests, 4, parts.first_slot, parts.slots);
     let own_batches = part_of_numbers(batches, 12, parts.first_batch, parts.batches);
@@ -140,20 +149,24 @@ fn cycle_call(
     tracer: CoreTraceGenerationTracer,
     fragment: &mut [u64],
 ) -> CoreTraceGenerationTracer
-    ensures { λ r. ⌜ r ≡ callDone (setting scan profile (forest (now (nodes .entry)) (now (digests .entry)) (now (batches .entry)) (now (groups .entry)) (now (ops .entry))) (now (directory .entry)) (queues (now (addresses .entry)) (now (parents .entry)) (now (ends .entry))) (length (now (fragment .entry)))) tracer (finishIn (now (numbers .entry))) ⌝ }
-    ensures { λ _. ⌜ now (fragment .exit) ≡ pick write (callWritten (setting scan profile (forest (now (nodes .entry)) (now (digests .entry)) (now (batches .entry)) (now (groups .entry)) (now (ops .entry))) (now (directory .entry)) (queues (now (addresses .entry)) (now (parents .entry)) (now (ends .entry))) (length (now (fragment .entry)))) tracer (finishIn (now (numbers .entry))) (now (fragment .entry))) (now (fragment .entry)) ⌝ }
+    ensures { λ r. ⌜ r ≡ callDone (lentSetting scan profile nodes digests batches groups ops directory addresses parents ends fragment) tracer
+        (finishIn (now (numbers .entry))) ⌝ }
+    ensures { λ _. ⌜ now (fragment .exit) ≡ pick write
+        (callWritten (lentSetting scan profile nodes digests batches groups ops directory addresses parents ends fragment)
+        tracer (finishIn (now (numbers .entry))) (now (fragment .entry)))
+        (now (fragment .entry)) ⌝ }
 {
     let system_found = system_at(numbers);
     let SystemFound::Is(system) = system_found else {
-        return refuse(23, tracer);
+        return refuse(Refusal::STORED_ABSENT, tracer);
     };
     let depth_found = narrow(number_at(numbers, 24));
     let Small::Is(depth) = depth_found else {
-        return refuse(23, tracer);
+        return refuse(Refusal::STORED_ABSENT, tracer);
     };
     let registers_found = registers_at(numbers);
     let RegistersFound::Are(registers) = registers_found else {
-        return refuse(23, tracer);
+        return refuse(Refusal::STORED_ABSENT, tracer);
     };
     let stack = stack_at(numbers, depth);
     finish_in(
@@ -196,8 +209,12 @@ fn call(
     tracer: CoreTraceGenerationTracer,
     fragment: &mut [u64],
 ) -> CoreTraceGenerationTracer
-    ensures { λ r. ⌜ r ≡ callDone (setting scan profile (forest (now (nodes .entry)) (now (digests .entry)) (now (batches .entry)) (now (groups .entry)) (now (ops .entry))) (now (directory .entry)) (queues (now (addresses .entry)) (now (parents .entry)) (now (ends .entry))) (length (now (fragment .entry)))) tracer (callIn (now (numbers .entry))) ⌝ }
-    ensures { λ _. ⌜ now (fragment .exit) ≡ pick write (callWritten (setting scan profile (forest (now (nodes .entry)) (now (digests .entry)) (now (batches .entry)) (now (groups .entry)) (now (ops .entry))) (now (directory .entry)) (queues (now (addresses .entry)) (now (parents .entry)) (now (ends .entry))) (length (now (fragment .entry)))) tracer (callIn (now (numbers .entry))) (now (fragment .entry))) (now (fragment .entry)) ⌝ }
+    ensures { λ r. ⌜ r ≡ callDone (lentSetting scan profile nodes digests batches groups ops directory addresses parents ends fragment) tracer
+        (callIn (now (numbers .entry))) ⌝ }
+    ensures { λ _. ⌜ now (fragment .exit) ≡ pick write
+        (callWritten (lentSetting scan profile nodes digests batches groups ops directory addresses parents ends fragment)
+        tracer (callIn (now (numbers .entry))) (now (fragment .entry)))
+        (now (fragment .entry)) ⌝ }
 {
     if number_at(numbers, 0) == 0 {
         return store(numbers, tracer);
@@ -239,8 +256,12 @@ fn run(
     first: CoreTraceGenerationTracer,
     fragment: &mut [u64],
 ) -> CoreTraceGenerationTracer
-    ensures { λ r. ⌜ r ≡ through (setting scan profile (forest (now (nodes .entry)) (now (digests .entry)) (now (batches .entry)) (now (groups .entry)) (now (ops .entry))) (now (directory .entry)) (queues (now (addresses .entry)) (now (parents .entry)) (now (ends .entry))) (length (now (fragment .entry)))) (now (records .entry)) first (length (now (records .entry)) / 32) ⌝ }
-    ensures { λ _. ⌜ now (fragment .exit) ≡ pick write (written (setting scan profile (forest (now (nodes .entry)) (now (digests .entry)) (now (batches .entry)) (now (groups .entry)) (now (ops .entry))) (now (directory .entry)) (queues (now (addresses .entry)) (now (parents .entry)) (now (ends .entry))) (length (now (fragment .entry)))) (now (records .entry)) first (now (fragment .entry)) (length (now (records .entry)) / 32)) (now (fragment .entry)) ⌝ }
+    ensures { λ r. ⌜ r ≡ through (lentSetting scan profile nodes digests batches groups ops directory addresses parents ends fragment)
+        (now (records .entry)) first (length (now (records .entry)) / 32) ⌝ }
+    ensures { λ _. ⌜ now (fragment .exit) ≡ pick write
+        (written (lentSetting scan profile nodes digests batches groups ops directory addresses parents ends fragment)
+        (now (records .entry)) first (now (fragment .entry)) (length (now (records .entry)) / 32))
+        (now (fragment .entry)) ⌝ }
 {
     let mut tracer = first;
     let mut k = 0;
@@ -274,44 +295,9 @@ fn ended(numbers: usize, tracer: CoreTraceGenerationTracer) -> CoreTraceGenerati
     ensures { λ r. ⌜ r ≡ ending numbers tracer ⌝ }
 {
     if numbers % 32 != 0 {
-        return refuse(11, tracer);
+        return refuse(Refusal::BAD_LENGTH, tracer);
     }
     tracer
-}
-
-// The 25 cells of a final state, those of the system first.
-fn built_cells(system: SystemCols, stack: StackCols) -> [u64; 25]
-    ensures { λ r. ⌜ r ≡ builtCells system stack ⌝ }
-{
-    let hash = system.fn_hash;
-    let t = stack.top;
-    [
-        system.clk,
-        system.ctx,
-        hash.0,
-        hash.1,
-        hash.2,
-        hash.3,
-        t[0],
-        t[1],
-        t[2],
-        t[3],
-        t[4],
-        t[5],
-        t[6],
-        t[7],
-        t[8],
-        t[9],
-        t[10],
-        t[11],
-        t[12],
-        t[13],
-        t[14],
-        t[15],
-        stack.b0,
-        stack.b1,
-        stack.h0,
-    ]
 }
 
 // The address state that the next fragment goes on from; zeros on a refusal.
@@ -324,7 +310,7 @@ fn next_state(tracer: CoreTraceGenerationTracer) -> DecoderState
             parent_addr: 0,
         };
     }
-    tracer.state
+    tracer.decoder_state
 }
 
 // The queue positions that the next fragment goes on from; zeros on a refusal.
@@ -345,15 +331,14 @@ fn next_positions(tracer: CoreTraceGenerationTracer) -> Positions
 fn answer(tracer: CoreTraceGenerationTracer) -> Replayed
     ensures { λ r. ⌜ r ≡ told tracer ⌝ }
 {
-    let end = tracer.into_final_state();
-    let system = end.last_system_cols;
-    let stack = end.last_stack_cols;
-    let built = built_cells(system, stack);
+    let last = tracer.into_final_state();
+    let end = last.for_passes();
+    let built = end.built;
     let state = next_state(tracer);
     let at = next_positions(tracer);
     Replayed {
-        number: end.refusal,
-        rows: end.num_rows_written,
+        refusal: last.refusal,
+        rows: end.count as usize,
         built,
         state,
         at,
@@ -377,8 +362,11 @@ pub fn replay_calls(
     records: &[u64],
     fragment: &mut [u64],
 ) -> Replayed
-    ensures { λ r. ⌜ r ≡ replayed (scanned profile (forest (now (nodes .entry)) (now (digests .entry)) (now (batches .entry)) (now (groups .entry)) (now (ops .entry))) (now (directory .entry)) (queues (now (addresses .entry)) (now (parents .entry)) (now (ends .entry))) (length (now (fragment .entry)))) state at (now (records .entry)) ⌝ }
-    ensures { λ _. ⌜ now (fragment .exit) ≡ replayedFragment (scanned profile (forest (now (nodes .entry)) (now (digests .entry)) (now (batches .entry)) (now (groups .entry)) (now (ops .entry))) (now (directory .entry)) (queues (now (addresses .entry)) (now (parents .entry)) (now (ends .entry))) (length (now (fragment .entry)))) state at (now (records .entry)) (now (fragment .entry)) ⌝ }
+    ensures { λ r. ⌜ r ≡ replayed (lentScanned profile nodes digests batches groups ops directory addresses parents ends fragment) state at
+        (now (records .entry)) ⌝ }
+    ensures { λ _. ⌜ now (fragment .exit) ≡ replayedFragment
+        (lentScanned profile nodes digests batches groups ops directory addresses parents ends fragment) state at
+        (now (records .entry)) (now (fragment .entry)) ⌝ }
 {
     let scan = scan_lent(profile, nodes, batches, ops);
     let first = CoreTraceGenerationTracer::new(state, at);

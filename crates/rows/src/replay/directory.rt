@@ -3,10 +3,10 @@
 use groups::number::number;
 ghost use mathlib.Core.Path.{_≡_};
 ghost use Prim.Native.Nat.{_+_, _-_, _≤_};
-ghost use Rattle.rows.specs.replay.Calls.{partsAt, clipped, window};
+ghost use Rattle.rows.specs.replay.Calls.{directoryEntry, clipped, window};
 
 // Where a forest lies, in slots, batch records and opcodes.
-pub struct Parts {
+pub struct DirectoryEntry {
     pub first_slot: u32,
     pub slots: u32,
     pub first_batch: u32,
@@ -16,11 +16,11 @@ pub struct Parts {
 }
 
 // The parts of a forest; of a number that is not in the directory, empty ones.
-pub fn parts_at(directory: &[u32], forest: u64) -> Parts
-    ensures { λ r. ⌜ r ≡ partsAt (now (directory .entry)) forest ⌝ }
+pub fn directory_entry(directory: &[u32], forest: u64) -> DirectoryEntry
+    ensures { λ r. ⌜ r ≡ directoryEntry (now (directory .entry)) forest ⌝ }
 {
     if (directory.len() / 6) as u64 <= forest {
-        return Parts {
+        return DirectoryEntry {
             first_slot: 0,
             slots: 0,
             first_batch: 0,
@@ -30,7 +30,7 @@ pub fn parts_at(directory: &[u32], forest: u64) -> Parts
         };
     }
     let at = 6 * (forest as usize);
-    Parts {
+    DirectoryEntry {
         first_slot: number(directory, at),
         slots: number(directory, at + 1),
         first_batch: number(directory, at + 2),

@@ -1,6 +1,6 @@
 -- `header::after_header` meets its contract: the bytes are those of the header, by computation.
 use borrow.Author.Needs.{needs}
-use Rattle.dumps.specs.Dumps.{header, bytes, varLines, columns}
+use Rattle.theory_dumps.specs.Dumps.{header, bytes, varLines, columns}
 use Rattle.dump.proofs.header.after_header.Statement.{statement}
 use Rattle.dump.proofs.header.after_header.Tie as tie
 

@@ -5,8 +5,8 @@ use native.Mathlib.Omega.{arith}
 use borrow.Author.Needs.{needs}
 use lib.Count.{leading-le}
 use lib.ListN.{length}
-use Rattle.dumps.specs.Numerals.{binary}
-use Rattle.dumps.proofs.NumeralLengths.{binary-count, binary-zero}
+use Rattle.theory_dumps.specs.Numerals.{binary}
+use Rattle.theory_dumps.proofs.NumeralLengths.{binary-count, binary-zero}
 use Rattle.dump.proofs.lengths.binary_digits.Statement.{statement}
 use Rattle.dump.proofs.lengths.binary_digits.Tie as tie
 

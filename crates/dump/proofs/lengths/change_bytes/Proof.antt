@@ -5,9 +5,9 @@ use native.Mathlib.Omega.{arith}
 use borrow.Author.Needs.{needs}
 use lib.ListN.{length}
 use denote.Ref.{now}
-use Rattle.dumps.specs.Numerals.{binary}
-use Rattle.dumps.proofs.NumeralLaws.{few-digits}
-use Rattle.dump.specs.Places.{oldAt, valueAt}
+use Rattle.theory_dumps.specs.Numerals.{binary}
+use Rattle.theory_dumps.proofs.NumeralLaws.{few-digits}
+use Rattle.dump.specs.ways.Places.{oldAt, valueAt}
 use Rattle.dump.proofs.LengthLaws.{no-bytes, some-bytes}
 use Rattle.dump.proofs.lengths.change_bytes.Statement.{statement}
 use Rattle.dump.proofs.lengths.change_bytes.Tie as tie

@@ -5,7 +5,7 @@ use native.Mathlib.Omega.{arith}
 use borrow.Author.Needs.{needs}
 use lib.ListN.{length}
 use denote.Ref.{now}
-use Rattle.dump.specs.Places.{changesTo}
+use Rattle.dump.specs.ways.Places.{changesTo}
 use Rattle.dump.proofs.LengthLaws.{column-bytes}
 use Rattle.dump.proofs.Places.{changes-length}
 use Rattle.dump.proofs.lengths.changes_bytes.Statement.{statement}

@@ -5,7 +5,7 @@ use native.Mathlib.Nat.{pow-succ'}
 use native.Mathlib.Omega.{arith}
 use native.Mathlib.Numerals.{add-one}
 use borrow.Author.Needs.{needs}
-use Rattle.dumps.proofs.NumeralLengths.{decimal-count}
+use Rattle.theory_dumps.proofs.NumeralLengths.{decimal-count}
 use Rattle.dump.proofs.lengths.decimal_digits.Statement.{statement}
 use Rattle.dump.proofs.lengths.decimal_digits.Tie as tie
 

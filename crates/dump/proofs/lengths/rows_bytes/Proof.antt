@@ -5,7 +5,7 @@ use native.Mathlib.Omega.{arith}
 use borrow.Author.Needs.{needs}
 use lib.ListN.{length}
 use denote.Ref.{now}
-use Rattle.dump.specs.Places.{linesTo}
+use Rattle.dump.specs.ways.Places.{linesTo}
 use Rattle.dump.proofs.LengthLaws.{row-bytes}
 use Rattle.dump.proofs.Places.{lines-length}
 use Rattle.dump.proofs.lengths.rows_bytes.Statement.{statement}

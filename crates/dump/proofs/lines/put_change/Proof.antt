@@ -2,8 +2,8 @@
 use mathlib.Core.Path.{_∙_, sym, ap}
 use borrow.Author.Needs.{needs}
 use denote.Ref.{now}
-use Rattle.dumps.specs.Dumps.{valueLine}
-use Rattle.dump.specs.Places.{oldAt, valueAt}
+use Rattle.theory_dumps.specs.Dumps.{valueLine}
+use Rattle.dump.specs.ways.Places.{oldAt, valueAt}
 use Rattle.dump.proofs.Putting.{put-none, put-is}
 use Rattle.dump.proofs.Places.{no-line, a-line}
 use Rattle.dump.proofs.lines.put_change.Statement.{statement}

@@ -4,8 +4,8 @@ use Prim.Native.Nat.{_-_, _≤_}
 use native.Mathlib.Omega.{arith}
 use borrow.Author.Needs.{needs}
 use denote.Ref.{now}
-use Rattle.dump.specs.Putting.{Put}
-use Rattle.dump.specs.Places.{valueAt, oldAt, changeLine, changesTo}
+use Rattle.dump.specs.ways.Putting.{Put}
+use Rattle.dump.specs.ways.Places.{valueAt, oldAt, changeLine, changesTo}
 use Rattle.dump.proofs.Putting.{put-none, put-then, put-is}
 use Rattle.dump.proofs.Places.{changes-next, changes-length}
 use Rattle.dump.proofs.lines.put_changes.Statement.{statement}

@@ -6,10 +6,10 @@ use native.Mathlib.Omega.{arith}
 use borrow.Author.Needs.{needs}
 use lib.ListN.{length}
 use denote.Ref.{now}
-use Rattle.dumps.specs.Dumps.{timeLine}
-use Rattle.dumps.proofs.LineLengths.{time-length}
-use Rattle.dump.specs.Putting.{Put}
-use Rattle.dump.specs.Places.{changesTo, linesTo}
+use Rattle.theory_dumps.specs.Dumps.{timeLine}
+use Rattle.theory_dumps.proofs.LineLengths.{time-length}
+use Rattle.dump.specs.ways.Putting.{Put}
+use Rattle.dump.specs.ways.Places.{changesTo, linesTo}
 use Rattle.dump.proofs.Putting.{put-none, put-then, put-is}
 use Rattle.dump.proofs.Places.{lines-next, lines-length}
 use Rattle.dump.proofs.lines.put_rows.Statement.{statement}

@@ -8,8 +8,8 @@ use borrow.Author.Needs.{needs}
 use lib.ListN.{length, drop, length-set}
 use lib.Seq.{drop-length}
 use denote.Ref.{now}
-use Rattle.dumps.specs.Numerals.{numeralWithin}
-use Rattle.dumps.proofs.NumeralLaws.{more-digits, fewer-digits, digit-put, first-digit-put}
+use Rattle.theory_dumps.specs.Numerals.{numeralWithin}
+use Rattle.theory_dumps.proofs.NumeralLaws.{more-digits, fewer-digits, digit-put, first-digit-put}
 use Rattle.dump.proofs.numeral.put_digits.Statement.{statement}
 use Rattle.dump.proofs.numeral.put_digits.Tie as tie
 

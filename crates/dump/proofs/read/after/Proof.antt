@@ -5,7 +5,7 @@ use native.Mathlib.Omega.{arith}
 use borrow.Author.Needs.{needs}
 use lib.ListN.{drop, length-drop}
 use denote.Ref.{now}
-use Rattle.dump.specs.Scanning.{inFront}
+use Rattle.dump.specs.ways.Scanning.{inFront}
 use Rattle.dump.proofs.ScanLaws.{front-fits}
 use Rattle.dump.proofs.ReadLaws.{behind-good, behind-none}
 use Rattle.dump.proofs.read.after.Statement.{statement}

@@ -5,7 +5,7 @@ use borrow.Author.Needs.{needs}
 use borrow.Author.Tests.{not-true, not-false}
 use lib.ListN.{drop, length-drop}
 use denote.Ref.{now}
-use Rattle.dump.specs.Scanning.{digitsIn}
+use Rattle.dump.specs.ways.Scanning.{digitsIn}
 use Rattle.dump.proofs.DigitLaws.{digits-front, fits}
 use Rattle.dump.proofs.InPlace.{other-value, too-many, not-plain, its-number}
 use Rattle.dump.proofs.read.after_number.Statement.{statement}

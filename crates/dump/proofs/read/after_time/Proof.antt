@@ -8,8 +8,8 @@ use borrow.Author.Tests.{not-true, not-false}
 use lib.ListN.{length, getD, drop, length-drop, List·getD-eq-default}
 use lib.Seq.{drop-drop, getD-drop}
 use denote.Ref.{now}
-use Rattle.dumps.specs.Numerals.{decimal}
-use Rattle.dump.specs.Scanning.{digitsIn}
+use Rattle.theory_dumps.specs.Numerals.{decimal}
+use Rattle.dump.specs.ways.Scanning.{digitsIn}
 use Rattle.dump.proofs.DigitLaws.{digits-front, fits}
 use Rattle.dump.proofs.InPlace.{time-there, time-not-there}
 use Rattle.dump.proofs.LineLaws.{first-at}
@@ -57,7 +57,7 @@ returns-4 c =
     let t = now (a .text) in
     let good = not-false (n .result .good) (b .if3 .left) in
     let end = n .result .at in
-    let f = feed-from t (a .at) (a .row) end (n .ensures .is-number good) (n .ensures .place good) in
+    let f = feed-from t (a .at) (a .row) end (n .ensures .is-number good) (n .ensures .is-end good) in
     time-not-there t (a .at) (a .row) (λ w. omega (arith, w .feed, f, List·getD-eq-default t 0 {n = end} (omega (arith, c .if4 .taken))))
 
 read-feed : tie.Need-shared-slice-read-if5
@@ -68,7 +68,7 @@ read-feed c =
     let a = r .before .before .before .before .args in
     let n = b .before .before .after-number in
     let good = not-false (n .result .good) (b .if3 .left) in
-    omega (arith, inside (now (a .text)) (a .at) (a .row) (n .result .at) (n .ensures .is-number good) (n .ensures .place good) (omega arith), d .if4 .left)
+    omega (arith, inside (now (a .text)) (a .at) (a .row) (n .result .at) (n .ensures .is-number good) (n .ensures .is-end good) (omega arith), d .if4 .left)
 
 returns-5 : tie.Need-returns-5
 returns-5 c =
@@ -76,7 +76,7 @@ returns-5 c =
     let a = b .before .before .before .before .before .before .before .args in
     let n = b .before .before .after-number in
     let good = not-false (n .result .good) (b .if3 .left) in
-    let f = feed-from (now (a .text)) (a .at) (a .row) (n .result .at) (n .ensures .is-number good) (n .ensures .place good) in
+    let f = feed-from (now (a .text)) (a .at) (a .row) (n .result .at) (n .ensures .is-number good) (n .ensures .is-end good) in
     time-not-there (now (a .text)) (a .at) (a .row) (λ w. c .if5 .taken (sym f ∙ w .feed))
 
 add-end : tie.Need-add-t6
@@ -87,7 +87,7 @@ add-end c =
     let a = r .before .before .before .before .args in
     let n = b .before .before .after-number in
     let good = not-false (n .result .good) (b .if3 .left) in
-    omega (arith, inside (now (a .text)) (a .at) (a .row) (n .result .at) (n .ensures .is-number good) (n .ensures .place good) (omega arith), d .if4 .left)
+    omega (arith, inside (now (a .text)) (a .at) (a .row) (n .result .at) (n .ensures .is-number good) (n .ensures .is-end good) (omega arith), d .if4 .left)
 
 returns-6 : tie.Need-returns-6
 returns-6 c =
@@ -99,7 +99,7 @@ returns-6 c =
     let t = now (a .text) in
     let good = not-false (n .result .good) (b .if3 .left) in
     let e = n .ensures .is-number good in
-    let p = n .ensures .place good in
+    let p = n .ensures .is-end good in
     let m = inside t (a .at) (a .row) (n .result .at) e p (omega arith) in
     time-there t (a .at) (a .row) (n .result .at) (record {
       mark = first-at t (a .at) ∙ r .if2 .left;

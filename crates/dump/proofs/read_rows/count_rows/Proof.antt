@@ -6,7 +6,7 @@ use borrow.Author.Needs.{needs}
 use borrow.Author.Tests.{not-true, not-false}
 use lib.ListN.{length}
 use denote.Ref.{now}
-use Rattle.dumps.specs.Undump.{noValues}
+use Rattle.theory_dumps.specs.ways.Undump.{noValues}
 use Rattle.dump.proofs.RowsLaws.{RowsTo, rowsAt, row-progress, count-none, count-end, count-more, count-bad}
 use Rattle.dump.proofs.UndumpLaws.{counted-few, count-over}
 use Rattle.dump.proofs.read_rows.count_rows.Statement.{statement}

@@ -5,7 +5,7 @@ use native.Mathlib.Omega.{arith}
 use native.Mathlib.Numerals.{add-one}
 use borrow.Author.Needs.{needs}
 use lib.ListN.{length, drop}
-use Rattle.dumps.specs.Undump.{hasAll}
+use Rattle.theory_dumps.specs.ways.Undump.{hasAll}
 use Rattle.dump.proofs.UndumpLaws.{has-next, has-not, has-end}
 use Rattle.dump.proofs.read_text.has_all.Statement.{statement}
 use Rattle.dump.proofs.read_text.has_all.Tie as tie

@@ -6,9 +6,9 @@ use borrow.Author.Tests.{not-true, not-false}
 use lib.ListN.{length}
 use denote.Ref.{now}
 use Rattle.groups.specs.Answer.{accepted, refused}
-use Rattle.dumps.specs.Undump.{undump}
-use Rattle.dump.specs.Undumping.{rowsRead, cellsAfter}
-use Rattle.dump.specs.Reading.{theRows}
+use Rattle.theory_dumps.specs.ways.Undump.{undump}
+use Rattle.dump.specs.ways.Undumping.{rowsRead, cellsAfter}
+use Rattle.dump.specs.ways.Reading.{theRows}
 use Rattle.dump.proofs.UndumpLaws.{wrong-buffer, no-header, no-rows, too-short, read-all, rows-long, may-store}
 use Rattle.dump.proofs.Waveforms.{right-as}
 use Rattle.dump.proofs.read_text.read_dump.Statement.{statement}

@@ -5,8 +5,8 @@ use borrow.Author.Needs.{needs}
 use borrow.Author.Tests.{not-true, not-false}
 use lib.ListN.{drop}
 use denote.Ref.{now}
-use Rattle.dumps.specs.Undump.{noValues}
-use Rattle.dump.specs.Reading.{timedRow}
+use Rattle.theory_dumps.specs.ways.Undump.{noValues}
+use Rattle.dump.specs.ways.Reading.{timedRow}
 use Rattle.dump.proofs.UndumpLaws.{whole-good, whole-bad}
 use Rattle.dump.proofs.read_text.whole_first.Statement.{statement}
 use Rattle.dump.proofs.read_text.whole_first.Tie as tie

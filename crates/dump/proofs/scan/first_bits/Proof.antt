@@ -8,7 +8,7 @@ use borrow.Author.Needs.{needs}
 use lib.ListN.{length, getD, drop, length-drop}
 use lib.Seq.{getD-drop}
 use denote.Ref.{now}
-use Rattle.dump.specs.Scanning.{Scanned}
+use Rattle.dump.specs.ways.Scanning.{Scanned}
 use Rattle.dump.proofs.ScanLaws.{scanned-none, scanned-fits, scanned-digit, scanned-stop, scanned-end}
 use Rattle.dump.proofs.scan.first_bits.Statement.{statement}
 use Rattle.dump.proofs.scan.first_bits.Tie as tie

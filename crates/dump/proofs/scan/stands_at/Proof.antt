@@ -6,7 +6,7 @@ use native.Mathlib.Numerals.{add-one}
 use borrow.Author.Needs.{needs}
 use lib.ListN.{length, drop, length-drop}
 use denote.Ref.{now}
-use Rattle.dump.specs.Scanning.{inFront}
+use Rattle.dump.specs.ways.Scanning.{inFront}
 use Rattle.dump.proofs.ScanLaws.{front-short, front-same, front-other, front-end}
 use Rattle.dump.proofs.scan.stands_at.Statement.{statement}
 use Rattle.dump.proofs.scan.stands_at.Tie as tie

@@ -3,7 +3,7 @@ use mathlib.Core.Path.{ap}
 use mathlib.Core.List.{List, [], _∷_, _++_}
 use Prim.Native.Nat.{ℕ}
 use borrow.Author.Needs.{needs}
-use Rattle.dumps.specs.Dumps.{timeLine}
+use Rattle.theory_dumps.specs.Dumps.{timeLine}
 use Rattle.dump.proofs.Putting.{line-put, part-is}
 use Rattle.dump.proofs.text.put_time.Statement.{statement}
 use Rattle.dump.proofs.text.put_time.Tie as tie

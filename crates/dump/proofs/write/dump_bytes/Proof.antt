@@ -6,8 +6,8 @@ use native.Mathlib.Omega.{arith}
 use borrow.Author.Needs.{needs}
 use lib.ListN.{length, length-append}
 use denote.Ref.{now}
-use Rattle.dumps.specs.Dumps.{header}
-use Rattle.dump.specs.Places.{linesTo}
+use Rattle.theory_dumps.specs.Dumps.{header}
+use Rattle.dump.specs.ways.Places.{linesTo}
 use Rattle.dump.proofs.ByPlaces.{dump-is}
 use Rattle.dump.proofs.Places.{lines-length}
 use Rattle.dump.proofs.Writing.{header-length}

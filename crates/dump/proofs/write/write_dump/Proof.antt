@@ -6,7 +6,7 @@ use native.Mathlib.Omega.{arith}
 use borrow.Author.Needs.{needs}
 use lib.ListN.{length, drop}
 use denote.Ref.{now}
-use Rattle.dumps.specs.Dumps.{dump}
+use Rattle.theory_dumps.specs.Dumps.{dump}
 use Rattle.dump.specs.Dumping.{textAfter}
 use Rattle.dump.proofs.Writing.{rows-within, rows-wrong, text-short, text-fits}
 use Rattle.dump.proofs.write.write_dump.Statement.{statement}

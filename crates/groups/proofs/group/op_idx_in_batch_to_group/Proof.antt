@@ -20,9 +20,6 @@ returns : tie.Need-returns Inv-loop μ-loop
 unfolding groupOf
 returns c = rw (le-leb _ _ (c .if1 .taken))
 
-falls-requires : tie.Need-falls-requires Inv-loop μ-loop
-falls-requires c κs = search needs
-
 returns-2 : tie.Need-returns-2 Inv-loop μ-loop
 unfolding groupOf
 returns-2 c = rw (lt-leb _ _ (c .before .before .if1 .left), ← (c .before .falls .ensures), c .if2 .taken)
@@ -31,36 +28,12 @@ loop-holds : tie.Need-loop-holds Inv-loop μ-loop
 unfolding groupOf
 loop-holds c = (search needs, rw (lt-leb _ _ (c .before .before .if1 .left), ← (c .before .falls .ensures), c .if2 .left))
 
-mul-start : tie.Need-mul-start Inv-loop μ-loop
-mul-start c = search needs
-
-array-read-start : tie.Need-array-read-start Inv-loop μ-loop
-array-read-start c = search needs
-
-add-if4 : tie.Need-add-if4 Inv-loop μ-loop
-add-if4 c = search needs
-
-mul-if4 : tie.Need-mul-if4 Inv-loop μ-loop
-mul-if4 c = search needs
-
-array-read-if4 : tie.Need-array-read-if4 Inv-loop μ-loop
-array-read-if4 c = search needs
-
-place-in-requires : tie.Need-place-in-requires Inv-loop μ-loop
-place-in-requires c κs = search needs
-
 returns-3 : tie.Need-returns-3 Inv-loop μ-loop
 returns-3 c =
     let t = c .before .before in
     let l = t .before .before in
     let a = l .before .before .before .before .args in
     c .place-in .ensures ∙ sym (l .loop .inv .1 ∙ group-turn (a .t1) (a .op) (l .loop .group) (search needs) ∙ rw (le-leb _ _ (t .if3 .taken), lt-ltb _ _ (c .before .if4 .taken)))
-
-add-group : tie.Need-add-group Inv-loop μ-loop
-add-group c = search needs
-
-loop-less : tie.Need-loop-less Inv-loop μ-loop
-loop-less c = search needs
 
 loop-again : tie.Need-loop-again Inv-loop μ-loop
 loop-again c =
@@ -84,17 +57,17 @@ op-idx-in-batch-to-group-spec =
     Inv-loop
     μ-loop
     returns
-    falls-requires
+    (λ c κs. search needs)
     returns-2
     loop-holds
-    mul-start
-    array-read-start
-    add-if4
-    mul-if4
-    array-read-if4
-    place-in-requires
+    (λ c. search needs)
+    (λ c. search needs)
+    (λ c. search needs)
+    (λ c. search needs)
+    (λ c. search needs)
+    (λ c κs. search needs)
     returns-3
-    add-group
-    loop-less
+    (λ c. search needs)
+    (λ c. search needs)
     loop-again
     returns-4)

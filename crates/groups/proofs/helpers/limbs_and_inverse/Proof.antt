@@ -3,7 +3,7 @@ use mathlib.Core.Path.{sym, _∙_}
 use borrow.Author.Needs.{needs}
 use borrow.Author.Tests.{not-true, not-false}
 use Rattle.groups.specs.Helpers.{allBelow}
-use Rattle.groups.specs.Families.{foundOf}
+use Rattle.groups.specs.ways.Families.{foundOf}
 use Rattle.groups.proofs.helpers.limbs_and_inverse.Statement.{statement}
 use Rattle.groups.proofs.helpers.limbs_and_inverse.Tie as tie
 

@@ -17,33 +17,6 @@ Inv-loop batches first from to rounded groups₀ above8₀ k₀ groups above8 k 
 abbrev μ-loop : tie.MeasureT-loop
 μ-loop batches first from to rounded groups₀ above8₀ k₀ groups above8 k = to - k
 
-loop-holds : tie.Need-loop-holds Inv-loop μ-loop
-loop-holds c = search needs
-
-cast-number : tie.Need-cast-number Inv-loop μ-loop
-cast-number c = search needs
-
-add-number : tie.Need-add-number Inv-loop μ-loop
-add-number c = search needs
-
-mul-number : tie.Need-mul-number Inv-loop μ-loop
-mul-number c = search needs
-
-number-requires : tie.Need-number-requires Inv-loop μ-loop
-number-requires c κs = search needs
-
-groups-of-requires : tie.Need-groups-of-requires Inv-loop μ-loop
-groups-of-requires c κs = search needs
-
-add-groups : tie.Need-add-groups Inv-loop μ-loop
-add-groups c = search needs
-
-add-k : tie.Need-add-k Inv-loop μ-loop
-add-k c = search needs
-
-loop-less : tie.Need-loop-less Inv-loop μ-loop
-loop-less c = search needs
-
 loop-again : tie.Need-loop-again Inv-loop μ-loop
 loop-again c =
     let g = c .before in
@@ -83,14 +56,14 @@ sum-groups-spec =
     (tie.spec
     Inv-loop
     μ-loop
-    loop-holds
-    cast-number
-    add-number
-    mul-number
-    number-requires
-    groups-of-requires
-    add-groups
-    add-k
-    loop-less
+    (λ c. search needs)
+    (λ c. search needs)
+    (λ c. search needs)
+    (λ c. search needs)
+    (λ c κs. search needs)
+    (λ c κs. search needs)
+    (λ c. search needs)
+    (λ c. search needs)
+    (λ c. search needs)
     loop-again
     returns)

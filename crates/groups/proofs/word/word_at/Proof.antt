@@ -14,27 +14,6 @@ returns c =
     let at = c .before .before .args .at in
     rw (cell-past s at (omega arith), cell-past s (at + 1) (omega arith), cell-past s (at + 2) (omega arith), cell-past s (at + 3) (omega arith))
 
-cell-requires : tie.Need-cell-requires
-cell-requires c κs = search needs
-
-add-cell : tie.Need-add-cell
-add-cell c = search needs
-
-cell-requires-2 : tie.Need-cell-requires-2
-cell-requires-2 c κs = search needs
-
-add-cell-2 : tie.Need-add-cell-2
-add-cell-2 c = search needs
-
-cell-requires-3 : tie.Need-cell-requires-3
-cell-requires-3 c κs = search needs
-
-add-cell-3 : tie.Need-add-cell-3
-add-cell-3 c = search needs
-
-cell-requires-4 : tie.Need-cell-requires-4
-cell-requires-4 c κs = search needs
-
 returns-2 : tie.Need-returns-2
 unfolding wordAt
 returns-2 c = cc
@@ -44,11 +23,11 @@ word-at-spec =
     tie.close
     (tie.spec
     returns
-    cell-requires
-    add-cell
-    cell-requires-2
-    add-cell-2
-    cell-requires-3
-    add-cell-3
-    cell-requires-4
+    (λ c κs. search needs)
+    (λ c. search needs)
+    (λ c κs. search needs)
+    (λ c. search needs)
+    (λ c κs. search needs)
+    (λ c. search needs)
+    (λ c κs. search needs)
     returns-2)

@@ -1,6 +1,6 @@
 -- `change::begun` meets its contract.
 use borrow.Author.Needs.{needs}
-use Rattle.indexes.specs.Scan.{oneIfBegins}
+use Rattle.theory_indexes.specs.ways.IndexScan.{oneIfBegins}
 use Rattle.index.proofs.change.begun.Statement.{statement}
 use Rattle.index.proofs.change.begun.Tie as tie
 

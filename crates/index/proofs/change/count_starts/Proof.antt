@@ -4,9 +4,10 @@ use Prim.Native.Nat.{_+_, _-_, _/_, _≤_, _<_}
 use native.Mathlib.Omega.{arith}
 use borrow.Author.Needs.{needs}
 use lib.ListN.{length}
-use Rattle.indexes.specs.Scan.{starts}
-use Rattle.reader.specs.Rows.{wordIn, rowsFrom}
-use Rattle.index.specs.Steps.{toldChange}
+use Rattle.theory_indexes.specs.ways.IndexScan.{starts}
+use Rattle.reader.specs.Rows.{wordIn}
+use Rattle.reader.specs.ways.FromRow.{rowsFrom}
+use Rattle.index.specs.ways.Steps.{toldChange}
 use Rattle.reader.proofs.RowTokens.{rows-in}
 use Rattle.index.proofs.ChangeLaws.{at-most, starts-cons, starts-none}
 use Rattle.index.proofs.change.count_starts.Statement.{statement}

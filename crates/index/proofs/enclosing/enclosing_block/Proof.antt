@@ -7,7 +7,7 @@ use borrow.Author.Needs.{needs}
 use borrow.Author.Tests.{eq-eqb, ne-eqb}
 use lib.ListN.{length, drop}
 use Rattle.groups.specs.Answer.{accepted}
-use Rattle.indexes.specs.Enclosing.{encloses, lastFrom, enclosing}
+use Rattle.theory_indexes.specs.Enclosing.{encloses, lastFrom, enclosing}
 use Rattle.index.proofs.LookupLaws.{found-here, missed-here, none-past}
 use Rattle.index.proofs.enclosing.enclosing_block.Statement.{statement}
 use Rattle.index.proofs.enclosing.enclosing_block.Tie as tie

@@ -3,7 +3,7 @@ use Prim.Native.Nat.{_<_}
 use native.Mathlib.Omega.{arith}
 use borrow.Author.Needs.{needs}
 use borrow.Author.Tests.{ne-eqb}
-use Rattle.index.specs.Steps.{aroundIn}
+use Rattle.index.specs.ways.Steps.{aroundIn}
 use Rattle.index.proofs.fill.around.Statement.{statement}
 use Rattle.index.proofs.fill.around.Tie as tie
 

@@ -1,7 +1,7 @@
 -- `fill::end_row` meets its contract.
 use native.Mathlib.Omega.{arith}
 use borrow.Author.Needs.{needs}
-use Rattle.index.specs.Steps.{indexBehind, scanBehind, Room}
+use Rattle.index.specs.ways.Steps.{indexBehind, progressBehind, Room}
 use Rattle.index.proofs.fill.end_row.Statement.{statement}
 use Rattle.index.proofs.fill.end_row.Tie as tie
 
@@ -30,7 +30,7 @@ unfolding Room
 slice-write-index c = omega arith
 
 returns : tie.Need-returns
-unfolding indexBehind scanBehind
+unfolding indexBehind progressBehind
 returns c = search needs
 
 pub end-row-spec : {M : Type 1} → statement M

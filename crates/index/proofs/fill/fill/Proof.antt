@@ -4,8 +4,9 @@ use mathlib.Core.List.{[]}
 use Prim.Native.Nat.{_+_, _*_, _-_, _/_, _≤_, _<_}
 use native.Mathlib.Omega.{arith}
 use lib.ListN.{length, drop}
-use Rattle.indexes.specs.Scan.{scan, starts}
-use Rattle.reader.specs.Rows.{wordIn, rowsFrom}
+use Rattle.theory_indexes.specs.ways.IndexScan.{indexScan, starts}
+use Rattle.reader.specs.Rows.{wordIn}
+use Rattle.reader.specs.ways.FromRow.{rowsFrom}
 use Rattle.reader.proofs.RowTokens.{rows-in, rows-cons, rows-none}
 use Rattle.index.proofs.StepLaws.{Building, next-row, room, at-row, all-built, none-built}
 use Rattle.index.proofs.fill.fill.Statement.{statement}
@@ -15,7 +16,7 @@ abbrev Inv-loop : tie.InvT-loop
 Inv-loop profile cells index₀ stack₀ s₀ at₀ index stack s at =
     (at ≤ length cells / 49)
     × Building
-    (scan (rowsFrom (wordIn profile cells) 0) [] [])
+    (indexScan (rowsFrom (wordIn profile cells) 0) [] [])
     (starts (rowsFrom (wordIn profile cells) 0))
     (drop (3 * starts (rowsFrom (wordIn profile cells) 0)) index₀)
     (length index₀)

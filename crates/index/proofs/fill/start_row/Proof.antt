@@ -3,7 +3,7 @@ use mathlib.Core.Path.{refl}
 use native.Mathlib.Omega.{arith}
 use borrow.Author.Needs.{needs}
 use lib.ListN.{length-set}
-use Rattle.index.specs.Steps.{indexBehind, stackBehind, scanBehind, Room}
+use Rattle.index.specs.ways.Steps.{indexBehind, stackBehind, progressBehind, Room}
 use Rattle.index.proofs.fill.start_row.Statement.{statement}
 use Rattle.index.proofs.fill.start_row.Tie as tie
 
@@ -60,7 +60,7 @@ unfolding Room
 add-next c = omega arith
 
 returns : tie.Need-returns
-unfolding indexBehind stackBehind scanBehind
+unfolding indexBehind stackBehind progressBehind
 returns c = (refl, (refl, rw (c .around .ensures) refl))
 
 pub start-row-spec : {M : Type 1} → statement M

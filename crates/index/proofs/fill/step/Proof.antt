@@ -1,7 +1,7 @@
 -- `fill::step` meets its contract.
 use mathlib.Core.Path.{refl}
 use borrow.Author.Needs.{needs}
-use Rattle.index.specs.Steps.{indexBehind, stackBehind, scanBehind}
+use Rattle.index.specs.ways.Steps.{indexBehind, stackBehind, progressBehind}
 use Rattle.index.proofs.fill.step.Statement.{statement}
 use Rattle.index.proofs.fill.step.Tie as tie
 
@@ -21,7 +21,7 @@ returns-2 c =
     rw (c .before .before .before .before .before .enum-told2 .given .1) (e .0, (refl, e .1))
 
 returns-3 : tie.Need-returns-3
-unfolding indexBehind stackBehind scanBehind
+unfolding indexBehind stackBehind progressBehind
 returns-3 c = rw (c .enum-told3 .given .1) (refl, (refl, refl))
 
 pub step-spec : {M : Type 1} → statement M

@@ -6,7 +6,7 @@ use native.Mathlib.Omega.{arith}
 use borrow.Author.Needs.{needs}
 use lib.ListN.{length, take, drop, length-set, take-append-drop}
 use lib.Seq.{drop-set-lt}
-use Rattle.readings.specs.Parser.{levels}
+use Rattle.theory_readings.specs.ways.Parser.{levels}
 use Rattle.reader.specs.Rows.{wordIn}
 use Rattle.reader.proofs.RowTokens.{rows-in}
 use Rattle.reader.proofs.LevelLaws.{scan-step, scan-done, level-le, behind-le}

@@ -1,7 +1,7 @@
 -- `depths::open_behind` meets its contract.
 use native.Mathlib.Omega.{arith}
 use borrow.Author.Needs.{needs}
-use Rattle.reader.specs.Levels.{levelBehind}
+use Rattle.reader.specs.ways.Levels.{levelBehind}
 use Rattle.reader.proofs.LevelLaws.{behind-same}
 use Rattle.reader.proofs.depths.open_behind.Statement.{statement}
 use Rattle.reader.proofs.depths.open_behind.Tie as tie

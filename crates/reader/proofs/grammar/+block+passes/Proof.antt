@@ -1,14 +1,14 @@
 -- `grammar::block` and `grammar::passes` meet their contracts: the rows left fall from call to call.
+use mathlib.Core.Path.{ap}
+use mathlib.Core.Option.{none}
 use Prim.Native.Nat.{ℕ, _<_, _≤_, _+_, _-_, _*_, _/_}
 use native.Mathlib.Omega.{arith}
 use borrow.Author.Needs.{needs}
 use lib.ListN.{length}
-use Rattle.readings.specs.Readings.{allRows}
+use Rattle.theory_readings.specs.Readings.{allRows}
 use Rattle.reader.specs.Rows.{wordIn}
-use Rattle.reader.specs.Parts.{Ahead}
+use Rattle.reader.specs.ways.Parts.{PartRead, toldWrong, toldPart, Ahead}
 use Rattle.reader.specs.declared.token.RowKind.the-variants.{Span, Join, One, Loop, Repeat, End}
-use Rattle.reader.specs.declared.grammar.Wrong.the-variants.{Nowhere}
-use Rattle.reader.specs.declared.grammar.Part.{Part}
 use Rattle.reader.proofs.RowTokens.{rows-in, Stands, stands}
 use Rattle.reader.proofs.PartLaws.{ahead-done, ahead-from, deep-ahead, closed-ahead, at-left, block-deep, block-no, block-span, one-refused, one-closed, first-refused, second-refused, join-closed, block-loop, PassesFrom, from-none, body-refused, pass-last, pass-more, pass-no}
 use borrow.Fn.Kinds.{In}
@@ -90,7 +90,7 @@ block-returns-2 t c =
     let h = join-row t (c .before .before .before) in
     record {
       ahead = ahead-from _ _ _ _ (omega arith) (c .before .before .block .ensures .ahead);
-      right = at-left _ _ _ _ _ _ (omega (arith, c .before .before .before .before .before .if1 .left)) (first-refused _ _ _ _ _ (h .below) (h .token) _ (c .before .before .block .ensures .right) _ _ (c .enum-told3 .given .1));
+      right = at-left _ _ _ _ _ _ (omega (arith, c .before .before .before .before .before .if1 .left)) (first-refused _ _ _ _ _ (h .below) (h .token) _ (c .before .before .block .ensures .right) _ _ (ap toldPart (c .enum-told3 .given .1)));
     }
 
 block-block-requires-2 : (t : ℕ) → block-lts.Need-block-requires-2 (block-claims t) (block-at t) block.Post
@@ -98,19 +98,19 @@ block-block-requires-2 t c κs =
     let d = c .before .before .before .before in
     let a = d .before .before .before .before .before .args in
     let i = join-row t d .inside in
-    let h = ahead-done _ _ _ _ _ (c .before .one .given .1) (c .before .before .before .block .ensures .ahead) in
+    let h = ahead-done _ _ _ _ _ (ap toldPart (c .before .one .given .1)) (c .before .before .before .block .ensures .ahead) in
     let n = rows-in (a .profile) (a .cells .now) in
     (omega arith, omega arith)
 
 block-returns-3 : (t : ℕ) → block-lts.Need-returns-3 (block-claims t) (block-at t) block.Post
 block-returns-3 t c =
     let h = join-row t (c .before .before .before .before .before .before .before) in
-    let l = ahead-done _ _ _ _ _ (c .before .before .before .before .one .given .1) (c .before .before .before .before .before .before .block .ensures .ahead) in
+    let l = ahead-done _ _ _ _ _ (ap toldPart (c .before .before .before .before .one .given .1)) (c .before .before .before .before .before .before .block .ensures .ahead) in
     record {
       ahead = ahead-from _ _ _ _ (omega arith) (c .before .before .block2 .ensures .ahead);
       right =
           at-left _ _ _ _ _ _ (omega (arith, c .before .before .before .before .before .before .before .before .before .if1 .left))
-          (second-refused _ _ _ _ _ (h .below) (h .token) _ (c .before .before .before .before .before .before .block .ensures .right) _ _ (c .before .before .before .before .one .given .1) _ (c .before .before .block2 .ensures .right) _ _ (c .enum-told4 .given .1));
+          (second-refused _ _ _ _ _ (h .below) (h .token) _ (c .before .before .before .before .before .before .block .ensures .right) _ _ (ap toldPart (c .before .before .before .before .one .given .1)) _ (c .before .before .block2 .ensures .right) _ _ (ap toldPart (c .enum-told4 .given .1)));
     }
 
 block-add-block-2 : (t : ℕ) → block-lts.Need-add-block-2 (block-claims t) (block-at t) block.Post
@@ -124,7 +124,7 @@ block-returns-4 t c =
     let h = one-row t (c .before .before .before) in
     record {
       ahead = ahead-from _ _ _ _ (omega arith) (c .before .before .block3 .ensures .ahead);
-      right = at-left _ _ _ _ _ _ (omega (arith, c .before .before .before .before .before .if1 .left)) (one-refused _ _ _ _ _ (h .below) _ (h .token .1) _ (c .before .before .block3 .ensures .right) _ _ (c .enum-told6 .given .1));
+      right = at-left _ _ _ _ _ _ (omega (arith, c .before .before .before .before .before .if1 .left)) (one-refused _ _ _ _ _ (h .below) _ (h .token .1) _ (c .before .before .block3 .ensures .right) _ _ (ap toldPart (c .enum-told6 .given .1)));
     }
 
 block-passes-requires : (t : ℕ) → block-lts.Need-passes-requires (block-claims t) (block-at t) block.Post
@@ -141,25 +141,25 @@ block-returns-5 t c =
 block-returns-6 : (t : ℕ) → block-lts.Need-returns-6 (block-claims t) (block-at t) block.Post
 block-returns-6 t c =
     let h = join-row t (c .before .before .before .before .before .before .before .before .before .before) in
-    let l = ahead-done _ _ _ _ _ (c .before .before .before .before .before .before .before .one .given .1) (c .before .before .before .before .before .before .before .before .before .block .ensures .ahead) in
-    let m = ahead-done _ _ _ _ _ (c .before .before .before .two .given .1) (c .before .before .before .before .before .block2 .ensures .ahead) in
+    let l = ahead-done _ _ _ _ _ (ap toldPart (c .before .before .before .before .before .before .before .one .given .1)) (c .before .before .before .before .before .before .before .before .before .block .ensures .ahead) in
+    let m = ahead-done _ _ _ _ _ (ap toldPart (c .before .before .before .two .given .1)) (c .before .before .before .before .before .block2 .ensures .ahead) in
     record {
       ahead = ahead-from _ _ _ _ (omega arith) (closed-ahead _ _ _ _ _ _ (c .close .ensures));
       right =
           at-left _ _ _ _ _ _ (omega (arith, c .before .before .before .before .before .before .before .before .before .before .before .before .if1 .left))
           (rw (c .close .ensures, c .before .first .ensures)
-          (join-closed _ _ _ _ _ (h .below) (h .token) _ (c .before .before .before .before .before .before .before .before .before .block .ensures .right) _ _ (c .before .before .before .before .before .before .before .one .given .1) _ (c .before .before .before .before .before .block2 .ensures .right) _ _ (c .before .before .before .two .given .1) (m .1)));
+          (join-closed _ _ _ _ _ (h .below) (h .token) _ (c .before .before .before .before .before .before .before .before .before .block .ensures .right) _ _ (ap toldPart (c .before .before .before .before .before .before .before .one .given .1)) _ (c .before .before .before .before .before .block2 .ensures .right) _ _ (ap toldPart (c .before .before .before .two .given .1)) (m .1)));
     }
 
 block-returns-7 : (t : ℕ) → block-lts.Need-returns-7 (block-claims t) (block-at t) block.Post
 block-returns-7 t c =
     let h = one-row t (c .before .before .before .before .before) in
-    let l = ahead-done _ _ _ _ _ (c .before .before .only .given .1) (c .before .before .before .before .block3 .ensures .ahead) in
+    let l = ahead-done _ _ _ _ _ (ap toldPart (c .before .before .only .given .1)) (c .before .before .before .before .block3 .ensures .ahead) in
     record {
       ahead = ahead-from _ _ _ _ (omega arith) (closed-ahead _ _ _ _ _ _ (c .close2 .ensures));
       right =
           at-left _ _ _ _ _ _ (omega (arith, c .before .before .before .before .before .before .before .if1 .left))
-          (rw (c .close2 .ensures) (one-closed _ _ _ _ _ (h .below) _ (h .token .1) _ (c .before .before .before .before .block3 .ensures .right) _ _ (c .before .before .only .given .1) (l .1)));
+          (rw (c .close2 .ensures) (one-closed _ _ _ _ _ (h .below) _ (h .token .1) _ (c .before .before .before .before .block3 .ensures .right) _ _ (ap toldPart (c .before .before .only .given .1)) (l .1)));
     }
 
 block-returns-8 : (t : ℕ) → block-lts.Need-returns-8 (block-claims t) (block-at t) block.Post
@@ -181,14 +181,14 @@ block-returns-9 t c =
 
 abbrev passes-Inv-loop : passes-lts.InvT-loop
 passes-Inv-loop profile cells row left flag at₀ count₀ so-far₀ at count so-far =
-    (row < at) × (at ≤ length cells / 49) × (count ≤ at)
-    × ((r : Part) → PassesFrom (allRows cells) (wordIn profile cells) row at left flag count so-far r → PassesFrom (allRows cells) (wordIn profile cells) row (row + 1) left flag 0 Nowhere r)
+    (row < at) × (at ≤ length cells / 49) × (1 ≤ count) × (count ≤ at)
+    × ((r : PartRead) → PassesFrom (allRows cells) (wordIn profile cells) row at left flag (count - 1) (toldWrong so-far) r → PassesFrom (allRows cells) (wordIn profile cells) row (row + 1) left flag 0 none r)
 
 abbrev passes-μ-loop : passes-lts.MeasureT-loop
 passes-μ-loop profile cells row left flag at₀ count₀ so-far₀ at count so-far = length cells / 49 - at
 
 passes-loop-holds : (t : ℕ) → passes-lts.Need-loop-holds (passes-claims t) (passes-at t) passes.Post passes-Inv-loop passes-μ-loop
-passes-loop-holds t c = (omega arith, omega arith, omega arith, λ r k. k)
+passes-loop-holds t c = (omega arith, omega arith, omega arith, omega arith, λ r k. k)
 
 passes-block-requires : (t : ℕ) → passes-lts.Need-block-requires (passes-claims t) (passes-at t) passes.Post passes-Inv-loop passes-μ-loop
 passes-block-requires t c κs = (omega arith, omega arith)
@@ -197,35 +197,36 @@ passes-returns : (t : ℕ) → passes-lts.Need-returns (passes-claims t) (passes
 passes-returns t c =
     record {
       ahead = ahead-from _ _ _ _ (omega arith) (c .before .before .block .ensures .ahead);
-      right = from-none _ _ _ _ _ _ (c .before .before .before .loop .inv .3 _ (body-refused _ _ _ _ _ _ _ _ _ (c .before .before .block .ensures .right) _ _ (c .enum-told .given .1)));
+      right = from-none _ _ _ _ _ _ (c .before .before .before .loop .inv .4 _ (body-refused _ _ _ _ _ _ _ _ _ (c .before .before .block .ensures .right) _ _ (ap toldPart (c .enum-told .given .1))));
     }
-
-passes-add-count : (t : ℕ) → passes-lts.Need-add-count (passes-claims t) (passes-at t) passes.Post passes-Inv-loop passes-μ-loop
-passes-add-count t c = omega arith
 
 passes-add-at-2 : (t : ℕ) → passes-lts.Need-add-at-2 (passes-claims t) (passes-at t) passes.Post passes-Inv-loop passes-μ-loop
 passes-add-at-2 t c =
-    let l = ahead-done _ _ _ _ _ (c .before .before .before .before .before .body .given .1) (c .before .before .before .before .before .before .before .block .ensures .ahead) in
+    let l = ahead-done _ _ _ _ _ (ap toldPart (c .before .before .before .before .before .body .given .1)) (c .before .before .before .before .before .before .before .block .ensures .ahead) in
     let h = stands _ _ _ _ Repeat (c .before .before .before .row-kind .ensures) (c .enum-told2 .given .1) tt in
     let i = h .inside in
     omega arith
 
+passes-add-count : (t : ℕ) → passes-lts.Need-add-count (passes-claims t) (passes-at t) passes.Post passes-Inv-loop passes-μ-loop
+passes-add-count t c = omega arith
+
 passes-loop-less : (t : ℕ) → passes-lts.Need-loop-less (passes-claims t) (passes-at t) passes.Post passes-Inv-loop passes-μ-loop
 passes-loop-less t c =
-    let l = ahead-done _ _ _ _ _ (c .before .before .before .before .before .body .given .1) (c .before .before .before .before .before .before .before .block .ensures .ahead) in
+    let l = ahead-done _ _ _ _ _ (ap toldPart (c .before .before .before .before .before .body .given .1)) (c .before .before .before .before .before .before .before .block .ensures .ahead) in
     let h = stands _ _ _ _ Repeat (c .before .before .before .row-kind .ensures) (c .enum-told2 .given .1) tt in
     let i = h .inside in
     omega arith
 
 passes-loop-again : (t : ℕ) → passes-lts.Need-loop-again (passes-claims t) (passes-at t) passes.Post passes-Inv-loop passes-μ-loop
 passes-loop-again t c =
-    let l = ahead-done _ _ _ _ _ (c .before .before .before .before .before .body .given .1) (c .before .before .before .before .before .before .before .block .ensures .ahead) in
+    let l = ahead-done _ _ _ _ _ (ap toldPart (c .before .before .before .before .before .body .given .1)) (c .before .before .before .before .before .before .before .block .ensures .ahead) in
     let h = stands _ _ _ _ Repeat (c .before .before .before .row-kind .ensures) (c .enum-told2 .given .1) tt in
     let i = h .inside in (
       omega arith,
       omega arith,
       omega arith,
-      λ r k. c .before .before .before .before .before .before .before .before .loop .inv .3 r (pass-more _ _ _ _ _ _ _ _ _ (c .before .before .before .before .before .before .before .block .ensures .right) _ _ (c .before .before .before .before .before .body .given .1) (h .token) (h .below) r (rw (c .before .before .first .ensures) at k)),
+      omega arith,
+      λ r k. c .before .before .before .before .before .before .before .before .loop .inv .4 r (pass-more _ _ _ _ _ _ _ _ _ (c .before .before .before .before .before .before .before .block .ensures .right) _ _ (ap toldPart (c .before .before .before .before .before .body .given .1)) _ (omega arith) (h .token) (h .below) r (rw (c .before .before .first .ensures) at k)),
     )
 
 passes-ask-requires-2 : (t : ℕ) → passes-lts.Need-ask-requires-2 (passes-claims t) (passes-at t) passes.Post passes-Inv-loop passes-μ-loop
@@ -233,7 +234,7 @@ passes-ask-requires-2 t c κs = (stands _ _ _ _ End (c .before .before .before .
 
 passes-add-t15 : (t : ℕ) → passes-lts.Need-add-t15 (passes-claims t) (passes-at t) passes.Post passes-Inv-loop passes-μ-loop
 passes-add-t15 t c =
-    let l = ahead-done _ _ _ _ _ (c .before .before .before .before .before .before .before .body .given .1) (c .before .before .before .before .before .before .before .before .before .block .ensures .ahead) in
+    let l = ahead-done _ _ _ _ _ (ap toldPart (c .before .before .before .before .before .before .before .body .given .1)) (c .before .before .before .before .before .before .before .before .before .block .ensures .ahead) in
     let h = stands _ _ _ _ End (c .before .before .before .before .before .row-kind .ensures) (c .before .before .enum-told3 .given .1) tt in
     let i = h .inside in
     omega arith
@@ -241,25 +242,25 @@ passes-add-t15 t c =
 passes-returns-2 : (t : ℕ) → passes-lts.Need-returns-2 (passes-claims t) (passes-at t) passes.Post passes-Inv-loop passes-μ-loop
 unfolding Ahead
 passes-returns-2 t c =
-    let l = ahead-done _ _ _ _ _ (c .before .before .before .before .before .before .before .before .before .body .given .1) (c .before .before .before .before .before .before .before .before .before .before .before .block .ensures .ahead) in
+    let l = ahead-done _ _ _ _ _ (ap toldPart (c .before .before .before .before .before .before .before .before .before .body .given .1)) (c .before .before .before .before .before .before .before .before .before .before .before .block .ensures .ahead) in
     let h = stands _ _ _ _ End (c .before .before .before .before .before .before .before .row-kind .ensures) (c .before .before .before .before .enum-told3 .given .1) tt in
     let i = h .inside in
     record {
       ahead = (omega arith, omega (arith, h .below));
       right =
           rw (c .first3 .ensures, c .before .first2 .ensures, c .before .before .ask2 .ensures, c .before .before .before .ask .ensures, c .before .before .before .before .before .before .first .ensures)
-          (from-none _ _ _ _ _ _ (c .before .before .before .before .before .before .before .before .before .before .before .before .loop .inv .3 _ (pass-last _ _ _ _ _ _ _ _ _ (c .before .before .before .before .before .before .before .before .before .before .before .block .ensures .right) _ _ (c .before .before .before .before .before .before .before .before .before .body .given .1) (h .token) (h .below))));
+          (from-none _ _ _ _ _ _ (c .before .before .before .before .before .before .before .before .before .before .before .before .loop .inv .4 _ (pass-last _ _ _ _ _ _ _ _ _ (c .before .before .before .before .before .before .before .before .before .before .before .block .ensures .right) _ _ (ap toldPart (c .before .before .before .before .before .before .before .before .before .body .given .1)) _ (omega arith) (h .token) (h .below))));
     }
 
 passes-returns-3 : (t : ℕ) → passes-lts.Need-returns-3 (passes-claims t) (passes-at t) passes.Post passes-Inv-loop passes-μ-loop
 unfolding Ahead
 passes-returns-3 t c =
-    let l = ahead-done _ _ _ _ _ (c .before .before .before .before .body .given .1) (c .before .before .before .before .before .before .block .ensures .ahead) in
+    let l = ahead-done _ _ _ _ _ (ap toldPart (c .before .before .before .before .body .given .1)) (c .before .before .before .before .before .before .block .ensures .ahead) in
     record {
       ahead = tt;
       right =
           from-none _ _ _ _ _ _
-          (c .before .before .before .before .before .before .before .loop .inv .3 _ (pass-no _ _ _ _ _ _ _ _ _ (c .before .before .before .before .before .before .block .ensures .right) _ _ (c .before .before .before .before .body .given .1) (rw (c .before .before .row-kind .ensures) at (c .match2 .keys3)) (l .1)));
+          (c .before .before .before .before .before .before .before .loop .inv .4 _ (pass-no _ _ _ _ _ _ _ _ _ (c .before .before .before .before .before .before .block .ensures .right) _ _ (ap toldPart (c .before .before .before .before .body .given .1)) (rw (c .before .before .row-kind .ensures) at (c .match2 .keys3)) (l .1)));
     }
 
 pub +block+passes-spec : {M : Type 1} → statement M
@@ -314,10 +315,10 @@ pub +block+passes-spec : {M : Type 1} → statement M
     (λ c. search needs)
     (passes-returns t)
     (λ c κs. search needs)
-    (passes-add-count t)
     (λ c κs. search needs)
     (λ c. search needs)
     (passes-add-at-2 t)
+    (passes-add-count t)
     (passes-loop-less t)
     (passes-loop-again t)
     (λ c. search needs)

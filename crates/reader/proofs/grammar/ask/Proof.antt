@@ -2,7 +2,7 @@
 use mathlib.Core.Path.{_∙_, sym}
 use borrow.Author.Needs.{needs}
 use borrow.Author.Tests.{eq-eqb, ne-eqb}
-use Rattle.reader.specs.Parts.{wrongUnless}
+use Rattle.reader.specs.ways.Parts.{wrongUnless}
 use Rattle.reader.proofs.CellTokens.{cell-of}
 use Rattle.reader.proofs.grammar.ask.Statement.{statement}
 use Rattle.reader.proofs.grammar.ask.Tie as tie

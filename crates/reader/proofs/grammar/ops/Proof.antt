@@ -3,11 +3,10 @@ use Prim.Native.Nat.{_≤_, _<_, _-_, _/_}
 use native.Mathlib.Omega.{arith}
 use borrow.Author.Needs.{needs}
 use lib.ListN.{length}
-use Rattle.readings.specs.Readings.{allRows}
+use Rattle.theory_readings.specs.Readings.{allRows}
 use Rattle.reader.specs.Rows.{wordIn}
-use Rattle.reader.specs.Parts.{Ahead, OpsRight}
+use Rattle.reader.specs.ways.Parts.{PartRead, Ahead, OpsRight}
 use Rattle.reader.specs.declared.token.RowKind.the-variants.{End}
-use Rattle.reader.specs.declared.grammar.Part.{Part}
 use Rattle.reader.proofs.RowTokens.{rows-in, row-inside, stands, op-something}
 use Rattle.reader.proofs.PartLaws.{ops-more, ops-end, ops-no}
 use Rattle.reader.proofs.grammar.ops.Statement.{statement}
@@ -20,7 +19,7 @@ use Rattle.reader.proofs.token.row_kind.Reads as row-kind-reads
 abbrev Inv-loop : tie.InvT-loop
 Inv-loop profile cells row flag at₀ at =
     (row ≤ at) × (at ≤ length cells / 49)
-    × ((r : Part) → OpsRight (allRows cells) (wordIn profile cells) at flag r → OpsRight (allRows cells) (wordIn profile cells) row flag r)
+    × ((r : PartRead) → OpsRight (allRows cells) (wordIn profile cells) at flag r → OpsRight (allRows cells) (wordIn profile cells) row flag r)
 
 abbrev μ-loop : tie.MeasureT-loop
 μ-loop profile cells row flag at₀ at = length cells / 49 - at

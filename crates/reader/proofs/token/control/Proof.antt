@@ -1,7 +1,7 @@
 -- `token::control` meets its contract: each way out by the tests before it.
 use borrow.Author.Needs.{needs}
 use borrow.Author.Tests.{eq-eqb, ne-eqb}
-use Rattle.readings.specs.Tokens.{controls, tokenBeside, controlToken}
+use Rattle.theory_readings.specs.Tokens.{controls, tokenBeside, controlToken}
 use Rattle.reader.specs.Rows.{kindOf}
 use Rattle.reader.proofs.token.control.Statement.{statement}
 use Rattle.reader.proofs.token.control.Tie as tie

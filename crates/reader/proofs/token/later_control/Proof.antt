@@ -1,6 +1,6 @@
 -- `token::later_control` meets its contract: each way out by the tests before it.
 use borrow.Author.Tests.{eq-eqb, ne-eqb}
-use Rattle.readings.specs.Tokens.{controls, tokenBeside}
+use Rattle.theory_readings.specs.Tokens.{controls, tokenBeside}
 use Rattle.reader.specs.Rows.{kindOf}
 use Rattle.reader.proofs.token.later_control.Statement.{statement}
 use Rattle.reader.proofs.token.later_control.Tie as tie

@@ -9,12 +9,12 @@ use Rattle.reader.proofs.token.opcode.Tie as tie
 cast-result : tie.Need-cast-result
 cast-result c =
     let a = c .before .before .args in
-    omega (arith, c .opcode-at .ensures, opcode-below (a .cells .now) (a .row))
+    omega (arith, c .decode-opcode .ensures, opcode-below (a .cells .now) (a .row))
 
 returns : tie.Need-returns
 returns c =
     let a = c .before .before .args in
-    c .opcode-at .ensures ∙ sym (opcode-of (a .cells .now) (a .row) (search needs))
+    c .decode-opcode .ensures ∙ sym (opcode-of (a .cells .now) (a .row) (search needs))
 
 pub opcode-spec : {M : Type 1} → statement M
 opcode-spec = tie.close (tie.spec (λ c κs. tt) cast-result returns)

@@ -4,7 +4,7 @@ use Prim.Native.Nat.{_/_, _<_}
 use native.Mathlib.Omega.{arith}
 use borrow.Author.Needs.{needs}
 use lib.ListN.{length}
-use Rattle.readings.specs.Readings.{rowAt, allRows}
+use Rattle.theory_readings.specs.Readings.{rowAt, allRows}
 use Rattle.reader.specs.Rows.{wordIn, kindOf}
 use Rattle.reader.proofs.RowTokens.{rows-in, token-of, token-past}
 use Rattle.reader.proofs.CellTokens.{cell-of, kind-control, kind-op, kind-none}

@@ -1,7 +1,8 @@
 -- `trace::behind_block` meets its contract.
-use mathlib.Core.Path.{sym}
+use mathlib.Core.Path.{sym, ap}
 use borrow.Author.Needs.{needs}
-use Rattle.reader.specs.Reads.{BehindRead}
+use Rattle.reader.specs.ways.WholeWord.{BehindRead}
+use Rattle.reader.specs.ways.Parts.{toldWrong}
 use Rattle.reader.proofs.RowTokens.{rows-in}
 use Rattle.reader.proofs.ReadLaws.{behind-no, behind-wrong, behind-right}
 use Rattle.reader.proofs.trace.behind_block.Statement.{statement}
@@ -17,13 +18,13 @@ returns-2 : tie.Need-returns-2
 unfolding BehindRead
 returns-2 c =
     let a = c .before .before .before .before .before .before .args in
-    λ b k u. behind-wrong _ _ _ _ b (sym (rows-in (a .profile) (a .cells .now))) (c .before .before .before .before .halts .ensures) _ _ _ (c .before .before .before .if1 .left) (c .before .wrong .given .1) u
+    λ b k u. behind-wrong _ _ _ _ b (sym (rows-in (a .profile) (a .cells .now))) (c .before .before .before .before .halts .ensures) _ _ _ (c .before .before .before .if1 .left) (ap toldWrong (c .before .wrong .given .1)) u
 
 returns-3 : tie.Need-returns-3
 unfolding BehindRead
 returns-3 c =
     let a = c .before .before .before .before .before .args in
-    λ b k u. behind-right _ _ _ _ b (sym (rows-in (a .profile) (a .cells .now))) (c .before .before .before .halts .ensures) _ _ (c .before .before .if1 .left) (c .enum-told .given .1) u k
+    λ b k u. behind-right _ _ _ _ b (sym (rows-in (a .profile) (a .cells .now))) (c .before .before .before .halts .ensures) _ _ (c .before .before .if1 .left) (ap toldWrong (c .enum-told .given .1)) u k
 
 pub behind-block-spec : {M : Type 1} → statement M
 behind-block-spec = tie.close (tie.spec (λ c κs. search needs) returns (λ c. search needs) (λ c. search needs) returns-2 returns-3)

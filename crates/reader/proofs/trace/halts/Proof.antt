@@ -4,10 +4,11 @@ use Prim.Native.Nat.{_≤_, _-_, _/_}
 use native.Mathlib.Omega.{arith}
 use borrow.Author.Needs.{needs}
 use lib.ListN.{length}
-use Rattle.readings.specs.Readings.{Block}
-use Rattle.readings.specs.Parser.{afterHalt}
-use Rattle.reader.specs.Rows.{wordIn, rowsFrom}
-use Rattle.reader.specs.Reads.{HaltsRead}
+use Rattle.theory_readings.specs.Readings.{Block}
+use Rattle.theory_readings.specs.ways.Parser.{afterHalt}
+use Rattle.reader.specs.Rows.{wordIn}
+use Rattle.reader.specs.ways.FromRow.{rowsFrom}
+use Rattle.reader.specs.ways.WholeWord.{HaltsRead}
 use Rattle.reader.specs.declared.token.RowKind.the-variants.{Halt}
 use Rattle.reader.proofs.RowTokens.{rows-in, stands}
 use Rattle.reader.proofs.ReadLaws.{halt-more, halt-stop, halt-end}

@@ -1,6 +1,8 @@
 -- `trace::read_cells` meets its contract.
+use mathlib.Core.Path.{ap}
 use native.Mathlib.Omega.{arith}
 use borrow.Author.Needs.{needs}
+use Rattle.reader.specs.ways.Parts.{toldPart}
 use Rattle.reader.proofs.RowTokens.{rows-in}
 use Rattle.reader.proofs.PartLaws.{ahead-done}
 use Rattle.reader.proofs.ReadLaws.{root-refused, root-done}
@@ -10,17 +12,17 @@ use Rattle.reader.proofs.trace.read_cells.Tie as tie
 behind-block-requires : tie.Need-behind-block-requires
 behind-block-requires c κs =
     let a = c .before .before .before .before .before .args in
-    let l = ahead-done _ _ _ _ _ (c .before .root2 .given .1) (c .before .before .before .block .ensures .ahead) in
+    let l = ahead-done _ _ _ _ _ (ap toldPart (c .before .root2 .given .1)) (c .before .before .before .block .ensures .ahead) in
     omega (arith, l .1, rows-in (a .profile) (a .cells .now))
 
 returns : tie.Need-returns
-returns c = root-refused _ _ _ (c .before .before .before .block .ensures .right) _ _ (c .before .root .given .1)
+returns c = root-refused _ _ _ (c .before .before .before .block .ensures .right) _ _ (ap toldPart (c .before .root .given .1))
 
 returns-2 : tie.Need-returns-2
 returns-2 c =
     let a = c .before .before .before .before .before .before .args in
-    let l = ahead-done _ _ _ _ _ (c .before .before .root2 .given .1) (c .before .before .before .before .block .ensures .ahead) in
-    root-done _ _ _ (c .before .before .before .before .block .ensures .right) _ _ _ (c .before .before .root2 .given .1) (omega (arith, l .1, rows-in (a .profile) (a .cells .now))) (c .behind-block .ensures)
+    let l = ahead-done _ _ _ _ _ (ap toldPart (c .before .before .root2 .given .1)) (c .before .before .before .before .block .ensures .ahead) in
+    root-done _ _ _ (c .before .before .before .before .block .ensures .right) _ _ _ (ap toldPart (c .before .before .root2 .given .1)) (omega (arith, l .1, rows-in (a .profile) (a .cells .now))) (c .behind-block .ensures)
 
 pub read-cells-spec : {M : Type 1} → statement M
 read-cells-spec = tie.close (tie.spec (λ c κs. search needs) (λ c. search needs) (λ c. search needs) behind-block-requires returns returns-2)

@@ -8,21 +8,20 @@ returns : tie.Need-returns
 returns c =
     let d = c .before .before .before .before .before .args .depths .now in
     let k = c .before .before .validate .ensures in
-    (k, kept-depths _ _ d _ k (c .if1 .taken))
+    kept-depths _ _ d _ k (c .if1 .taken)
 
 fill-requires : tie.Need-fill-requires
 fill-requires c κs =
-    let d = c .before .before .before .before .before .before .args .depths .now in
     let k = c .before .before .before .validate .ensures in
     let z = c .before .if1 .left in
-    (few-rows _ _ d _ k z, enough _ _ d _ k z)
+    (few-rows _ _ _ _ k z, enough _ _ _ _ k z)
 
 returns-2 : tie.Need-returns-2
 returns-2 c =
     let d = c .before .before .before .before .before .before .before .before .before .args .depths .now in
     let k = c .before .before .before .before .before .before .validate .ensures in
     let z = c .before .before .before .before .if1 .left in
-    (k, filled-depths _ _ d _ k z _ (c .before .before .fill .ensures))
+    filled-depths _ _ d _ k z _ (c .before .before .fill .ensures)
 
 pub read-trace-spec : {M : Type 1} → statement M
 read-trace-spec = tie.close (tie.spec (λ c κs. tt) returns fill-requires (λ c. search needs) returns-2)

@@ -14,14 +14,14 @@ returns : tie.Need-returns
 unfolding viewRefused bufferWrong
 returns c =
     let e = lt-ltb 0 (length (c .before .before .args .cells .now) % 49) (omega (arith, c .before .if1 .taken)) in
-    record { cells = rw e; place = rw (e, zero-add) }
+    record { cells = rw e; lies-at = rw (e, zero-add) }
 
 returns-2 : tie.Need-returns-2
 unfolding viewRefused bufferWrong
 returns-2 c =
     let e = le-ltb 0 (length (c .before .before .before .args .cells .now) % 49) (omega (arith, c .before .before .if1 .left)) in
     let f = lt-ltb _ _ (c .before .if2 .taken) in
-    record { cells = rw (e, f); place = rw (e, f, zero-add) }
+    record { cells = rw (e, f); lies-at = rw (e, f, zero-add) }
 
 returns-3 : tie.Need-returns-3
 unfolding viewRefused bufferWrong
@@ -29,7 +29,7 @@ returns-3 c =
     let e = le-ltb 0 (length (c .before .before .before .before .args .cells .now) % 49) (omega (arith, c .before .before .before .if1 .left)) in
     let f = le-ltb _ _ (c .before .before .if2 .left) in
     let g = le-leb _ _ (c .before .if3 .taken) in
-    record { cells = rw (e, f, g); place = rw (e, f, g, zero-add) }
+    record { cells = rw (e, f, g); lies-at = rw (e, f, g, zero-add) }
 
 returns-4 : tie.Need-returns-4
 unfolding viewRefused bufferWrong
@@ -39,7 +39,7 @@ returns-4 c =
     let g = lt-leb _ _ (c .before .if3 .left) in
     record {
       cells = rw (e, f, g, add-sub-cancel-left (c .before .before .before .before .args .number * 49) 49);
-      place = rw (e, f, g);
+      lies-at = rw (e, f, g);
     }
 
 pub row-spec : {M : Type 1} → statement M

@@ -4,33 +4,9 @@ use Rattle.groups.specs.Contexts.{contextAtBatchStart}
 use Rattle.groups.proofs.context.BasicBlockContext.new_at_batch_start.Statement.{statement}
 use Rattle.groups.proofs.context.BasicBlockContext.new_at_batch_start.Tie as tie
 
-batch-at-requires : tie.Need-batch-at-requires
-batch-at-requires c κs = search needs
-
-enum-known-batch : tie.Need-enum-known-batch
-enum-known-batch c = search needs
-
-enum-told : tie.Need-enum-told
-enum-told c = search needs
-
 returns : tie.Need-returns
 unfolding contextAtBatchStart
 returns c = rw (← (c .before .before .batch-at .ensures), c .enum-told .given .1)
-
-lent-batches-requires : tie.Need-lent-batches-requires
-lent-batches-requires c κs = search needs
-
-sum-groups-requires : tie.Need-sum-groups-requires
-sum-groups-requires c κs = search needs
-
-batch-flags-requires : tie.Need-batch-flags-requires
-batch-flags-requires c κs = search needs
-
-enum-known-flags : tie.Need-enum-known-flags
-enum-known-flags c = search needs
-
-enum-told-2 : tie.Need-enum-told-2
-enum-told-2 c = search needs
 
 returns-2 : tie.Need-returns-2
 unfolding contextAtBatchStart
@@ -39,10 +15,7 @@ returns-2 c =
     let s = f .before in
     let l = s .before in
     let b = l .before .before in
-    rw (← (b .before .before .batch-at .ensures), b .batch .given .1, ← (l .lent-batches .ensures), ← (s .sum-groups .ensures .0), ← (f .batch-flags .ensures), c .enum-told2 .given .1)
-
-is-too-large-requires : tie.Need-is-too-large-requires
-is-too-large-requires c κs = search needs
+    rw (← (b .before .before .batch-at .ensures), b .batch .given .1, ← (l .lent-batches .ensures), ← (s .sum-groups .ensures .0), ← (f .get-op-batch-flags .ensures), c .enum-told2 .given .1)
 
 returns-3 : tie.Need-returns-3
 unfolding contextAtBatchStart
@@ -53,7 +26,7 @@ returns-3 c =
     let s = f .before in
     let l = s .before in
     let b = l .before .before in
-    rw (← (b .before .before .batch-at .ensures), b .batch .given .1, ← (l .lent-batches .ensures), ← (s .sum-groups .ensures .0), ← (f .batch-flags .ensures), g .flags .given .1, ← (t .is-too-large .ensures), c .if1 .taken)
+    rw (← (b .before .before .batch-at .ensures), b .batch .given .1, ← (l .lent-batches .ensures), ← (s .sum-groups .ensures .0), ← (f .get-op-batch-flags .ensures), g .flags .given .1, ← (t .is-too-large .ensures), c .if1 .taken)
 
 returns-4 : tie.Need-returns-4
 unfolding contextAtBatchStart
@@ -64,22 +37,22 @@ returns-4 c =
     let s = f .before in
     let l = s .before in
     let b = l .before .before in
-    rw (← (b .before .before .batch-at .ensures), b .batch .given .1, ← (l .lent-batches .ensures), ← (s .sum-groups .ensures .0), ← (f .batch-flags .ensures), g .flags .given .1, ← (t .is-too-large .ensures), c .if1 .left)
+    rw (← (b .before .before .batch-at .ensures), b .batch .given .1, ← (l .lent-batches .ensures), ← (s .sum-groups .ensures .0), ← (f .get-op-batch-flags .ensures), g .flags .given .1, ← (t .is-too-large .ensures), c .if1 .left)
 
 pub new-at-batch-start-spec : {M : Type 1} → statement M
 new-at-batch-start-spec =
     tie.close
     (tie.spec
-    batch-at-requires
-    enum-known-batch
-    enum-told
+    (λ c κs. search needs)
+    (λ c. search needs)
+    (λ c. search needs)
     returns
-    lent-batches-requires
-    sum-groups-requires
-    batch-flags-requires
-    enum-known-flags
-    enum-told-2
+    (λ c κs. search needs)
+    (λ c κs. search needs)
+    (λ c κs. search needs)
+    (λ c. search needs)
+    (λ c. search needs)
     returns-2
-    is-too-large-requires
+    (λ c κs. search needs)
     returns-3
     returns-4)

@@ -5,30 +5,9 @@ use Rattle.groups.proofs.Contexts.{in-batch}
 use Rattle.groups.proofs.context.BasicBlockContext.new_at_op.Statement.{statement}
 use Rattle.groups.proofs.context.BasicBlockContext.new_at_op.Tie as tie
 
-batch-at-requires : tie.Need-batch-at-requires
-batch-at-requires c κs = search needs
-
-enum-known-batch : tie.Need-enum-known-batch
-enum-known-batch c = search needs
-
-enum-told : tie.Need-enum-told
-enum-told c = search needs
-
 returns : tie.Need-returns
 unfolding contextAtOp
 returns c = rw (← (c .before .before .batch-at .ensures), c .enum-told .given .1)
-
-starts-at-requires : tie.Need-starts-at-requires
-starts-at-requires c κs = search needs
-
-op-idx-in-batch-to-group-requires : tie.Need-op-idx-in-batch-to-group-requires
-op-idx-in-batch-to-group-requires c κs = search needs
-
-enum-known-place : tie.Need-enum-known-place
-enum-known-place c = search needs
-
-enum-told-2 : tie.Need-enum-told-2
-enum-told-2 c = search needs
 
 returns-2 : tie.Need-returns-2
 unfolding contextAtOp
@@ -60,14 +39,14 @@ pub new-at-op-spec : {M : Type 1} → statement M
 new-at-op-spec =
     tie.close
     (tie.spec
-    batch-at-requires
-    enum-known-batch
-    enum-told
+    (λ c κs. search needs)
+    (λ c. search needs)
+    (λ c. search needs)
     returns
-    starts-at-requires
-    op-idx-in-batch-to-group-requires
-    enum-known-place
-    enum-told-2
+    (λ c κs. search needs)
+    (λ c κs. search needs)
+    (λ c. search needs)
+    (λ c. search needs)
     returns-2
     in-group-requires
     returns-3)

@@ -1,6 +1,6 @@
 -- `Family::helpers` meets its contract: each arm by the constructor that it knows.
 use borrow.Author.Needs.{needs}
-use Rattle.groups.specs.Families.{foundOf}
+use Rattle.groups.specs.ways.Families.{foundOf}
 use Rattle.groups.proofs.helpers.Family.helpers.Statement.{statement}
 use Rattle.groups.proofs.helpers.Family.helpers.Tie as tie
 

@@ -2,7 +2,7 @@
 use borrow.Author.Needs.{needs}
 use mathlib.Core.Path.{ap, _∙_}
 use Rattle.groups.specs.Helpers.{helpersAnswer}
-use Rattle.groups.specs.Families.{readFamily, foundOf}
+use Rattle.groups.specs.ways.Families.{readFamily, foundOf}
 use Rattle.groups.proofs.FamilyLaws.{read-law, found-law}
 use Rattle.groups.proofs.helpers.OperationHelperRegisters.to_user_op_helpers.Statement.{statement}
 use Rattle.groups.proofs.helpers.OperationHelperRegisters.to_user_op_helpers.Tie as tie

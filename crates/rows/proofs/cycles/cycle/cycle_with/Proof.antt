@@ -20,9 +20,9 @@ returns c =
     let e = n .before in
     let k = e .before .before in
     let a = k .before .before .before .before .before .before .before .before .before .before .args in (
-      rw (← (k .checked .ensures .0)) (n .made-number .ensures),
+      rw (← (k .checked .ensures .0)) (n .made-refusal .ensures),
       (
-        rw (← (k .checked .ensures .0), c .kept .ensures, n .made-number .ensures, e .enum-told .given .1),
+        rw (← (k .checked .ensures .0), c .kept .ensures, n .made-refusal .ensures, e .enum-told .given .1),
         rw (← (k .checked .ensures .0), e .enum-told .given .1) (pick-same (a .write) _),
       ),
     )

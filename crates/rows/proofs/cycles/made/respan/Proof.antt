@@ -1,32 +1,32 @@
 -- `made::respan` meets its contract.
 use borrow.Author.Needs.{needs}
-use Rattle.rows.specs.cycles.Made.{respanned}
+use Rattle.rows.specs.cycles.Made.{madeRespan}
 use Rattle.rows.proofs.cycles.made.respan.Statement.{statement}
 use Rattle.rows.proofs.cycles.made.respan.Tie as tie
 
 returns : tie.Need-returns
-unfolding respanned
+unfolding madeRespan
 returns c = rw (← (c .before .before .node-at .ensures), c .enum-told .given .1)
 
 returns-2 : tie.Need-returns-2
-unfolding respanned
+unfolding madeRespan
 returns-2 c =
     let a = c .before .before in
     let e = a .before .before in
     rw (← (e .before .before .node-at .ensures), e .entry .given .1, ← (a .as-block .ensures), c .enum-told2 .given .1)
 
 returns-3 : tie.Need-returns-3
-unfolding respanned
+unfolding madeRespan
 returns-3 c =
     let f = c .before in
     let n = f .before .before in
     let b = n .before .before in
     let a = b .before .before in
     let e = a .before .before in
-    rw (← (e .before .before .node-at .ensures), e .entry .given .1, ← (a .as-block .ensures), b .block .given .1, ← (n .new-at-batch-start .ensures), c .batch-number .ensures, f .enum-told3 .given .1)
+    rw (← (e .before .before .node-at .ensures), e .entry .given .1, ← (a .as-block .ensures), b .block .given .1, ← (n .new-at-batch-start .ensures), c .batch-refusal .ensures, f .enum-told3 .given .1)
 
 returns-4 : tie.Need-returns-4
-unfolding respanned
+unfolding madeRespan
 returns-4 c =
     let n = c .before in
     let f = n .before .before .before .before in

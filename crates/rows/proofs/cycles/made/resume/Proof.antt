@@ -47,7 +47,7 @@ returns-5 c =
     let e = d .before .before in
     let g = e .before .before in
     let h = g .before .before in
-    rw (← (h .before .before .node-at .ensures), h .entry .given .1, ← (g .as-block .ensures), e .block .given .1, ← (d .batch-at .ensures), b .batch .given .1, ← (a .opcode-at .ensures), o .opcode .given .1, ← (n .new-at-op .ensures), c .op-number .ensures, f .enum-told5 .given .1)
+    rw (← (h .before .before .node-at .ensures), h .entry .given .1, ← (g .as-block .ensures), e .block .given .1, ← (d .batch-at .ensures), b .batch .given .1, ← (a .opcode-at .ensures), o .opcode .given .1, ← (n .new-at-op .ensures), c .op-refusal .ensures, f .enum-told5 .given .1)
 
 returns-6 : tie.Need-returns-6
 unfolding resumed

@@ -13,7 +13,7 @@ unfolding startBlock
 returns-2 c =
     let b = c .before .before in
     let a = b .before .before .before in
-    rw (← (a .before .before .batch-at .ensures), a .batch .given .1, ← (b .batch-flags .ensures), c .enum-told2 .given .1)
+    rw (← (a .before .before .batch-at .ensures), a .batch .given .1, ← (b .get-op-batch-flags .ensures), c .enum-told2 .given .1)
 
 returns-3 : tie.Need-returns-3
 unfolding startBlock
@@ -21,7 +21,7 @@ returns-3 c =
     let f = c .before .before in
     let b = f .before .before in
     let a = b .before .before .before in
-    rw (← (a .before .before .batch-at .ensures), a .batch .given .1, ← (b .batch-flags .ensures), f .flags .given .1, c .new-basic-block-batch .ensures)
+    rw (← (a .before .before .batch-at .ensures), a .batch .given .1, ← (b .get-op-batch-flags .ensures), f .flags .given .1, c .new-basic-block-batch .ensures)
 
 pub start-block-spec : {M : Type 1} → statement M
 start-block-spec =

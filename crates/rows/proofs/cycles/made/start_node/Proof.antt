@@ -11,7 +11,7 @@ returns c =
     let e = c .before in
     let s = e .before .before in
     let a = s .before .before .before .before .before .before .before .args in
-    rw (c .start-number .ensures, e .enum-told .given .1, start-refused (a .addresses .now) (a .parents .now) (a .at) (a .state) (s .start-lent .result) (s .start-lent .ensures) (e .enum-told .given .0 .0) (e .enum-told .given .1))
+    rw (c .start-refusal .ensures, e .enum-told .given .1, start-refused (a .addresses .now) (a .parents .now) (a .at) (a .state) (s .start-lent .result) (s .start-lent .ensures) (e .enum-told .given .0 .0) (e .enum-told .given .1))
 
 returns-2 : tie.Need-returns-2
 unfolding startNode

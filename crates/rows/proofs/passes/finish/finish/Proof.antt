@@ -1,13 +1,13 @@
 -- `finish::finish` meets its contract: all checks first, and then the five passes.
 use mathlib.Core.Path.{sym, _∙_}
 use borrow.Author.Needs.{needs}
-use Rattle.rows.proofs.passes.Refusals.{kept, changed}
+use Rattle.rows.proofs.passes.Refusals.{refused-pass, made-pass}
 use Rattle.rows.proofs.passes.Finishing.{passed-all}
 use Rattle.rows.proofs.passes.finish.finish.Statement.{statement}
 use Rattle.rows.proofs.passes.finish.finish.Tie as tie
 
 returns : tie.Need-returns
-returns c = let e = c .before .finish-refusal .ensures in (e, kept _ _ _ _ e (c .if1 .taken))
+returns c = refused-pass _ _ _ _ (c .before .finish-refusal .ensures) (c .if1 .taken)
 
 finish-rows-requires : tie.Need-finish-rows-requires
 finish-rows-requires c κs =
@@ -19,8 +19,7 @@ finish-rows-requires c κs =
 returns-2 : tie.Need-returns-2
 returns-2 c =
     let i = c .before .before .before .before in
-    let e = i .before .finish-refusal .ensures in
-    (sym (i .if1 .left) ∙ e, c .before .before .finish-rows .ensures ∙ changed _ _ _ _ e (i .if1 .left))
+    made-pass _ _ _ _ _ (i .before .finish-refusal .ensures) (i .if1 .left) (c .before .before .finish-rows .ensures)
 
 pub finish-spec : {M : Type 1} → statement M
 finish-spec =

@@ -5,80 +5,67 @@ use native.Mathlib.Omega.{arith}
 use borrow.Author.Needs.{needs}
 use lib.ListN.{length}
 use Rattle.rows.specs.passes.Passes.{allPasses, lastBuilt}
-use Rattle.rows.proofs.passes.Finishing.{ready, last-part, last-length, tall-at}
+use Rattle.rows.proofs.passes.Finishing.{Ready, ready, last-part, last-length, tall-at}
 use Rattle.rows.proofs.passes.finish.finish_rows.Statement.{statement}
 use Rattle.rows.proofs.passes.finish.finish_rows.Tie as tie
 
+-- what the checks let pass, behind the sum of the counts
+ready-at : (c : tie.After-sum-up-to) → Ready (length (c .before .before .before .before .args .buffer .now)) (c .sum-up-to .result) (c .before .before .before .before .args .height) (c .before .before .before .before .args .counts .now) (c .before .before .before .before .args .built .now)
+ready-at c = let s = c .before .before .before .before in ready _ _ _ _ _ _ (s .pre .0 .0) (s .pre .0 .1) (s .pre .1 .0) (s .pre .1 .1) (c .sum-up-to .ensures)
+
 sub-last : tie.Need-sub-last
-sub-last c =
-    let s = c .before .before .before .before in
-    let a = s .args in
-    let f = ready (length (a .buffer .now)) (a .fragment-size) (c .sum-up-to .result) (a .height) (a .counts .now) (a .built .now) (s .pre .0 .0) (s .pre .0 .1) (s .pre .1 .0) (s .pre .1 .1) (c .sum-up-to .ensures) in
-    omega arith
+sub-last c = let f = ready-at c in omega arith
 
 mul-last : tie.Need-mul-last
-mul-last c =
-    let s = c .before .before .before .before in
-    let a = s .args in
-    let f = ready (length (a .buffer .now)) (a .fragment-size) (c .sum-up-to .result) (a .height) (a .counts .now) (a .built .now) (s .pre .0 .0) (s .pre .0 .1) (s .pre .1 .0) (s .pre .1 .1) (c .sum-up-to .ensures) in
-    omega arith
+mul-last c = let f = ready-at c in omega arith
 
 add-end : tie.Need-add-end
-add-end c =
-    let s = c .before .before .before .before in
-    let a = s .args in
-    let f = ready (length (a .buffer .now)) (a .fragment-size) (c .sum-up-to .result) (a .height) (a .counts .now) (a .built .now) (s .pre .0 .0) (s .pre .0 .1) (s .pre .1 .0) (s .pre .1 .1) (c .sum-up-to .ensures) in
-    omega arith
+add-end c = let f = ready-at c in omega arith
 
 write-multiplicities-requires : tie.Need-write-multiplicities-requires
 write-multiplicities-requires c κs =
-    let s = c .before .before .before .before .before .before .before .before .before in
-    let a = s .args in
-    let f = ready (length (a .buffer .now)) (a .fragment-size) (c .before .before .before .before .before .sum-up-to .result) (a .height) (a .counts .now) (a .built .now) (s .pre .0 .0) (s .pre .0 .1) (s .pre .1 .0) (s .pre .1 .1) (c .before .before .before .before .before .sum-up-to .ensures) in
+    let u = c .before .before .before .before .before in
+    let f = ready-at u in
     (omega arith, omega arith)
 
 invert-helpers-requires : tie.Need-invert-helpers-requires
 invert-helpers-requires c κs =
-    let s = c .before .before .before .before .before .before .before .before .before .before .before .before .before in
-    let a = s .args in
-    let f = ready (length (a .buffer .now)) (a .fragment-size) (c .before .before .before .before .before .before .before .before .before .sum-up-to .result) (a .height) (a .counts .now) (a .built .now) (s .pre .0 .0) (s .pre .0 .1) (s .pre .1 .0) (s .pre .1 .1) (c .before .before .before .before .before .before .before .before .before .sum-up-to .ensures) in
+    let u = c .before .before .before .before .before .before .before .before .before in
+    let f = ready-at u in
     omega arith
 
 mul-push-halt : tie.Need-mul-push-halt
 mul-push-halt c =
-    let s = c .before .before .before .before .before .before .before .before .before .before .before .before .before .before .before .before .before in
-    let a = s .args in
-    let f = ready (length (a .buffer .now)) (a .fragment-size) (c .before .before .before .before .before .before .before .before .before .before .before .before .before .sum-up-to .result) (a .height) (a .counts .now) (a .built .now) (s .pre .0 .0) (s .pre .0 .1) (s .pre .1 .0) (s .pre .1 .1) (c .before .before .before .before .before .before .before .before .before .before .before .before .before .sum-up-to .ensures) in
+    let u = c .before .before .before .before .before .before .before .before .before .before .before .before .before in
+    let f = ready-at u in
     omega arith
 
 part-push-halt-end : tie.Need-part-push-halt-end
 part-push-halt-end c =
-    let s = c .before .before .before .before .before .before .before .before .before .before .before .before .before .before .before .before .before in
-    let a = s .args in
-    let f = ready (length (a .buffer .now)) (a .fragment-size) (c .before .before .before .before .before .before .before .before .before .before .before .before .before .sum-up-to .result) (a .height) (a .counts .now) (a .built .now) (s .pre .0 .0) (s .pre .0 .1) (s .pre .1 .0) (s .pre .1 .1) (c .before .before .before .before .before .before .before .before .before .before .before .before .before .sum-up-to .ensures) in
+    let u = c .before .before .before .before .before .before .before .before .before .before .before .before .before in
+    let f = ready-at u in
     omega arith
 
 push-halt-requires : tie.Need-push-halt-requires
 push-halt-requires c κs =
-    let s = c .before .before .before .before .before .before .before .before .before .before .before .before .before .before .before .before .before .before in
-    let a = s .args in
-    let f = ready (length (a .buffer .now)) (a .fragment-size) (c .before .before .before .before .before .before .before .before .before .before .before .before .before .before .sum-up-to .result) (a .height) (a .counts .now) (a .built .now) (s .pre .0 .0) (s .pre .0 .1) (s .pre .1 .0) (s .pre .1 .1) (c .before .before .before .before .before .before .before .before .before .before .before .before .before .before .sum-up-to .ensures) in
+    let u = c .before .before .before .before .before .before .before .before .before .before .before .before .before .before in
+    let f = ready-at u in
+    let a = u .before .before .before .before .args in
     (omega arith, last-length (a .built .now) (length (a .counts .now)) (f .some) (f .in-built))
 
 pad-requires : tie.Need-pad-requires
 pad-requires c κs =
-    let s = c .before .before .before .before .before .before .before .before .before .before .before .before .before .before .before .before .before .before .before .before .before .before in
-    let a = s .args in
-    let f = ready (length (a .buffer .now)) (a .fragment-size) (c .before .before .before .before .before .before .before .before .before .before .before .before .before .before .before .before .before .before .sum-up-to .result) (a .height) (a .counts .now) (a .built .now) (s .pre .0 .0) (s .pre .0 .1) (s .pre .1 .0) (s .pre .1 .1) (c .before .before .before .before .before .before .before .before .before .before .before .before .before .before .before .before .before .before .sum-up-to .ensures) in
-    let below : c .before .before .before .before .before .before .before .before .before .before .before .before .before .before .before .before .before .before .sum-up-to .result + 1 ≤ a .height = omega arith in
+    let u = c .before .before .before .before .before .before .before .before .before .before .before .before .before .before .before .before .before .before in
+    let f = ready-at u in
+    let a = u .before .before .before .before .args in
+    let below : u .sum-up-to .result + 1 ≤ a .height = omega arith in
     (omega arith, below, tall-at (a .height) (length (a .buffer .now)) _ (f .tall) (omega (arith, c .before .before .buffer4 .given, c .before .before .before .before .before .before .before .buffer3 .given, c .before .before .before .before .before .before .before .before .before .before .before .buffer2 .given, c .before .before .before .before .before .before .before .before .before .before .before .before .before .before .before .buffer .given)))
 
 returns : tie.Need-returns
 unfolding allPasses lastBuilt
 returns c =
-    let s = c .before .before .before .before .before .before .before .before .before .before .before .before .before .before .before .before .before .before .before .before .before .before .before .before .before in
-    let a = s .args in
-    let f = ready (length (a .buffer .now)) (a .fragment-size) (c .before .before .before .before .before .before .before .before .before .before .before .before .before .before .before .before .before .before .before .before .before .sum-up-to .result) (a .height) (a .counts .now) (a .built .now) (s .pre .0 .0) (s .pre .0 .1) (s .pre .1 .0) (s .pre .1 .1) (c .before .before .before .before .before .before .before .before .before .before .before .before .before .before .before .before .before .before .before .before .before .sum-up-to .ensures) in
+    let u = c .before .before .before .before .before .before .before .before .before .before .before .before .before .before .before .before .before .before .before .before .before in
+    let f = ready-at u in
     rw (
       c .before .before .pad .ensures,
       c .before .before .before .before .before .before .push-halt .ensures,
@@ -86,7 +73,7 @@ returns c =
       c .before .before .before .before .before .before .before .before .before .before .before .before .before .before .before .write-multiplicities .ensures,
       c .before .before .before .before .before .before .before .before .before .before .before .before .before .before .before .before .before .before .before .fixup-rows .ensures,
       f .sum,
-      last-part (length (a .counts .now)),
+      last-part (length (u .before .before .before .before .args .counts .now)),
     )
 
 pub finish-rows-spec : {M : Type 1} → statement M

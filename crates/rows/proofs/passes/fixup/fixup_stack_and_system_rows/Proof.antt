@@ -2,14 +2,12 @@
 use mathlib.Core.Path.{sym, _∙_}
 use borrow.Author.Needs.{needs}
 use Rattle.rows.proofs.passes.Counts.{passed}
-use Rattle.rows.proofs.passes.Checks.{refused-stays}
+use Rattle.rows.proofs.passes.Refusals.{refused-pass, made-pass}
 use Rattle.rows.proofs.passes.fixup.fixup_stack_and_system_rows.Statement.{statement}
 use Rattle.rows.proofs.passes.fixup.fixup_stack_and_system_rows.Tie as tie
 
 returns : tie.Need-returns
-returns c =
-    let f = c .before in
-    (f .fixup-refusal .ensures, refused-stays _ _ _ (λ e. c .if1 .taken (f .fixup-refusal .ensures ∙ e)))
+returns c = refused-pass _ _ _ _ (c .before .fixup-refusal .ensures) (c .if1 .taken)
 
 fixup-rows-requires : tie.Need-fixup-rows-requires
 fixup-rows-requires c κs =
@@ -19,10 +17,8 @@ fixup-rows-requires c κs =
 
 returns-2 : tie.Need-returns-2
 returns-2 c =
-    let w = c .before .before in
-    let f = w .before .before .before in
-    let zero = sym (f .fixup-refusal .ensures) ∙ w .before .before .if1 .left in
-    (sym zero, rw zero (w .fixup-rows .ensures))
+    let i = c .before .before .before .before in
+    made-pass _ _ _ _ _ (i .before .fixup-refusal .ensures) (i .if1 .left) (c .before .before .fixup-rows .ensures)
 
 pub fixup-stack-and-system-rows-spec : {M : Type 1} → statement M
 fixup-stack-and-system-rows-spec =

@@ -42,6 +42,10 @@ write-sides-requires c κs =
     let h = starts (l .loop .k) (length (s .args .counts .now)) (s .args .fragment-size) (sumOf (s .args .counts .now)) (search needs) (s .pre .1) in
     (omega arith, simp (length-take, length-drop) (omega arith))
 
+-- a part from `at` to `at + 25` has 25 cells
+part-of-25 : (at : ℕ) → at + 25 - at ≡ 25
+part-of-25 at = omega arith
+
 loop-again : tie.Need-loop-again Inv-loop μ-loop
 loop-again c =
     let w = c .before .before in
@@ -50,9 +54,8 @@ loop-again c =
     let k = l .loop .k in
     let n = sumOf (s .args .counts .now) in
     let h = starts k (length (s .args .counts .now)) (s .args .fragment-size) n (search needs) (s .pre .1) in
-    let e : 25 * (k - 1) + 25 - 25 * (k - 1) ≡ 25 = omega arith in
     let t = later-turn n (s .args .fragment-size) (s .pre .0) (s .args .buffer .now) (s .pre .2) (s .args .built .now) k (l .loop .inv .0) h (omega arith) in
-    (omega arith, omega arith, search needs, rw (w .write-sides .ensures, e, l .loop .inv .3) t)
+    (omega arith, omega arith, search needs, rw (w .write-sides .ensures, part-of-25, l .loop .inv .3) t)
 
 returns : tie.Need-returns Inv-loop μ-loop
 returns c =

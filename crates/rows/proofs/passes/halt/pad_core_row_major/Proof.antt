@@ -1,12 +1,12 @@
 -- `halt::pad_core_row_major` meets its contract.
 use mathlib.Core.Path.{_∙_, sym}
 use borrow.Author.Needs.{needs}
-use Rattle.rows.proofs.passes.Refusals.{Room, fits5, kept, changed}
+use Rattle.rows.proofs.passes.Refusals.{Room, fits5, refused-pass, made-pass}
 use Rattle.rows.proofs.passes.halt.pad_core_row_major.Statement.{statement}
 use Rattle.rows.proofs.passes.halt.pad_core_row_major.Tie as tie
 
 returns : tie.Need-returns
-returns c = let e = c .before .padding-refusal .ensures in (e, kept _ _ _ _ e (c .if1 .taken))
+returns c = refused-pass _ _ _ _ (c .before .padding-refusal .ensures) (c .if1 .taken)
 
 pad-requires : tie.Need-pad-requires
 pad-requires c κs =
@@ -18,8 +18,7 @@ pad-requires c κs =
 returns-2 : tie.Need-returns-2
 returns-2 c =
     let i = c .before .before .before .before in
-    let e = i .before .padding-refusal .ensures in
-    (sym (i .if1 .left) ∙ e, c .before .before .pad .ensures ∙ changed _ _ _ _ e (i .if1 .left))
+    made-pass _ _ _ _ _ (i .before .padding-refusal .ensures) (i .if1 .left) (c .before .before .pad .ensures)
 
 pub pad-core-row-major-spec : {M : Type 1} → statement M
 pad-core-row-major-spec =

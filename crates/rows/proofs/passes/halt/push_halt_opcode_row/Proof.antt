@@ -2,12 +2,12 @@
 use mathlib.Core.Path.{_∙_, sym}
 use native.Mathlib.Omega.{arith}
 use borrow.Author.Needs.{needs}
-use Rattle.rows.proofs.passes.Refusals.{fits4, kept, changed}
+use Rattle.rows.proofs.passes.Refusals.{fits4, refused-pass, made-pass}
 use Rattle.rows.proofs.passes.halt.push_halt_opcode_row.Statement.{statement}
 use Rattle.rows.proofs.passes.halt.push_halt_opcode_row.Tie as tie
 
 returns : tie.Need-returns
-returns c = let e = c .before .halt-refusal .ensures in (e, kept _ _ _ _ e (c .if1 .taken))
+returns c = refused-pass _ _ _ _ (c .before .halt-refusal .ensures) (c .if1 .taken)
 
 push-halt-requires : tie.Need-push-halt-requires
 push-halt-requires c κs =
@@ -19,8 +19,7 @@ push-halt-requires c κs =
 returns-2 : tie.Need-returns-2
 returns-2 c =
     let i = c .before .before .before .before .before in
-    let e = i .before .halt-refusal .ensures in
-    (sym (i .if1 .left) ∙ e, c .before .before .push-halt .ensures ∙ changed _ _ _ _ e (i .if1 .left))
+    made-pass _ _ _ _ _ (i .before .halt-refusal .ensures) (i .if1 .left) (c .before .before .push-halt .ensures)
 
 pub push-halt-opcode-row-spec : {M : Type 1} → statement M
 push-halt-opcode-row-spec =

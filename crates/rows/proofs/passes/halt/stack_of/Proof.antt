@@ -59,5 +59,5 @@ stack-of-spec =
     (λ c κs. tt)
     (λ c κs. tt)
     (λ c κs. tt)
-    (λ c κs. tt)
+    (λ c κs. search needs)
     returns)

@@ -1,12 +1,12 @@
 -- `helper_column::invert_helper_column` meets its contract.
 use mathlib.Core.Path.{_∙_, sym}
 use borrow.Author.Needs.{needs}
-use Rattle.rows.proofs.passes.Refusals.{fits3, kept, changed}
+use Rattle.rows.proofs.passes.Refusals.{fits3, refused-pass, made-pass}
 use Rattle.rows.proofs.passes.helper_column.invert_helper_column.Statement.{statement}
 use Rattle.rows.proofs.passes.helper_column.invert_helper_column.Tie as tie
 
 returns : tie.Need-returns
-returns c = let e = c .before .helper-refusal .ensures in (e, kept _ _ _ _ e (c .if1 .taken))
+returns c = refused-pass _ _ _ _ (c .before .helper-refusal .ensures) (c .if1 .taken)
 
 invert-helpers-requires : tie.Need-invert-helpers-requires
 invert-helpers-requires c κs =
@@ -17,8 +17,7 @@ invert-helpers-requires c κs =
 returns-2 : tie.Need-returns-2
 returns-2 c =
     let i = c .before .before .before .before in
-    let e = i .before .helper-refusal .ensures in
-    (sym (i .if1 .left) ∙ e, c .before .before .invert-helpers .ensures ∙ changed _ _ _ _ e (i .if1 .left))
+    made-pass _ _ _ _ _ (i .before .helper-refusal .ensures) (i .if1 .left) (c .before .before .invert-helpers .ensures)
 
 pub invert-helper-column-spec : {M : Type 1} → statement M
 invert-helper-column-spec =

@@ -5,7 +5,7 @@ use native.Mathlib.Omega.{arith}
 use denote.Ref.{now}
 use lib.ListN.{length, length-replicate}
 use lib.Seq.{length-take-le}
-use Rattle.rows.specs.passes.LoopCounts.{endsIn, lacksFrom}
+use Rattle.rows.specs.ways.LoopCounts.{endsIn, lacksFrom}
 use Rattle.rows.proofs.passes.RowsFrom.{lacks-first, lacks-last}
 use Rattle.rows.proofs.passes.multiplicity.any_without_body.Statement.{statement}
 use Rattle.rows.proofs.passes.multiplicity.any_without_body.Tie as tie

@@ -4,7 +4,7 @@ use Prim.Native.Nat.{ℕ, _+_, _-_, _≤_, _<_}
 use native.Mathlib.Omega.{arith}
 use denote.Ref.{now}
 use lib.ListN.{length, getD, length-replicate}
-use Rattle.rows.specs.passes.LoopCounts.{endsIn, Tallied}
+use Rattle.rows.specs.ways.LoopCounts.{endsIn, Tallied}
 use Rattle.rows.proofs.passes.Tallies.{zero-at, tally-none, tally-more, tally-skip}
 use Rattle.rows.proofs.passes.multiplicity.count_ends.Statement.{statement}
 use Rattle.rows.proofs.passes.multiplicity.count_ends.Tie as tie

@@ -4,7 +4,7 @@ use Prim.Native.Nat.{_+_, _-_, _≤_, _<_}
 use native.Mathlib.Omega.{arith}
 use denote.Ref.{now}
 use lib.ListN.{length, take, length-set}
-use Rattle.rows.specs.passes.LoopCounts.{Held}
+use Rattle.rows.specs.ways.LoopCounts.{Held}
 use Rattle.rows.proofs.passes.Keys.{held-skip, held-more}
 use Rattle.rows.proofs.passes.multiplicity.gather.Statement.{statement}
 use Rattle.rows.proofs.passes.multiplicity.gather.Tie as tie

@@ -9,7 +9,7 @@ use Rattle.rows.proofs.passes.multiplicity.is_flagged_end.Tie as tie
 returns : tie.Need-returns
 returns c =
     let a = c .before .before .before .before .before .args in
-    rw (c .before .opcode-at .ensures) (sym (flagged-yes (a .profile) (now (a .buffer)) (a .i) (sym (c .before .before .before .cell .ensures) ∙ c .before .before .if1 .taken)))
+    rw (c .before .decode-opcode .ensures) (sym (flagged-yes (a .profile) (now (a .buffer)) (a .i) (sym (c .before .before .before .cell .ensures) ∙ c .before .before .if1 .taken)))
 
 returns-2 : tie.Need-returns-2
 returns-2 c =

@@ -4,7 +4,7 @@ use Rattle.rows.proofs.passes.multiplicity.is_loop.Statement.{statement
 use Rattle.rows.proofs.passes.multiplicity.is_loop.Tie as tie
 
 returns : tie.Need-returns
-returns c = rw (c .before .opcode-at .ensures)
+returns c = rw (c .before .decode-opcode .ensures)
 
 pub is-loop-spec : {M : Type 1} → statement M
 is-loop-spec =

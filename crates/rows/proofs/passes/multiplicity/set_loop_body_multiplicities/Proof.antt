@@ -2,13 +2,13 @@
 use mathlib.Core.Path.{sym, _∙_}
 use borrow.Author.Needs.{needs}
 use lib.ListN.{length}
-use Rattle.rows.proofs.passes.Refusals.{kept, changed}
+use Rattle.rows.proofs.passes.Refusals.{refused-pass, made-pass}
 use Rattle.rows.proofs.passes.Finishing.{Held, held-2}
 use Rattle.rows.proofs.passes.multiplicity.set_loop_body_multiplicities.Statement.{statement}
 use Rattle.rows.proofs.passes.multiplicity.set_loop_body_multiplicities.Tie as tie
 
 returns : tie.Need-returns
-returns c = let e = c .before .multiplicity-refusal .ensures in (e, kept _ _ _ _ e (c .if1 .taken))
+returns c = refused-pass _ _ _ _ (c .before .multiplicity-refusal .ensures) (c .if1 .taken)
 
 write-multiplicities-requires : tie.Need-write-multiplicities-requires
 write-multiplicities-requires c κs =
@@ -20,8 +20,7 @@ write-multiplicities-requires c κs =
 returns-2 : tie.Need-returns-2
 returns-2 c =
     let i = c .before .before .before .before in
-    let e = i .before .multiplicity-refusal .ensures in
-    (sym (i .if1 .left) ∙ e, c .before .before .write-multiplicities .ensures ∙ changed _ _ _ _ e (i .if1 .left))
+    made-pass _ _ _ _ _ (i .before .multiplicity-refusal .ensures) (i .if1 .left) (c .before .before .write-multiplicities .ensures)
 
 pub set-loop-body-multiplicities-spec : {M : Type 1} → statement M
 set-loop-body-multiplicities-spec =

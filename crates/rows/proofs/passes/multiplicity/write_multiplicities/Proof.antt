@@ -5,7 +5,7 @@ use native.Mathlib.Omega.{arith}
 use denote.Ref.{now}
 use lib.ListN.{length, length-replicate}
 use lib.Seq.{length-take-le}
-use Rattle.rows.specs.passes.LoopCounts.{endsIn, countedFrom, Alike}
+use Rattle.rows.specs.ways.LoopCounts.{endsIn, countedFrom, Alike}
 use Rattle.rows.proofs.passes.RowCells.{alike-refl, alike-trans}
 use Rattle.rows.proofs.passes.Written.{counted-first, counted-last, counted-on}
 use Rattle.rows.proofs.passes.multiplicity.write_multiplicities.Statement.{statement}

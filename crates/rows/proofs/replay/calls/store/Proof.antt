@@ -6,11 +6,14 @@ use Rattle.rows.proofs.replay.calls.store.Tie as tie
 
 returns : tie.Need-returns
 unfolding storingDone
-returns c = rw (← (c .before .before .before .before .stored-at .ensures), c .before .before .found .given .1) (c .refuse .ensures)
+returns c =
+    let n = c .before in
+    let e = n .before in
+    rw (← (e .before .before .stored-at .ensures), e .enum-told .given .1) (rw (n .stored-refusal .ensures, e .enum-told .given .1) at (c .refuse .ensures))
 
 returns-2 : tie.Need-returns-2
 unfolding storingDone
-returns-2 c = rw (← (c .before .before .before .before .before .stored-at .ensures), c .before .before .before .found2 .given .1) (c .before .start-clock-cycle .ensures .1)
+returns-2 c = rw (← (c .before .before .before .before .before .stored-at .ensures), c .before .before .before .found .given .1) (c .before .start-clock-cycle .ensures .1)
 
 pub store-spec : {M : Type 1} → statement M
 store-spec =
@@ -18,8 +21,9 @@ store-spec =
     (tie.spec
     (λ c κs. tt)
     (λ c. search needs)
-    (λ c κs. tt)
     (λ c. search needs)
     (λ c κs. tt)
+    (λ c κs. tt)
     returns
+    (λ c κs. tt)
     returns-2)

@@ -1,14 +1,8 @@
 -- `directory::part_of_opcodes` meets its contract.
-use native.Mathlib.Nat.{one-mul}
 use native.Mathlib.Omega.{arith}
-use Rattle.rows.specs.replay.Calls.{window}
-use Rattle.rows.proofs.replay.Cuts.{cut}
+use Rattle.rows.proofs.replay.Cuts.{part-of-ones}
 use Rattle.rows.proofs.replay.directory.part_of_opcodes.Statement.{statement}
 use Rattle.rows.proofs.replay.directory.part_of_opcodes.Tie as tie
-
-returns : tie.Need-returns
-unfolding window
-returns c = rw (one-mul (c .before .before .before .before .args .first), one-mul (c .before .before .before .before .args .count)) (cut (c .before .before .before .before .args .s .now) _ _ _ _ (c .before .before .clip .ensures .0) (c .before .clip-from .ensures .0))
 
 pub part-of-opcodes-spec : {M : Type 1} → statement M
 part-of-opcodes-spec =
@@ -19,4 +13,4 @@ part-of-opcodes-spec =
     (λ c. omega (arith, c .clip-from .ensures .1))
     (λ c. omega (arith, c .clip-from .ensures .1))
     (λ c. omega (arith, c .clip-from .ensures .1))
-    returns)
+    (λ c. part-of-ones (c .before .before .before .before .args .s .now) _ _ _ _ (c .before .before .clip .ensures .0) (c .before .clip-from .ensures .0)))

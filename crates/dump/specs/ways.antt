@@ -1,0 +1,5 @@
+pub mod Undumping
+pub mod Places
+pub mod Putting
+pub mod Scanning
+pub mod Reading

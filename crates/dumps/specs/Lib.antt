@@ -1,3 +1,0 @@
-pub mod Numerals
-pub mod Dumps
-pub mod Undump

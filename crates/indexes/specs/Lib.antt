@@ -1,3 +1,0 @@
-pub mod Indexes
-pub mod Enclosing
-pub mod Scan

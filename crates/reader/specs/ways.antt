@@ -1,0 +1,4 @@
+pub mod FromRow
+pub mod Parts
+pub mod Levels
+pub mod WholeWord

@@ -1,4 +1,0 @@
-pub mod Tokens
-pub mod Readings
-pub mod Answers
-pub mod Parser

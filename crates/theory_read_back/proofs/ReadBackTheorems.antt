@@ -1,0 +1,151 @@
+-- Demand 3, in one place. `ReadsTrace` is the contract of `read_trace`: what it may tell of a buffer and leave in the lent depth numbers, by
+-- `Right`, which says of an answer that it is right, by document 01.
+use mathlib.Core.Path.{_≡_, ap}
+use mathlib.Core.List.{List}
+use mathlib.Core.Logic.{_↔_}
+use Prim.Native.Nat.{ℕ, _/_, _≤_}
+use denote.Ref.{now}
+use lib.ListN.{length}
+use Rattle.rows.specs.declared.records.profile.Profile.{Profile}
+use Rattle.rows.specs.records.Forests.{Forest}
+use Rattle.rows.specs.records.Addresses.{Queues}
+use Rattle.rows.specs.cycles.Made.{Cursor}
+use Rattle.theory_readings.specs.Readings.{Block, programRows, Trace}
+use Rattle.theory_readings.specs.Answers.{ReaderAnswer, accepted, Right}
+use Rattle.theory_readings.proofs.OneReading as readings
+use Rattle.reader.specs.Reads.{ReadsTrace}
+use Rattle.reader.specs.declared.trace.TraceRead.{TraceRead}
+use Rattle.reader.proofs.trace.read_trace.Reads as read_trace
+use Rattle.reader.proofs.ReaderExact.{one-read, some-read, is-right-answer, reads-tree, reads-as, reads-exactly}
+use Rattle.theory_runs.specs.Calls.{Fragment, AllAccepted, finalStates, cellsOf, countsOf, builtCells}
+use Rattle.theory_runs.specs.Happened.{cyclesOf}
+use Rattle.theory_runs.specs.Finished.{Runs, nesting, writtenByFive, writtenByFinisher, FivePass, FinisherPasses}
+use Rattle.theory_runs.proofs.TraceOfRun.{finisher-trace, five-trace}
+use Rattle.theory_runs.proofs.ReadRun as runs
+use Rattle.theory_runs.proofs.OneNesting.{one-tree-ran}
+use Rattle.theory_read_back.specs.ReadBack.{ReadAs, CountsPasses, ReadBack}
+use Rattle.theory_read_back.specs.ReplayedRuns.{Lent, fragmentsOf, AllReplayed, countsReplayed, builtReplayed, cellsReplayed, ReplayedRuns, recordsNesting, finishedReplay, ReplayFinishes, fivePassedReplay, ReplayFivePass}
+use Rattle.theory_read_back.proofs.ReadTraceCall.{learns}
+use Rattle.theory_read_back.proofs.LoopRows.{counts-passes}
+use Rattle.theory_read_back.proofs.ReplayedCalls.{replayed-accepted, replayed-counts, replayed-built, replayed-cells}
+use Rattle.theory_read_back.proofs.Replays.{run-of-records, replay-finisher-trace, replay-five-trace}
+
+-- EVERY BUFFER
+
+-- of every profile, buffer and list of depth numbers there is one thing that `read_trace` may tell and one list that it may leave
+pub one-result : (p : Profile) (cells depths : List ℕ) →
+    ((told : TraceRead) × (left : List ℕ) × ReadsTrace p cells depths told left)
+    × ((told told′ : TraceRead) (left left′ : List ℕ) → ReadsTrace p cells depths told left → ReadsTrace p cells depths told′ left′ → (told ≡ told′) × (left ≡ left′))
+one-result p cells depths = (some-read p cells depths, one-read p cells depths)
+
+-- "The reader .. accepts a buffer, whatever cells it holds, exactly when it is a trace as document 01 defines it": the answer is the one right
+-- answer; with a depth number for each row (fewer is 11) the number told is 0 exactly for a trace, and a tree is accepted exactly where it is
+-- the reading
+pub reader-exact : (p : Profile) (cells depths : List ℕ) (told : TraceRead) (left : List ℕ) (reads : ReadsTrace p cells depths told left) →
+    Right p cells (length depths) (reads .answered)
+    × ((a : ReaderAnswer) → Right p cells (length depths) a → reads .answered ≡ a)
+    × (length cells / 49 ≤ length depths → (told .refusal ≡ 0) ↔ ((b : Block) × Trace p cells b))
+    × ((b : Block) → length cells / 49 ≤ length depths → (reads .answered ≡ accepted b) ↔ Trace p cells b)
+reader-exact p cells depths told left reads = (
+  reads .is-right,
+  is-right-answer p cells depths told left reads,
+  reads-exactly p cells depths told left reads,
+  λ b enough. reads-tree p cells depths told left reads enough b,
+)
+
+-- "a trace has exactly one reading"
+pub one-reading : (p : Profile) (cells : List ℕ) (b b′ : Block) → Trace p cells b → Trace p cells b′ → b ≡ b′
+one-reading p cells b b′ = readings.one-reading p cells b b′
+
+-- "and the reader's answers (the number of program rows and each row's depth) are those of that reading"
+pub answers-of-reading : (p : Profile) (cells depths : List ℕ) (told : TraceRead) (left : List ℕ) (reads : ReadsTrace p cells depths told left) (b : Block) →
+    length cells / 49 ≤ length depths → Trace p cells b → ReadAs p cells depths told left reads b
+answers-of-reading p cells depths told left reads b enough t =
+    let (e, d) = reads-as p cells depths told left reads enough b t in
+    record {
+      accepts = reads-tree p cells depths told left reads enough b .1 t;
+      refusal-is = ap (λ (r : TraceRead). r .refusal) e;
+      row-is = ap (λ (r : TraceRead). r .row) e;
+      rows-are = ap (λ (r : TraceRead). r .«program_rows») e;
+      depths-are = d;
+    }
+
+-- "each LOOP row's count is the number of passes of its body": in every trace, so in each that is written
+pub counts-are-passes : (p : Profile) (cells : List ℕ) (b : Block) → Trace p cells b → CountsPasses p cells b
+counts-are-passes = counts-passes
+
+-- all of it
+pub read-back : (p : Profile) (cells : List ℕ) (b : Block) → Trace p cells b → ReadBack p cells b
+read-back p cells b t = record {
+  is-trace = t;
+  one-reading = λ b′ t′. one-reading p cells b′ b t′ t;
+  read = λ depths enough told left reads. answers-of-reading p cells depths told left reads b enough t;
+  counts = counts-are-passes p cells b t;
+}
+
+-- EVERY CALL
+
+-- of `read_trace` itself, whose code meets its contract (`meets-contract`): whatever profile, cells and depth numbers a are passed, the result r
+-- and what s has at exit are as above
+pub call-exact : (κs : _) (a : _) (r : _) (s : _) → read_trace.Learnt κs a r s → length (now (a .1 .0)) / 49 ≤ length (now (a .1 .1 .0)) →
+    (r .refusal ≡ 0) ↔ ((b : Block) × Trace (a .0) (now (a .1 .0)) b)
+call-exact κs a r s call enough = reader-exact (a .0) (now (a .1 .0)) (now (a .1 .1 .0)) r (now (s .1 .1 .0)) (learns κs a r s call) .2 enough
+
+pub call-read : (κs : _) (a : _) (r : _) (s : _) (call : read_trace.Learnt κs a r s) (b : Block) → length (now (a .1 .0)) / 49 ≤ length (now (a .1 .1 .0)) →
+    ReadBack (a .0) (now (a .1 .0)) b → ReadAs (a .0) (now (a .1 .0)) (now (a .1 .1 .0)) r (now (s .1 .1 .0)) (learns κs a r s call) b
+call-read κs a r s call b enough back = back .read (now (a .1 .1 .0)) enough r (now (s .1 .1 .0)) (learns κs a r s call)
+
+-- WHAT WE WRITE
+
+-- "For every list of storings, cycles and final states .. what is then written is such a trace, its reading is the nesting of blocks and
+-- operations that ran, taken from the calls alone, and each LOOP row's count is the number of passes of its body", with the premises `Runs`,
+-- and where no pass is refused
+module _ (p : Profile) (q : Queues) (size : ℕ) (fragments : List Fragment) (here : Cursor) (run : Runs p q size fragments here) where
+  -- by the finisher
+  pub written-read : (others top : List ℕ) (height : ℕ) → FinisherPasses p q size fragments here others top height → ReadBack p (writtenByFinisher p q size fragments here others top height) (nesting run)
+  written-read others top height e = read-back p _ _ (finisher-trace p q size fragments here run others top height e)
+
+  -- by the five calls, one after another
+  pub written-by-five-read : (others top : List ℕ) (height : ℕ) → FivePass p q size fragments here others top height → ReadBack p (writtenByFive p q size fragments here others top height) (nesting run)
+  written-by-five-read others top height e = read-back p _ _ (five-trace p q size fragments here run others top height e)
+
+  -- its program rows are the cycles
+  pub program-rows : programRows (nesting run) ≡ length (cyclesOf q fragments (here .at))
+  program-rows = runs.program-rows p q size fragments here run
+
+  -- "taken from the calls alone": whatever root, forest and addresses show that the run is proper
+  pub one-nesting : (run′ : Runs p q size fragments here) → nesting run ≡ nesting run′
+  one-nesting run′ = one-tree-ran p 0 (run .proper) (run′ .proper)
+
+-- OVER REPLAY
+
+-- replays, none refused, are the calls of their records, none refused: the same counts, built cells and fragments, each fragment at the
+-- address state and positions that the one before answered
+pub replay-as-calls : (p : Profile) (f : Forest) (directory : List ℕ) (q : Queues) (lents : List Lent) (here : Cursor) → AllReplayed p f directory q lents here →
+    AllAccepted p q (fragmentsOf f directory lents) here
+    × (countsReplayed p f directory q lents here ≡ countsOf (finalStates p q (fragmentsOf f directory lents) here))
+    × (builtReplayed p f directory q lents here ≡ builtCells (finalStates p q (fragmentsOf f directory lents) here))
+    × (cellsReplayed p f directory q lents here ≡ cellsOf p q (fragmentsOf f directory lents) here)
+replay-as-calls p f directory q lents here h = (
+  replayed-accepted p f directory q lents here h,
+  replayed-counts p f directory q lents here h,
+  replayed-built p f directory q lents here h,
+  replayed-cells p f directory q lents here h,
+)
+
+-- what is finished over them is read as the nesting of the records
+module _ (p : Profile) (f : Forest) (directory : List ℕ) (q : Queues) (size : ℕ) (lents : List Lent) (here : Cursor) (run : ReplayedRuns p f directory q size lents here) where
+  pub replay-read : (others top : List ℕ) (height : ℕ) → ReplayFinishes p f directory q size lents here others top height → ReadBack p (finishedReplay p f directory q size lents here others top height) (recordsNesting p f directory q run)
+  replay-read others top height e = read-back p _ _ (replay-finisher-trace p f directory q size lents here run others top height e)
+
+  pub replay-by-five-read : (others top : List ℕ) (height : ℕ) → ReplayFivePass p f directory q size lents here others top height → ReadBack p (fivePassedReplay p f directory q size lents here others top height) (recordsNesting p f directory q run)
+  replay-by-five-read others top height e = read-back p _ _ (replay-five-trace p f directory q size lents here run others top height e)
+
+  -- its program rows are the cycles of the records
+  pub replay-program-rows : programRows (recordsNesting p f directory q run) ≡ length (cyclesOf q (fragmentsOf f directory lents) (here .at))
+  unfolding run-of-records
+  replay-program-rows = runs.program-rows p q size (fragmentsOf f directory lents) here (run-of-records p f directory q size lents here run)
+
+  -- the nesting is taken from the records alone
+  pub replay-one-nesting : (run′ : ReplayedRuns p f directory q size lents here) → recordsNesting p f directory q run ≡ recordsNesting p f directory q run′
+  replay-one-nesting run′ = one-tree-ran p 0 (run .proper) (run′ .proper)

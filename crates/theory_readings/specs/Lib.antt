@@ -1,0 +1,4 @@
+pub mod Tokens
+pub mod Readings
+pub mod Answers
+pub mod ways

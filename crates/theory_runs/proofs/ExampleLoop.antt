@@ -1,0 +1,155 @@
+-- C10's run in fragments of 4: the premises can be met, and its rows, reading and counts computed over the definitions.
+use mathlib.Core.Path.{_≡_, refl}
+use mathlib.Core.Bool.{Bool, true, false}
+use mathlib.Core.List.{List, [], _∷_}
+use Prim.Native.Nat.{ℕ}
+use native.Mathlib.Omega.{arith}
+use lib.ListN.{replicate}
+use Rattle.field.specs.Inverse.{euclid, inverseOf}
+use Rattle.field.specs.Cells.{cellAt, reduced}
+use Rattle.groups.specs.Words.{wordAt}
+use Rattle.groups.specs.Batches.{isBatch, batchAt, startsAt}
+use Rattle.groups.specs.Flags.{flagsUpTo8, batchFlags}
+use Rattle.groups.specs.GroupOfOperation.{falling, placeIn, groupFrom, groupOf}
+use Rattle.groups.specs.GroupsLeft.{counts, doubled, roundUp, groupsOf, sumGroups, anyAbove8, groupSum, pushes}
+use Rattle.groups.specs.Contexts.{tooLarge, consumed, opContext, contextInGroup, contextAtOp}
+use Rattle.groups.specs.Helpers.{allBelow, readRegisters, u32Values, helpersOf, helpersOfCells, helpersAnswer}
+use Rattle.groups.specs.declared.helpers.OperationHelperRegisters.{OperationHelperRegisters}
+use Rattle.rows.specs.declared.records.continuation.Continuation.{Continuation}
+use Rattle.rows.specs.declared.records.continuation.LoopCondition.{LoopCondition}
+use Rattle.rows.specs.declared.records.continuation.CalleeWord.{CalleeWord}
+use Rattle.rows.specs.declared.records.continuation.ContextInfo.{ContextInfo}
+use Rattle.field.specs.Bounds.{anyFrom}
+use Rattle.rows.specs.records.Profiles.{opcodes, isOneOf, twoEqual, lacksBits, profileWrong}
+use Rattle.rows.specs.records.Forests.{Forest, isSlot, nodeId, nodeOf, nodeAt, digestAt, opcodeAt, blockOf}
+use Rattle.rows.specs.records.Addresses.{Queues, entryAt, startedAt, endAt, readState}
+use Rattle.rows.specs.records.Captured.{readCaptured}
+use Rattle.rows.specs.records.DecoderRows.{controlFlow, basicBlockBatch, operation, decoderCells}
+use Rattle.rows.specs.records.Built.{builtSystem, builtStack, noSystem, noStack, systemCells, stackCells, readSystem, readStack}
+use Rattle.rows.specs.cycles.Made.{Cursor, startBlock, startOne, startKind, startNode, blockKind, entryKind, madeEnd, bodyOf, madeRepeat, finishLoop, operationMade, resumed, made}
+use Rattle.rows.specs.records.Cells.{rowCells, putRow}
+use Rattle.rows.specs.cycles.Scans.{anyBigOpcode, anyLongBlock, anyLargeBatch, forestTooLarge, scanOf}
+use Rattle.rows.specs.records.Cells.{fragmentWrong}
+use Rattle.rows.specs.cycles.Cycles.{fresh, storedIn, cycleWith, cycle, leftAfter, tracerAfter, lastSystem, lastStack, fragmentAfter, finalState, forPasses}
+use Rattle.rows.specs.passes.Buffers.{rowsOf, flat, onRows, lastRow, addrOf}
+use Rattle.rows.specs.passes.Passes.{withSides, firstRow, laterRows, fixedUp, builtOf, lowBits, opcodeOf, flaggedEnd, bodyEnds, withCounts, anyWithoutBody, multiplied, loopWithoutBody, inverted, haltDecoder, haltStack, haltRow, halted, paddingRow, paddingRows, padded, bufferWrong, fewerRows, sumOf, anyAbove, notFull, firstOf, fragmentsWrong, heightWrong, refusal1, refusal2, refusal3, refusal4, refusal5, refusalAll, lastBuilt, allPasses}
+use Rattle.theory_readings.specs.Tokens.{controls, controlOpcodes, isOpOpcode, countOf}
+use Rattle.theory_readings.specs.Readings.{Ops, Block, Passes, depthOf, allRows, Trace}
+use Rattle.theory_readings.proofs.Examples.{profile}
+use Rattle.theory_runs.specs.Calls.{Call, store, finish, Fragment, after, callRefusal, afterAll, Accepted, AllAccepted, finalStates, cellsOf, countsOf, builtCells, OneSize}
+use Rattle.theory_runs.specs.Happened.{nothingStored, startOf, operationAt, finishOf, didBy, didStored, usedBy, positionsAfter, stored, leftBy, inForceAfter, inForceAfterAll, cyclesIn, cyclesOf}
+use Rattle.theory_runs.specs.ProperRuns.{Holds, HasOperations, HasOpcode, withLoop, loopStarts, InBlock, Run, RunPasses, opsFrom, treeFrom}
+use Rattle.theory_runs.specs.Finished.{Runs, nesting, buffer1, buffer2, buffer3, buffer4, finisherBuffer, writtenByFive, writtenByFinisher, FivePass, FinisherPasses}
+use Rattle.theory_runs.proofs.TraceOfRun.{finisher-trace, five-trace}
+
+-- slot 0 a loop, slot 1 its body, a block of one batch with the operation 5
+unfoldable forestA : Forest
+forestA = record {
+  nodes = 5 ∷ 1 ∷ 0 ∷ 0 ∷ 0 ∷ 0 ∷ 2 ∷ 0 ∷ 0 ∷ 1 ∷ 0 ∷ 1 ∷ [];
+  digests = 10 ∷ 11 ∷ 12 ∷ 13 ∷ 20 ∷ 21 ∷ 22 ∷ 23 ∷ [];
+  batches = 1 ∷ 0 ∷ 1 ∷ 1 ∷ 1 ∷ 1 ∷ 1 ∷ 1 ∷ 1 ∷ 1 ∷ 1 ∷ 0 ∷ [];
+  groups = 5 ∷ 0 ∷ 0 ∷ 0 ∷ 0 ∷ 0 ∷ 0 ∷ 0 ∷ [];
+  ops = 5 ∷ [];
+}
+
+unfoldable queued : Queues
+queued = record { addresses = 1 ∷ 3 ∷ 5 ∷ []; parents = 0 ∷ 1 ∷ 1 ∷ []; ends = 3 ∷ 1 ∷ 0 ∷ 5 ∷ 1 ∷ 0 ∷ 1 ∷ 0 ∷ 77 ∷ [] }
+
+unfoldable begin : Cursor
+begin = record { state = record { «current_addr» = 9; «parent_addr» = 9 }; at = record { addresses = 0; parents = 0; ends = 0 } }
+
+-- a storing, and the cycle with clock row n
+unfoldable storeOf : Continuation → Bool → LoopCondition → Call
+storeOf continuation flag condition =
+    store (record { continuation = continuation; «is_loop_body» = flag; captured = record { «finish_loop_condition» = condition; «dyn_callee_hash» = CalleeWord.Absent; «ctx_info» = ContextInfo.Absent } })
+
+unfoldable cycleOf : (n : ℕ) → Call
+cycleOf n = finish (record {
+  forest = forestA;
+  system = record { clk = record { 0 = n }; ctx = record { 0 = 0 }; «fn_hash» = (0, 0, 0, 0) };
+  stack = record { «stack_top» = replicate 16 0; «stack_depth» = 16; «overflow_addr» = 0 };
+  registers = OperationHelperRegisters.Empty;
+})
+
+unfoldable calls1 : List Call
+calls1 =
+    storeOf (Continuation.StartNode (nodeId 0)) false LoopCondition.Absent ∷ cycleOf 0
+    ∷ storeOf (Continuation.StartNode (nodeId 1)) true LoopCondition.Absent ∷ cycleOf 1
+    ∷ storeOf (Continuation.ResumeBasicBlock (nodeId 1) 0 0) false LoopCondition.Absent ∷ cycleOf 2
+    ∷ storeOf (Continuation.FinishBasicBlock (nodeId 1)) true LoopCondition.Absent ∷ cycleOf 3 ∷ []
+
+unfoldable calls2 : List Call
+calls2 =
+    storeOf (Continuation.FinishLoop (nodeId 0)) false (LoopCondition.Is true) ∷ cycleOf 4
+    ∷ storeOf (Continuation.StartNode (nodeId 1)) true LoopCondition.Absent ∷ cycleOf 5
+    ∷ storeOf (Continuation.ResumeBasicBlock (nodeId 1) 0 0) false LoopCondition.Absent ∷ cycleOf 6
+    ∷ storeOf (Continuation.FinishBasicBlock (nodeId 1)) true LoopCondition.Absent ∷ cycleOf 7 ∷ []
+
+unfoldable calls3 : List Call
+calls3 = storeOf (Continuation.FinishLoop (nodeId 0)) false (LoopCondition.Is false) ∷ cycleOf 8 ∷ []
+
+-- the fragments held other numbers before
+unfoldable fragments : List Fragment
+fragments =
+    record { calls = calls1; cells = replicate 196 9 } ∷ record { calls = calls2; cells = replicate 196 9 }
+    ∷ record { calls = calls3; cells = replicate 196 9 } ∷ []
+
+free : AllAccepted profile queued fragments begin
+unfolding forestA queued begin storeOf cycleOf calls1 calls2 calls3 fragments AllAccepted Accepted callRefusal after afterAll finalState cycle cycleWith scanOf anyBigOpcode forestTooLarge anyLongBlock anyLargeBatch readRegisters helpersOfCells systemCells stackCells anyFrom profileWrong opcodes twoEqual isOneOf lacksBits fragmentWrong made startNode startKind startBlock startOne madeEnd madeRepeat finishLoop bodyOf blockKind entryKind operationMade resumed nodeAt nodeOf isSlot digestAt opcodeAt blockOf startedAt entryAt endAt batchAt isBatch startsAt batchFlags flagsUpTo8 contextAtOp groupOf falling groupFrom placeIn contextInGroup consumed counts doubled roundUp groupsOf sumGroups anyAbove8 groupSum pushes opContext tooLarge helpersAnswer allBelow u32Values helpersOf tracerAfter leftAfter storedIn fragmentAfter putRow rowCells decoderCells fresh builtSystem builtStack noSystem noStack lastSystem lastStack controlFlow basicBlockBatch operation wordAt cellAt reduced readSystem readStack readState readCaptured
+free = (
+  (refl, (refl, (refl, (refl, (refl, (refl, (refl, (refl, refl)))))))),
+  ((refl, (refl, (refl, (refl, (refl, (refl, (refl, (refl, refl)))))))), ((refl, (refl, refl)), tt)),
+)
+
+run : Run profile forestA 0 false 0 1 77 (cyclesOf queued fragments (begin .at)) []
+unfolding forestA queued begin storeOf cycleOf calls1 calls2 calls3 fragments cyclesOf cyclesIn didStored didBy startOf operationAt finishOf nothingStored stored leftBy usedBy positionsAfter leftAfter inForceAfterAll inForceAfter nodeAt nodeOf isSlot opcodeAt blockOf startedAt entryAt endAt batchAt isBatch wordAt Holds HasOperations HasOpcode isOpOpcode controlOpcodes controls isOneOf cellAt reduced readSystem readStack readState readCaptured
+run =
+    Run.loop (_, refl)
+    (RunPasses.again (Run.block (_, refl) (InBlock.operation 5 (_, refl, refl) refl (InBlock.ended (_, refl, refl) refl)))
+    (RunPasses.ended (Run.block (_, refl) (InBlock.operation 5 (_, refl, refl) refl (InBlock.ended (_, refl, refl) refl)))))
+
+runs : Runs profile queued 4 fragments begin
+unfolding forestA queued begin storeOf cycleOf calls1 calls2 calls3 fragments AllAccepted Accepted callRefusal after afterAll finalState cycle cycleWith scanOf anyBigOpcode forestTooLarge anyLongBlock anyLargeBatch readRegisters helpersOfCells systemCells stackCells anyFrom profileWrong opcodes twoEqual isOneOf lacksBits fragmentWrong made startNode startKind startBlock startOne madeEnd madeRepeat finishLoop bodyOf blockKind entryKind operationMade resumed nodeAt nodeOf isSlot digestAt opcodeAt blockOf startedAt entryAt endAt batchAt isBatch startsAt batchFlags flagsUpTo8 contextAtOp groupOf falling groupFrom placeIn contextInGroup consumed counts doubled roundUp groupsOf sumGroups anyAbove8 groupSum pushes opContext tooLarge helpersAnswer allBelow u32Values helpersOf tracerAfter leftAfter storedIn fragmentAfter putRow rowCells decoderCells fresh builtSystem builtStack noSystem noStack lastSystem lastStack controlFlow basicBlockBatch operation wordAt finalStates countsOf forPasses OneSize cyclesOf cyclesIn didStored didBy startOf operationAt finishOf nothingStored stored leftBy usedBy positionsAfter inForceAfterAll inForceAfter withLoop loopStarts run treeFrom depthOf cellAt reduced readSystem readStack readState readCaptured
+runs = record {
+  forest = forestA;
+  root = 0;
+  parent = 0;
+  own = 1;
+  third = 77;
+  proper = run;
+  accepted = free;
+  loops-apart = refl;
+  shallow = omega arith;
+  one-size = (refl, refl, (refl, refl, tt));
+}
+
+-- the nesting that ran
+tree : nesting runs ≡ Block.loop 0 (Passes.repeated (Block.span 1 (Ops.op 2 5 (Ops.ended 3))) 4 (Passes.ended (Block.span 5 (Ops.op 6 5 (Ops.ended 7))) 8))
+unfolding runs run treeFrom opsFrom
+tree = refl
+
+-- the finisher and the five calls, with height 10, do not refuse
+passes : FinisherPasses profile queued 4 fragments begin [] (replicate 16 0) 10
+unfolding forestA queued begin storeOf cycleOf calls1 calls2 calls3 fragments AllAccepted Accepted callRefusal after afterAll finalState cycle cycleWith scanOf anyBigOpcode forestTooLarge anyLongBlock anyLargeBatch readRegisters helpersOfCells systemCells stackCells anyFrom profileWrong opcodes twoEqual isOneOf lacksBits fragmentWrong made startNode startKind startBlock startOne madeEnd madeRepeat finishLoop bodyOf blockKind entryKind operationMade resumed nodeAt nodeOf isSlot digestAt opcodeAt blockOf startedAt entryAt endAt batchAt isBatch startsAt batchFlags flagsUpTo8 contextAtOp groupOf falling groupFrom placeIn contextInGroup consumed counts doubled roundUp groupsOf sumGroups anyAbove8 groupSum pushes opContext tooLarge helpersAnswer allBelow u32Values helpersOf tracerAfter leftAfter storedIn fragmentAfter putRow rowCells decoderCells fresh builtSystem builtStack noSystem noStack lastSystem lastStack controlFlow basicBlockBatch operation wordAt finalStates countsOf forPasses builtCells cellsOf refusalAll firstOf sumOf fragmentsWrong bufferWrong fewerRows anyAbove heightWrong notFull loopWithoutBody anyWithoutBody bodyEnds rowsOf opcodeOf lowBits flaggedEnd cellAt reduced readSystem readStack readState readCaptured
+passes = refl
+
+trace : Trace profile (writtenByFinisher profile queued 4 fragments begin [] (replicate 16 0) 10) (nesting runs)
+trace = finisher-trace profile queued 4 fragments begin runs [] (replicate 16 0) 10 passes
+
+-- nor do the five calls
+five : FivePass profile queued 4 fragments begin [] (replicate 16 0) 10
+unfolding forestA queued begin storeOf cycleOf calls1 calls2 calls3 fragments AllAccepted Accepted callRefusal after afterAll finalState cycle cycleWith scanOf anyBigOpcode forestTooLarge anyLongBlock anyLargeBatch readRegisters helpersOfCells systemCells stackCells anyFrom profileWrong opcodes twoEqual isOneOf lacksBits fragmentWrong made startNode startKind startBlock startOne madeEnd madeRepeat finishLoop bodyOf blockKind entryKind operationMade resumed nodeAt nodeOf isSlot digestAt opcodeAt blockOf startedAt entryAt endAt batchAt isBatch startsAt batchFlags flagsUpTo8 contextAtOp groupOf falling groupFrom placeIn contextInGroup consumed counts doubled roundUp groupsOf sumGroups anyAbove8 groupSum pushes opContext tooLarge helpersAnswer allBelow u32Values helpersOf tracerAfter leftAfter storedIn fragmentAfter putRow rowCells decoderCells fresh builtSystem builtStack noSystem noStack lastSystem lastStack controlFlow basicBlockBatch operation wordAt finalStates countsOf forPasses builtCells cellsOf refusalAll firstOf sumOf fragmentsWrong bufferWrong fewerRows anyAbove heightWrong notFull loopWithoutBody anyWithoutBody bodyEnds rowsOf opcodeOf lowBits flaggedEnd buffer1 buffer2 buffer3 buffer4 refusal1 refusal2 refusal3 refusal4 refusal5 onRows flat fixedUp firstRow withSides laterRows builtOf multiplied withCounts inverted inverseOf euclid lastBuilt halted lastRow haltRow haltDecoder haltStack padded paddingRows paddingRow cellAt reduced readSystem readStack readState readCaptured
+five = record { first = refl; second = refl; third = refl; fourth = refl; fifth = refl }
+
+trace-five : Trace profile (writtenByFive profile queued 4 fragments begin [] (replicate 16 0) 10) (nesting runs)
+trace-five = five-trace profile queued 4 fragments begin runs [] (replicate 16 0) 10 five
+
+-- opcode, address and count of each row
+unfoldable fields : List (List ℕ) → List (ℕ × ℕ × ℕ)
+fields [] = []
+fields (row ∷ rows) = (opcodeOf row, addrOf row, countOf row) ∷ fields rows
+
+listing : fields (allRows (writtenByFinisher profile queued 4 fragments begin [] (replicate 16 0) 10)) ≡
+    (85, 0, 2) ∷ (86, 1, 1) ∷ (5, 3, 0) ∷ (112, 3, 0) ∷ (116, 1, 0) ∷ (86, 1, 1) ∷ (5, 5, 0) ∷ (112, 5, 0) ∷ (112, 1, 0) ∷ (124, 0, 0) ∷ []
+unfolding forestA queued begin storeOf cycleOf calls1 calls2 calls3 fragments AllAccepted Accepted callRefusal after afterAll finalState cycle cycleWith scanOf anyBigOpcode forestTooLarge anyLongBlock anyLargeBatch readRegisters helpersOfCells systemCells stackCells anyFrom profileWrong opcodes twoEqual isOneOf lacksBits fragmentWrong made startNode startKind startBlock startOne madeEnd madeRepeat finishLoop bodyOf blockKind entryKind operationMade resumed nodeAt nodeOf isSlot digestAt opcodeAt blockOf startedAt entryAt endAt batchAt isBatch startsAt batchFlags flagsUpTo8 contextAtOp groupOf falling groupFrom placeIn contextInGroup consumed counts doubled roundUp groupsOf sumGroups anyAbove8 groupSum pushes opContext tooLarge helpersAnswer allBelow u32Values helpersOf tracerAfter leftAfter storedIn fragmentAfter putRow rowCells decoderCells fresh builtSystem builtStack noSystem noStack lastSystem lastStack controlFlow basicBlockBatch operation wordAt finalStates countsOf forPasses builtCells cellsOf refusalAll firstOf sumOf fragmentsWrong bufferWrong fewerRows anyAbove heightWrong notFull loopWithoutBody anyWithoutBody bodyEnds rowsOf opcodeOf lowBits flaggedEnd finisherBuffer allPasses onRows flat fixedUp firstRow withSides laterRows builtOf multiplied withCounts inverted inverseOf euclid lastBuilt halted lastRow haltRow haltDecoder haltStack padded paddingRows paddingRow allRows fields cellAt reduced readSystem readStack readState readCaptured
+listing = refl
