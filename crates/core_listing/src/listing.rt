@@ -6,7 +6,7 @@ use io::print_decimal;
 use io::write_all;
 use libc::STDOUT_FILENO;
 use reader::view::row;
-use rows::passes::multiplicity::decode_opcode;
+use rows::records::buffer::decode_opcode;
 use rows::records::profile::Profile;
 use rows::records::profile::opcodes_of;
 

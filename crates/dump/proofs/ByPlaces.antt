@@ -8,7 +8,7 @@ use lib.Seq.{drop-cons, drop-drop, getD-take, getD-drop, length-take-le}
 use Rattle.field.specs.Modulus.{P}
 use Rattle.field.specs.Cells.{reduced}
 use Rattle.field.proofs.CellLaws.{length-reduced, getD-reduced, reduced-take, read-below}
-use Rattle.rows.specs.passes.Buffers.{rowsOf}
+use Rattle.rows.specs.records.Buffers.{rowsOf}
 use Rattle.theory_readings.specs.Readings.{allRows}
 use Rattle.theory_dumps.specs.Dumps.{header, timeLine, changes, laterLines, dumpLines, dumpRows, dump}
 use Rattle.theory_dumps.specs.ways.Undump.{noValues}

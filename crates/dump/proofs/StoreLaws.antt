@@ -14,7 +14,7 @@ use Rattle.field.proofs.CellLaws.{read-small}
 use Rattle.groups.specs.Answer.{pick}
 use Rattle.rows.specs.records.Cells.{putRow, copiedIn}
 use Rattle.rows.proofs.records.Rooms.{copied-row}
-use Rattle.rows.specs.passes.Buffers.{flat}
+use Rattle.rows.specs.records.Buffers.{flat}
 use Rattle.rows.proofs.passes.RowLists.{Wide, length-flat, flat-app}
 use Rattle.theory_dumps.specs.Dumps.{header}
 use Rattle.theory_dumps.specs.ways.Undump.{behind, orNone, withRow, readRows, noValues, hasAll, fromFirst, undump}

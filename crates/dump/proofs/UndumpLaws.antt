@@ -11,7 +11,7 @@ use lib.ListN.{length, drop, getD, drop-of-length-le}
 use lib.Seq.{drop-cons}
 use Rattle.field.specs.Modulus.{P}
 use Rattle.groups.specs.Answer.{accepted, refused, pick}
-use Rattle.rows.specs.passes.Passes.{bufferWrong}
+use Rattle.rows.specs.records.Buffers.{bufferWrong}
 use Rattle.rows.proofs.passes.Checks.{neither}
 use Rattle.theory_dumps.specs.Dumps.{header, timeLine}
 use Rattle.theory_dumps.specs.ways.Undump.{behind, orNone, withRow, readRows, noValues, hasAll, fromFirst, undump}

@@ -13,8 +13,7 @@ use lib.Seq.{take-at}
 use Rattle.field.specs.Cells.{reduced}
 use Rattle.field.proofs.CellLaws.{read-small, length-reduced}
 use Rattle.groups.specs.Answer.{Answer, accepted, refused, pick, refusal, values}
-use Rattle.rows.specs.passes.Buffers.{rowsOf, flat}
-use Rattle.rows.specs.passes.Passes.{bufferWrong}
+use Rattle.rows.specs.records.Buffers.{rowsOf, flat, bufferWrong}
 use Rattle.rows.proofs.passes.RowLists.{Wide, length-flat, rows-flat}
 use Rattle.theory_readings.specs.Readings.{allRows}
 use Rattle.theory_dumps.specs.Dumps.{dumpRows, dump}

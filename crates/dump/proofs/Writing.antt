@@ -8,7 +8,7 @@ use borrow.Author.Tests.{ltb-false, lt-ltb, le-ltb}
 use lib.Dec.{ltb}
 use lib.ListN.{length}
 use Rattle.groups.specs.Answer.{accepted, refused}
-use Rattle.rows.specs.passes.Passes.{bufferWrong}
+use Rattle.rows.specs.records.Buffers.{bufferWrong}
 use Rattle.rows.proofs.passes.Checks.{neither}
 use Rattle.theory_dumps.specs.Dumps.{header, bytes, varLines, columns, dump}
 use Rattle.dump.specs.Dumping.{rowsWrong, dumping}

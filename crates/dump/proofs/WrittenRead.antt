@@ -9,7 +9,7 @@ use lib.ListN.{length, take, drop, length-drop}
 use lib.Seq.{length-take-le, take-all}
 use Rattle.field.specs.Cells.{reduced}
 use Rattle.field.proofs.CellLaws.{length-reduced, reduced-take, reduced-drop}
-use Rattle.rows.specs.passes.Buffers.{rowsOf, flat}
+use Rattle.rows.specs.records.Buffers.{rowsOf, flat}
 use Rattle.rows.proofs.passes.RowLists.{length-rows, flat-rows}
 use Rattle.theory_readings.specs.Readings.{allRows}
 use Rattle.theory_dumps.specs.Dumps.{dump}

@@ -8,7 +8,7 @@ use lib.ListN.{length, drop}
 use Rattle.field.specs.Cells.{reduced}
 use Rattle.groups.specs.Answer.{Answer, accepted, refused, pick}
 use Rattle.groups.specs.Constants.{rowWidth, badLength, shortText, noDump}
-use Rattle.rows.specs.passes.Passes.{bufferWrong}
+use Rattle.rows.specs.records.Buffers.{bufferWrong}
 use Rattle.theory_dumps.specs.Dumps.{dump}
 
 -- WRITING

@@ -12,7 +12,7 @@ ghost use Prim.Native.Nat.{_*_, _≤_};
 ghost use lib.ListN.{length, drop};
 ghost use Rattle.groups.specs.Constants.{rowWidth, mostRows};
 ghost use Rattle.theory_dumps.specs.ways.Undump.{readChanges, noValues, readRows, undump};
-ghost use Rattle.rows.specs.passes.Buffers.{flat};
+ghost use Rattle.rows.specs.records.Buffers.{flat};
 ghost use Rattle.dump.specs.ways.Undumping.{fewRows};
 ghost use Rattle.dump.specs.ways.Reading.{RowRead, timedRow, RowsCounted, theRows, Storable};
 

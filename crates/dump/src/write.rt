@@ -4,7 +4,7 @@ use crate::lengths::rows_bytes;
 use crate::lines::put_rows;
 use groups::constants::Refusal;
 use groups::constants::Row;
-use rows::passes::buffer::buffer_wrong;
+use rows::records::buffer::buffer_wrong;
 ghost use mathlib.Core.Path.{_≡_};
 ghost use Prim.Native.Nat.{_≤_};
 ghost use lib.ListN.{length};

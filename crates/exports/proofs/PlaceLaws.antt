@@ -9,7 +9,7 @@ use lib.Dec.{leb}
 use lib.ListN.{length, take, drop, length-drop}
 use lib.Seq.{length-take-le}
 use Rattle.groups.specs.Answer.{pick}
-use Rattle.rows.specs.passes.Passes.{bufferWrong}
+use Rattle.rows.specs.records.Buffers.{bufferWrong}
 use Rattle.rows.proofs.passes.Checks.{neither}
 use Rattle.reader.specs.Views.{viewRefused}
 use Rattle.exports.specs.Places.{viewStart, viewCells}

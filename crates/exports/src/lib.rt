@@ -28,7 +28,7 @@ use rows::replay::calls::replay_calls;
 ghost use mathlib.Core.Path.{_≡_};
 ghost use Prim.Native.Nat.{_-_};
 ghost use lib.ListN.{length};
-ghost use Rattle.rows.specs.passes.Buffers.{onRows};
+ghost use Rattle.rows.specs.records.Buffers.{onRows};
 ghost use Rattle.rows.specs.passes.Passes.{sumOf, builtOf, fixedUp, multiplied, inverted, halted, padded, refusal1, refusal2, refusal3, refusal4, refusal5, refusalAll, allPasses, unlessRefused};
 ghost use Rattle.rows.specs.replay.Calls.{lentScanned, replayed, replayedFragment};
 ghost use Rattle.reader.specs.Reads.{ReadsTrace};

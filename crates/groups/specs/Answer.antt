@@ -1,5 +1,6 @@
 -- What a call answers, in document 01's terms. "Each returns its number, other answers 0."
 use mathlib.Core.Bool.{Bool, true, false}
+use mathlib.Core.List.{List, [], _∷_}
 use Prim.Native.Nat.{ℕ}
 
 -- values, or a refusal's number
@@ -26,3 +27,9 @@ andThen (refused n) f = refused n
 abbrev pub pick : {A : Type 0} → Bool → A → A → A
 pick true x y = x
 pick false x y = y
+
+-- the first refusal of a list that holds, 0 where none does
+unfoldable pub firstOf : List (Bool × ℕ) → ℕ
+firstOf [] = 0
+firstOf ((true, number) ∷ rest) = number
+firstOf ((false, number) ∷ rest) = firstOf rest

@@ -9,10 +9,10 @@ use native.Mathlib.Omega.{arith}
 use borrow.Author.Tests.{eqb-true, eqb-false, ltb-true, ltb-false, eq-eqb, ne-eqb}
 use lib.Dec.{eqb, ltb}
 use lib.ListN.{length, drop, length-drop}
-use Rattle.groups.specs.Answer.{pick}
+use Rattle.groups.specs.Answer.{pick, firstOf}
 use Rattle.rows.specs.declared.records.profile.Profile.{Profile}
 use Rattle.rows.specs.records.Profiles.{profileWrong}
-use Rattle.rows.specs.passes.Passes.{bufferWrong, firstOf}
+use Rattle.rows.specs.records.Buffers.{bufferWrong}
 use Rattle.rows.proofs.passes.Checks.{neither, none-first}
 use Rattle.theory_readings.specs.Tokens.{Token, start, repeat, end, halt, nothing}
 use Rattle.theory_readings.specs.Readings.{Block, numbered, spell, programRows, asks, bufferRefusal, allRows, Trace}

@@ -14,8 +14,8 @@ use borrow.Author.Tests.{eq-eqb}
 use lib.Dec.{T, eqb}
 use lib.ListN.{length, getD, take, drop}
 use Rattle.rows.specs.declared.records.profile.Profile.{Profile}
-use Rattle.rows.specs.passes.Buffers.{rowsOf}
-use Rattle.rows.specs.passes.Buffers as buffer
+use Rattle.rows.specs.records.Buffers.{rowsOf}
+use Rattle.rows.specs.records.Buffers as buffer
 use Rattle.rows.proofs.passes.RowLists.{length-rows, drop-rows}
 use Rattle.theory_readings.specs.Tokens.{OneChild, Kind, Token, start, repeat, end, halt, nothing, tokenOf, tokensOf}
 use Rattle.theory_readings.specs.Readings.{numbered, rowAt, allRows}

@@ -9,7 +9,7 @@ use lib.Dec.{leb}
 use lib.ListN.{length, take, drop}
 use Rattle.groups.specs.Answer.{pick}
 use Rattle.groups.specs.Constants.{rowWidth}
-use Rattle.rows.specs.passes.Passes.{bufferWrong}
+use Rattle.rows.specs.records.Buffers.{bufferWrong}
 
 -- Refusal 11 of a row view: "buffer no multiple of 49, over 2^24 rows, .. a row number past the end"
 unfoldable pub viewRefused : (cells number : ℕ) → Bool

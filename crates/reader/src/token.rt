@@ -2,14 +2,14 @@
 use field::cell::cell;
 use groups::constants::Column;
 use groups::constants::Row;
-use rows::passes::multiplicity::decode_opcode;
+use rows::records::buffer::decode_opcode;
 use rows::records::profile::Profile;
 ghost use mathlib.Core.Path.{_≡_};
 ghost use mathlib.Core.List.{_∷_};
 ghost use Prim.Native.Nat.{_/_, _<_};
 ghost use lib.ListN.{length, drop};
 ghost use Rattle.groups.specs.Constants.{rowWidth};
-ghost use Rattle.rows.specs.passes.Passes.{opcodeOf};
+ghost use Rattle.rows.specs.records.Buffers.{opcodeOf};
 ghost use Rattle.theory_readings.specs.Tokens.{nothing, controls, tokenBeside, controlToken, inSpanOf, opBitsOf, allBits};
 ghost use Rattle.theory_readings.specs.Readings.{rowAt, allRows};
 ghost use Rattle.reader.specs.Rows.{kindOf, tokenAt};

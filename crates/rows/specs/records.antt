@@ -6,4 +6,5 @@ pub mod Captured
 pub mod DecoderRows
 pub mod Built
 pub mod Cells
+pub mod Buffers
 pub mod CallRecords

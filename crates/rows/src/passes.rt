@@ -1,5 +1,4 @@
 // The finishing passes over a buffer of rows.
-pub mod buffer;
 pub mod finish;
 pub mod fixup;
 pub mod halt;

@@ -1,5 +1,6 @@
 // Records and look-ups.
 pub mod address_state;
+pub mod buffer;
 pub mod call_record;
 pub mod continuation;
 pub mod decoder_row;

@@ -10,8 +10,8 @@ use Rattle.groups.specs.GroupOfOperation.{falling, placeIn, groupFrom, groupOf}
 use Rattle.groups.specs.GroupsLeft.{counts, sumGroups, anyAbove8, groupSum, pushes}
 use Rattle.groups.specs.Contexts.{tooLarge, consumed, opContext, contextInGroup, contextAtOp}
 use Rattle.groups.specs.Helpers.{allBelow, readRegisters, u32Values, helpersOf, helpersOfCells, helpersAnswer}
-use Rattle.rows.specs.passes.Buffers.{rowsOf, flat}
-use Rattle.rows.specs.passes.Passes.{lowBits, opcodeOf, flaggedEnd, bodyEnds, withCounts, anyWithoutBody, multiplied, loopWithoutBody}
+use Rattle.rows.specs.records.Buffers.{rowsOf, flat, lowBits, opcodeOf}
+use Rattle.rows.specs.passes.Passes.{flaggedEnd, bodyEnds, withCounts, anyWithoutBody, multiplied, loopWithoutBody}
 use Rattle.theory_readings.specs.Readings.{allRows}
 use Rattle.theory_dumps.specs.Numerals.{numeralWithin}
 use Rattle.theory_dumps.specs.Dumps.{bytes}

@@ -5,11 +5,12 @@ use mathlib.Core.List.{List}
 use Prim.Native.Nat.{ℕ, suc, _*_, _^_, _≤_, _<_}
 use borrow.Author.Tests.{le-ltb, lt-leb}
 use lib.ListN.{length}
-use Rattle.groups.specs.Answer.{refused}
+use Rattle.groups.specs.Answer.{refused, firstOf}
 use Rattle.rows.specs.declared.records.profile.Profile.{Profile}
 use Rattle.rows.specs.records.Cells.{fragmentWrong}
 use Rattle.rows.specs.records.Profiles.{profileWrong}
-use Rattle.rows.specs.passes.Passes.{bufferWrong, firstOf, fragmentsWrong, refusal1, refusal2, refusal3, refusal4, refusal5, refusalAll}
+use Rattle.rows.specs.passes.Passes.{fragmentsWrong, refusal1, refusal2, refusal3, refusal4, refusal5, refusalAll}
+use Rattle.rows.specs.records.Buffers.{bufferWrong}
 use Rattle.theory_readings.specs.Answers.{readerRefusal}
 use Rattle.reader.specs.Views.{viewRefused}
 use Rattle.dump.specs.Dumping.{rowsWrong, dumping, ReadsDump}

@@ -24,8 +24,9 @@ use Rattle.rows.specs.records.Cells.{rowCells, putRow}
 use Rattle.rows.specs.cycles.Scans.{anyBigOpcode, anyLongBlock, anyLargeBatch, forestTooLarge, scanOf}
 use Rattle.rows.specs.records.Cells.{fragmentWrong}
 use Rattle.rows.specs.cycles.Cycles.{fresh, storedIn, cycleWith, cycle, leftAfter, tracerAfter, lastSystem, lastStack, fragmentAfter, finalState, forPasses}
-use Rattle.rows.specs.passes.Buffers.{rowsOf, flat, onRows, lastRow}
-use Rattle.rows.specs.passes.Passes.{withSides, firstRow, laterRows, fixedUp, builtOf, lowBits, opcodeOf, flaggedEnd, bodyEnds, withCounts, anyWithoutBody, multiplied, loopWithoutBody, inverted, haltDecoder, haltStack, haltRow, halted, paddingRow, paddingRows, padded, bufferWrong, fewerRows, sumOf, anyAbove, notFull, firstOf, fragmentsWrong, heightWrong, refusalAll, lastBuilt, allPasses}
+use Rattle.rows.specs.records.Buffers.{rowsOf, flat, onRows, lastRow, lowBits, opcodeOf, bufferWrong, fewerRows}
+use Rattle.rows.specs.passes.Passes.{withSides, firstRow, laterRows, fixedUp, builtOf, flaggedEnd, bodyEnds, withCounts, anyWithoutBody, multiplied, loopWithoutBody, inverted, haltDecoder, haltStack, haltRow, halted, paddingRow, paddingRows, padded, sumOf, anyAbove, notFull, fragmentsWrong, heightWrong, refusalAll, lastBuilt, allPasses}
+use Rattle.groups.specs.Answer.{firstOf}
 use Rattle.theory_runs.specs.Calls.{after, afterAll, finalStates, cellsOf, countsOf, builtCells}
 use Rattle.theory_runs.specs.Finished.{finisherBuffer}
 use Rattle.theory_cases.specs.LoopRun.{loopForest, loopQueues, begin, storing, cycleAt, loopCalls, loopFragments, loopTrace}

@@ -5,8 +5,7 @@ use Prim.Native.Nat.{ℕ}
 use lib.ListN.{replicate, take}
 use Rattle.field.specs.Cells.{reduced}
 use Rattle.groups.specs.Answer.{accepted, refused}
-use Rattle.rows.specs.passes.Buffers.{rowsOf, flat}
-use Rattle.rows.specs.passes.Passes.{bufferWrong}
+use Rattle.rows.specs.records.Buffers.{rowsOf, flat, bufferWrong}
 use Rattle.theory_readings.specs.Readings.{allRows}
 use Rattle.theory_dumps.specs.Numerals.{numeralWithin, spelled}
 use Rattle.theory_dumps.specs.Dumps.{bytes, columns, varLines, header, timeLine, valueLine, allValues, changes, laterLines, dumpLines, dumpRows, dump}

@@ -5,8 +5,7 @@ use Prim.Native.String.{String}
 use lib.Dec.{eqb}
 use Rattle.groups.specs.Answer.{pick}
 use Rattle.rows.specs.declared.records.profile.Profile.{Profile}
-use Rattle.rows.specs.passes.Buffers.{addrOf}
-use Rattle.rows.specs.passes.Passes.{opcodeOf}
+use Rattle.rows.specs.records.Buffers.{addrOf, opcodeOf}
 use Rattle.theory_readings.specs.Tokens.{countOf}
 use Rattle.theory_readings.specs.Readings.{allRows}
 use Rattle.theory_dumps.specs.Numerals.{decimal}

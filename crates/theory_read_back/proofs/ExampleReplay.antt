@@ -30,8 +30,9 @@ use Rattle.rows.specs.cycles.Cycles.{fresh, storedIn, cycleWith, leftAfter, tra
 use Rattle.rows.specs.replay.Calls.{directoryEntry, window, forestIn, forestOf, callDone, callWritten, through, written, ending, nextState, nextPositions, told, scanned, replayed, replayedFragment}
 use Rattle.rows.specs.records.CallRecords.{namesNoKind, of32, conditionIn, calleeIn, infoIn, resumeIn, continuationOn, continuationIn, namesNothing, storedInRecord, systemIn, stackIn, fewCells, manyCells, registersIn, finishIn, callIn, recordAt}
 use Rattle.rows.specs.records.CallRecords as records
-use Rattle.rows.specs.passes.Buffers.{rowsOf, flat, onRows, lastRow, addrOf}
-use Rattle.rows.specs.passes.Passes.{withSides, firstRow, laterRows, fixedUp, builtOf, lowBits, opcodeOf, flaggedEnd, bodyEnds, withCounts, anyWithoutBody, multiplied, loopWithoutBody, inverted, haltDecoder, haltStack, haltRow, halted, paddingRow, paddingRows, padded, bufferWrong, fewerRows, sumOf, anyAbove, notFull, firstOf, fragmentsWrong, heightWrong, refusalAll, lastBuilt, allPasses}
+use Rattle.rows.specs.records.Buffers.{rowsOf, flat, onRows, lastRow, addrOf, lowBits, opcodeOf, bufferWrong, fewerRows}
+use Rattle.rows.specs.passes.Passes.{withSides, firstRow, laterRows, fixedUp, builtOf, flaggedEnd, bodyEnds, withCounts, anyWithoutBody, multiplied, loopWithoutBody, inverted, haltDecoder, haltStack, haltRow, halted, paddingRow, paddingRows, padded, sumOf, anyAbove, notFull, fragmentsWrong, heightWrong, refusalAll, lastBuilt, allPasses}
+use Rattle.groups.specs.Answer.{firstOf}
 use Rattle.theory_readings.specs.Tokens.{controls, controlOpcodes, isOpOpcode, countOf}
 use Rattle.theory_readings.specs.Readings.{Ops, Block, Passes, depthOf, allRows}
 use Rattle.theory_readings.proofs.Examples.{profile}

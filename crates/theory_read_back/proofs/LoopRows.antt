@@ -8,7 +8,7 @@ use lib.ListN.{length, take, drop}
 use Rattle.field.specs.Cells.{cellAt}
 use Rattle.field.proofs.CellLaws.{cell-take, cell-drop}
 use Rattle.rows.specs.declared.records.profile.Profile.{Profile}
-use Rattle.rows.specs.passes.Buffers.{rowsOf}
+use Rattle.rows.specs.records.Buffers.{rowsOf}
 use Rattle.rows.proofs.passes.RowLists.{length-rows, wide-rows, row-at, as-rows}
 use Rattle.theory_readings.specs.Tokens.{Kind, Token, start, repeat, end, halt, tokenOf, tokensOf, countOf}
 use Rattle.theory_readings.specs.Readings.{Ops, Block, Passes, Row, numbered, spellOps, spell, spellPasses, OnlyHalts, Halts, WordOf, Ask, flag, count, passesIn, asksOf, asksOfPasses, asks, rowAt, Meets, AllMet, Reading, allRows, Trace}

@@ -14,8 +14,9 @@ use Rattle.rows.specs.records.Profiles.{profileWrong}
 use Rattle.rows.specs.records.Forests.{Forest}
 use Rattle.rows.specs.records.Addresses.{Queues}
 use Rattle.rows.specs.cycles.Made.{Cursor}
-use Rattle.rows.specs.passes.Buffers.{rowsOf}
-use Rattle.rows.specs.passes.Passes.{sumOf, noFragment, notFull, loopWithoutBody, firstOf, fragmentsWrong, heightWrong, refusalAll}
+use Rattle.rows.specs.records.Buffers.{rowsOf}
+use Rattle.rows.specs.passes.Passes.{sumOf, noFragment, notFull, loopWithoutBody, fragmentsWrong, heightWrong, refusalAll}
+use Rattle.groups.specs.Answer.{firstOf}
 use Rattle.rows.proofs.passes.Checks.{none-first}
 use Rattle.theory_readings.specs.Tokens.{Kind, start, tokenOf}
 use Rattle.theory_readings.specs.Readings.{Block, Passes, passesIn, rowAt, allRows}

@@ -10,10 +10,10 @@ use lib.Dec.{ltb}
 use lib.ListN.{length, drop}
 use Rattle.rows.specs.declared.records.profile.Profile.{Profile}
 use Rattle.rows.specs.records.Profiles.{profileWrong}
-use Rattle.rows.specs.passes.Buffers.{rowsOf}
+use Rattle.rows.specs.records.Buffers.{rowsOf, bufferWrong}
 use Rattle.rows.proofs.passes.Checks.{none-first}
 use Rattle.rows.proofs.passes.RowLists.{length-rows}
-use Rattle.rows.specs.passes.Passes.{bufferWrong, firstOf}
+use Rattle.groups.specs.Answer.{firstOf}
 use Rattle.theory_readings.specs.Tokens.{tokensOf}
 use Rattle.theory_readings.specs.Readings.{Block, depthList, bufferRefusal, allRows, Trace}
 use Rattle.theory_readings.specs.Answers.{ReaderAnswer, accepted, readerRefusal, Right, badInput, noWord, tooDeep, wrongCell, trace, refusalOf, depthsAfter}

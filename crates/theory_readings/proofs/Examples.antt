@@ -10,8 +10,8 @@ use Rattle.rows.specs.declared.records.profile.Profile.{Profile}
 use Rattle.field.specs.Bounds.{anyFrom}
 use Rattle.field.specs.Cells.{cellAt, reduced}
 use Rattle.rows.specs.records.Profiles.{opcodes, isOneOf, twoEqual, profileWrong, lacksBits}
-use Rattle.rows.specs.passes.Buffers.{rowsOf, flat}
-use Rattle.rows.specs.passes.Passes.{opcodeOf, lowBits, bufferWrong, firstOf}
+use Rattle.rows.specs.records.Buffers.{rowsOf, flat, opcodeOf, lowBits, bufferWrong}
+use Rattle.groups.specs.Answer.{firstOf}
 use Rattle.theory_readings.specs.Tokens.{split, call, syscall, dyncall, Kind, Token, start, repeat, end, halt, controls, tokenBeside, controlToken, controlOpcodes, isOpOpcode, opToken, allBits, tokenOf, tokensOf}
 use Rattle.theory_readings.specs.Readings.{Ops, Block, Passes, numbered, spellOps, spell, depthsOfOps, depthsOf, programRows, depthList, passesIn, endRowOf, asksOf, asks, allRows, Trace}
 use Rattle.theory_readings.specs.Answers.{ReaderAnswer, accepted, refused, readerRefusal, rowAsked}

@@ -8,7 +8,7 @@ use Prim.Native.Nat.{ℕ, suc, _≤_, _<_}
 use native.Mathlib.Omega.{arith}
 use borrow.Author.Tests.{eqb-true, eqb-false}
 use Rattle.groups.specs.Answer.{pick}
-use Rattle.rows.specs.passes.Buffers.{h4Of}
+use Rattle.rows.specs.records.Buffers.{h4Of}
 use Rattle.theory_readings.specs.Tokens.{countOf}
 use Rattle.theory_readings.specs.Readings.{Block, Passes, Ask, flag, count, passesIn, asksOf, asksOfPasses, rowAt, Meets, AllMet}
 use Rattle.theory_readings.specs.Answers.{rowAsked, LowestWrong}

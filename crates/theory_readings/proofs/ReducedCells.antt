@@ -12,7 +12,7 @@ use Rattle.field.specs.Cells.{cellAt, reduced}
 use Rattle.field.proofs.CellLaws.{length-reduced, cell-reduced}
 use Rattle.groups.specs.Answer.{pick}
 use Rattle.rows.specs.declared.records.profile.Profile.{Profile}
-use Rattle.rows.specs.passes.Buffers.{rowsOf}
+use Rattle.rows.specs.records.Buffers.{rowsOf}
 use Rattle.rows.proofs.passes.ReducedRows.{bits-reduced, opcode-reduced, rows-reduced}
 use Rattle.theory_readings.specs.Tokens.{Token, tokenOf, tokensOf}
 use Rattle.theory_readings.specs.Readings.{Block, Ask, flag, count, asks, rowAt, allRows, Trace}

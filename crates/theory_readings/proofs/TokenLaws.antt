@@ -13,7 +13,7 @@ use Rattle.rows.specs.declared.records.profile.Profile.{Profile}
 use Rattle.field.specs.Bounds.{anyFrom}
 use Rattle.rows.specs.records.Profiles.{opcodes, isOneOf, twoEqual, profileWrong, lacksBits}
 use Rattle.rows.proofs.passes.Checks.{neither}
-use Rattle.rows.specs.passes.Passes.{opcodeOf}
+use Rattle.rows.specs.records.Buffers.{opcodeOf}
 use Rattle.theory_readings.specs.Tokens.{split, call, syscall, dyn, dyncall, Kind, Token, start, repeat, end, halt, nothing, opcodeOfKind, controls, tokenBeside, controlToken, isOpOpcode, opToken, inSpanOf, opBitsOf, allBits, tokenOf}
 
 -- a row's opcode is the one that its token names

@@ -8,7 +8,8 @@ use lib.ListN.{length, drop}
 use Rattle.groups.specs.Constants.{rowWidth, badProfile, badLength, noWordOfGrammar, wrongFlagOrCount, block65Deep}
 use Rattle.rows.specs.declared.records.profile.Profile.{Profile}
 use Rattle.rows.specs.records.Profiles.{profileWrong}
-use Rattle.rows.specs.passes.Passes.{bufferWrong, firstOf}
+use Rattle.rows.specs.records.Buffers.{bufferWrong}
+use Rattle.groups.specs.Answer.{firstOf}
 use Rattle.theory_readings.specs.Tokens.{Kind, Token, start, repeat, end, halt, nothing, tokensOf}
 use Rattle.theory_readings.specs.Readings.{Block, WordOf, depthOf, programRows, depthList, Ask, flag, count, asks, Meets, Reading, allRows}
 

@@ -6,8 +6,8 @@ use lib.ListN.{length, getD, replicate}
 use Rattle.groups.specs.Constants.{rowWidth, badProfile, badLength}
 use Rattle.rows.specs.declared.records.profile.Profile.{Profile}
 use Rattle.rows.specs.records.Profiles.{profileWrong}
-use Rattle.rows.specs.passes.Buffers.{rowsOf, h4Of}
-use Rattle.rows.specs.passes.Passes.{bufferWrong, firstOf}
+use Rattle.rows.specs.records.Buffers.{rowsOf, h4Of, bufferWrong}
+use Rattle.groups.specs.Answer.{firstOf}
 use Rattle.theory_readings.specs.Tokens.{OneChild, Kind, Token, start, repeat, end, halt, opcodeOfKind, countOf, tokensOf}
 
 -- TREES

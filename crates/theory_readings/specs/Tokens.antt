@@ -9,7 +9,7 @@ use Rattle.groups.specs.Answer.{pick}
 use Rattle.groups.specs.Constants.{opBitsColumn, inSpanColumn, countColumn}
 use Rattle.rows.specs.declared.records.profile.Profile.{Profile}
 use Rattle.rows.specs.records.Profiles.{isOneOf}
-use Rattle.rows.specs.passes.Passes.{opcodeOf}
+use Rattle.rows.specs.records.Buffers.{opcodeOf}
 
 -- "SPLIT, CALL, SYSCALL, DYN or DYNCALL, then Block END": the kinds of one child
 pub data OneChild : Type 0 where

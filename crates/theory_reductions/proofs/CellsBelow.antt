@@ -14,8 +14,8 @@ use Rattle.field.proofs.InverseLaws.{inverse-below}
 use Rattle.groups.specs.Answer.{pick}
 use Rattle.rows.specs.declared.records.profile.Profile.{Profile}
 use Rattle.rows.specs.records.Built.{reversed16}
-use Rattle.rows.specs.passes.Buffers.{flat, lastRow, addrOf}
-use Rattle.rows.specs.passes.Passes.{withSides, firstRow, laterRows, fixedUp, opcodeOf, flaggedEnd, bodyEnds, withCounts, multiplied, inverted, haltRow, halted, paddingRow, paddingRows, padded}
+use Rattle.rows.specs.records.Buffers.{flat, lastRow, addrOf, opcodeOf}
+use Rattle.rows.specs.passes.Passes.{withSides, firstRow, laterRows, fixedUp, flaggedEnd, bodyEnds, withCounts, multiplied, inverted, haltRow, halted, paddingRow, paddingRows, padded}
 use Rattle.theory_reductions.specs.Below.{Below, BelowAll}
 
 -- reduced cells are below p

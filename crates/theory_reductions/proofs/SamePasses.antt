@@ -14,8 +14,9 @@ use Rattle.rows.specs.declared.records.profile.Profile.{Profile}
 use Rattle.rows.specs.records.Profiles.{profileWrong}
 use Rattle.rows.specs.records.DecoderRows.{noWord, wordCells, controlFlow}
 use Rattle.rows.specs.records.Built.{reversed16}
-use Rattle.rows.specs.passes.Buffers.{rowsOf, addrOf, h4Of}
-use Rattle.rows.specs.passes.Passes.{withSides, firstRow, builtOf, lowBits, opcodeOf, loopWithoutBody, firstHalf, haltDecoder, haltStack, haltRow, paddingRow, bufferWrong, fewerRows, sumOf, notFull, noFragment, firstOf, fragmentsWrong, refusal1, refusal2, refusal3, refusal4, refusal5, heightWrong, refusalAll}
+use Rattle.rows.specs.records.Buffers.{rowsOf, addrOf, h4Of, lowBits, opcodeOf, bufferWrong, fewerRows}
+use Rattle.rows.specs.passes.Passes.{withSides, firstRow, builtOf, loopWithoutBody, firstHalf, haltDecoder, haltStack, haltRow, paddingRow, sumOf, notFull, noFragment, fragmentsWrong, refusal1, refusal2, refusal3, refusal4, refusal5, heightWrong, refusalAll}
+use Rattle.groups.specs.Answer.{firstOf}
 use Rattle.rows.proofs.passes.Checks.{neither, none-first}
 use Rattle.theory_reductions.specs.Below.{Below}
 use Rattle.theory_reductions.specs.BeforeN2.{rowsBig}

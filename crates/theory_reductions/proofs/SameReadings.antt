@@ -10,7 +10,8 @@ use Rattle.field.specs.Modulus.{P}
 use Rattle.field.specs.Bounds.{anyFrom}
 use Rattle.rows.specs.declared.records.profile.Profile.{Profile}
 use Rattle.rows.specs.records.Profiles.{profileWrong}
-use Rattle.rows.specs.passes.Passes.{bufferWrong, firstOf}
+use Rattle.rows.specs.records.Buffers.{bufferWrong}
+use Rattle.groups.specs.Answer.{firstOf}
 use Rattle.rows.proofs.passes.Checks.{none-first}
 use Rattle.theory_reductions.specs.Below.{Below}
 use Rattle.theory_reductions.proofs.SameCells.{below-of, of-below, same-cellAt, same-reduced}

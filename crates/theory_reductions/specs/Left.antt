@@ -6,7 +6,7 @@ use Prim.Native.Nat.{ℕ, _-_, _<_}
 use lib.ListN.{length, getD}
 use Rattle.field.specs.Modulus.{P}
 use Rattle.rows.specs.declared.records.profile.Profile.{Profile}
-use Rattle.rows.specs.passes.Buffers.{onRows}
+use Rattle.rows.specs.records.Buffers.{onRows}
 use Rattle.rows.specs.passes.Passes.{fixedUp, builtOf, multiplied, inverted, halted, padded, sumOf, allPasses, unlessRefused, refusal1, refusal2, refusal3, refusal4, refusal5, refusalAll}
 
 -- pass 1, `fixup_stack_and_system_rows`

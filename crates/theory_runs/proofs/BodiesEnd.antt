@@ -15,8 +15,8 @@ use Rattle.rows.specs.records.Forests.{Forest}
 use Rattle.rows.specs.records.Addresses.{Queues, respanStep, readState}
 use Rattle.rows.specs.records.Profiles.{opcodes, profileWrong}
 use Rattle.rows.specs.cycles.Made.{Cursor}
-use Rattle.rows.specs.passes.Buffers.{addrOf, h4Of}
-use Rattle.rows.specs.passes.Passes.{opcodeOf, bodyEnds, anyWithoutBody, loopWithoutBody}
+use Rattle.rows.specs.records.Buffers.{addrOf, h4Of, opcodeOf}
+use Rattle.rows.specs.passes.Passes.{bodyEnds, anyWithoutBody, loopWithoutBody}
 use Rattle.theory_readings.specs.Tokens.{countOf}
 use Rattle.theory_runs.specs.Calls.{Fragment}
 use Rattle.theory_runs.specs.Happened.{Cycle, cyclesOf}

@@ -14,8 +14,8 @@ use Rattle.rows.specs.declared.records.profile.Profile.{Profile}
 use Rattle.rows.specs.declared.records.address_state.DecoderState.{DecoderState}
 use Rattle.rows.specs.records.Forests.{Forest}
 use Rattle.rows.specs.records.Profiles.{twoEqual, profileWrong}
-use Rattle.rows.specs.passes.Buffers.{lastRow, h4Of}
-use Rattle.rows.specs.passes.Passes.{fixedUp, opcodeOf, multiplied, inverted, haltRow, halted, paddingRows, padded}
+use Rattle.rows.specs.records.Buffers.{lastRow, h4Of, opcodeOf}
+use Rattle.rows.specs.passes.Passes.{fixedUp, multiplied, inverted, haltRow, halted, paddingRows, padded}
 use Rattle.rows.proofs.passes.RowLists.{Wide, wide-app}
 use Rattle.rows.proofs.passes.FirstRows.{Cells25}
 use Rattle.theory_readings.specs.Tokens.{Token, countOf, tokenOf, tokensOf}

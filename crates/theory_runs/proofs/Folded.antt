@@ -27,7 +27,7 @@ use Rattle.rows.specs.cycles.Made.{Cursor, conditionOf}
 use Rattle.rows.specs.records.DecoderRows.{decoderCells}
 use Rattle.rows.specs.records.Built.{systemCells, stackCells}
 use Rattle.rows.specs.records.Cells.{rowCells, putRow}
-use Rattle.rows.specs.passes.Buffers.{flat}
+use Rattle.rows.specs.records.Buffers.{flat}
 use Rattle.rows.specs.passes.Passes.{sumOf}
 use Rattle.rows.specs.cycles.Cycles.{fresh, storing, storedIn, tracerAfter, fragmentAfter, finalState, forPasses, lastSystem, lastStack}
 use Rattle.rows.proofs.passes.RowLists.{Wide, wide-app, flat-app, put-behind}

@@ -21,8 +21,7 @@ use Rattle.rows.specs.records.Profiles.{opcodes, profileWrong}
 use Rattle.rows.specs.records.DecoderRows.{bit, opBits, decoderCells}
 use Rattle.rows.specs.records.Built.{systemCells, stackCells}
 use Rattle.rows.specs.records.Cells.{rowCells}
-use Rattle.rows.specs.passes.Buffers.{addrOf, h4Of}
-use Rattle.rows.specs.passes.Passes.{lowBits, opcodeOf}
+use Rattle.rows.specs.records.Buffers.{addrOf, h4Of, lowBits, opcodeOf}
 use Rattle.theory_readings.specs.Tokens.{OneChild, Kind, Token, opcodeOfKind, controlToken, isOpOpcode, opToken, countOf, allBits, tokenOf}
 use Rattle.theory_readings.proofs.TokenLaws.{kind-token, respan-token, repeat-token, end-token, halt-token}
 use Rattle.theory_runs.specs.Happened.{Did, Cycle}

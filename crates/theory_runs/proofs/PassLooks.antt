@@ -19,8 +19,8 @@ use Rattle.rows.specs.records.Profiles.{opcodes, profileWrong}
 use Rattle.rows.specs.records.DecoderRows.{noWord, controlFlow, decoderCells}
 use Rattle.rows.specs.records.Built.{reversed16, noSystem, noStack, systemCells, stackCells}
 use Rattle.rows.specs.records.Cells.{rowCells}
-use Rattle.rows.specs.passes.Buffers.{addrOf, h4Of}
-use Rattle.rows.specs.passes.Passes.{withSides, firstRow, laterRows, fixedUp, lowBits, opcodeOf, flaggedEnd, bodyEnds, withCounts, multiplied, inverted, firstHalf, haltDecoder, haltStack, haltRow, paddingRow, paddingRows}
+use Rattle.rows.specs.records.Buffers.{addrOf, h4Of, lowBits, opcodeOf}
+use Rattle.rows.specs.passes.Passes.{withSides, firstRow, laterRows, fixedUp, flaggedEnd, bodyEnds, withCounts, multiplied, inverted, firstHalf, haltDecoder, haltStack, haltRow, paddingRow, paddingRows}
 use Rattle.rows.proofs.passes.RowLists.{Wide}
 use Rattle.rows.proofs.passes.FirstRows.{Cells25}
 use Rattle.theory_readings.specs.Tokens.{Token, controlToken, opToken, countOf, allBits, tokenOf}

@@ -14,8 +14,9 @@ use Rattle.rows.specs.records.Profiles.{profileWrong}
 use Rattle.rows.specs.records.Addresses.{Queues}
 use Rattle.rows.specs.declared.cycles.tracer.StoredContinuation.{StoredContinuation}
 use Rattle.rows.specs.cycles.Made.{Cursor}
-use Rattle.rows.specs.passes.Buffers.{rowsOf, onRows}
-use Rattle.rows.specs.passes.Passes.{fixedUp, builtOf, halted, sumOf, lastBuilt, firstOf, fragmentsWrong, noFragment, notFull, bufferWrong, fewerRows, heightWrong, loopWithoutBody, unlessRefused, refusal1, refusal2, refusal3, refusal4, refusal5, refusalAll, allPasses}
+use Rattle.rows.specs.records.Buffers.{rowsOf, onRows, bufferWrong, fewerRows}
+use Rattle.rows.specs.passes.Passes.{fixedUp, builtOf, halted, sumOf, lastBuilt, fragmentsWrong, noFragment, notFull, heightWrong, loopWithoutBody, unlessRefused, refusal1, refusal2, refusal3, refusal4, refusal5, refusalAll, allPasses}
+use Rattle.groups.specs.Answer.{firstOf}
 use Rattle.rows.proofs.passes.Checks.{none-first}
 use Rattle.theory_reductions.specs.Below.{Below}
 use Rattle.theory_reductions.specs.BeforeN2.{LentBelow, calleeCells, infoCells, cycleCells, cycleBefore, rowsBig}

@@ -15,8 +15,9 @@ use Rattle.rows.specs.records.Addresses.{Queues, readState}
 use Rattle.field.proofs.CellLaws.{length-reduced}
 use Rattle.rows.specs.records.Profiles.{profileWrong}
 use Rattle.rows.specs.cycles.Made.{Cursor}
-use Rattle.rows.specs.passes.Buffers.{rowsOf, flat, onRows}
-use Rattle.rows.specs.passes.Passes.{fixedUp, builtOf, multiplied, inverted, halted, padded, sumOf, anyAbove, bufferWrong, fewerRows, noFragment, fragmentsWrong, heightWrong, firstOf, lastBuilt, refusal1, refusal2, refusal5, unlessRefused, refusalAll, allPasses}
+use Rattle.rows.specs.records.Buffers.{rowsOf, flat, onRows, bufferWrong, fewerRows}
+use Rattle.rows.specs.passes.Passes.{fixedUp, builtOf, multiplied, inverted, halted, padded, sumOf, anyAbove, noFragment, fragmentsWrong, heightWrong, lastBuilt, refusal1, refusal2, refusal5, unlessRefused, refusalAll, allPasses}
+use Rattle.groups.specs.Answer.{firstOf}
 use Rattle.rows.proofs.passes.Checks.{neither, none-first}
 use Rattle.rows.proofs.passes.RowLists.{Wide, length-flat, rows-flat}
 use Rattle.rows.proofs.passes.FirstRows.{Cells25}

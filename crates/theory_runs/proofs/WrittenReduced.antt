@@ -13,7 +13,7 @@ use Rattle.groups.specs.Answer.{Answer, accepted, refused}
 use Rattle.rows.specs.records.Addresses.{Queues}
 use Rattle.rows.specs.records.Cells.{rowCells}
 use Rattle.rows.specs.cycles.Made.{Cursor}
-use Rattle.rows.specs.passes.Buffers.{flat}
+use Rattle.rows.specs.records.Buffers.{flat}
 use Rattle.rows.specs.passes.Passes.{allPasses}
 use Rattle.theory_runs.specs.Calls.{Call, store, finish, Fragment, Held, answered, after, opened, closed, cursorOf, AllAccepted, finalStates, countsOf, OneSize}
 use Rattle.theory_runs.specs.Written.{rowMade, rowsIn, rowsRun}

@@ -11,7 +11,7 @@ use Rattle.rows.specs.records.Forests.{Forest}
 use Rattle.rows.specs.records.Addresses.{Queues}
 use Rattle.rows.specs.records.Profiles.{twoEqual}
 use Rattle.rows.specs.cycles.Made.{Cursor}
-use Rattle.rows.specs.passes.Buffers.{onRows}
+use Rattle.rows.specs.records.Buffers.{onRows}
 use Rattle.rows.specs.passes.Passes.{fixedUp, builtOf, multiplied, inverted, halted, padded, sumOf, lastBuilt, refusal1, refusal2, refusal3, refusal4, refusal5, unlessRefused, refusalAll, allPasses}
 use Rattle.theory_readings.specs.Readings as readings
 use Rattle.theory_runs.specs.Calls.{Fragment, AllAccepted, finalStates, cellsOf, countsOf, builtCells, OneSize}

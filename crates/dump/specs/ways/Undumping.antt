@@ -6,8 +6,7 @@ use lib.Dec.{ltb}
 use lib.ListN.{length, drop}
 use Rattle.groups.specs.Answer.{Answer, accepted, refused, pick}
 use Rattle.groups.specs.Constants.{rowWidth, mostRows, badLength, noDump}
-use Rattle.rows.specs.passes.Buffers.{flat}
-use Rattle.rows.specs.passes.Passes.{bufferWrong}
+use Rattle.rows.specs.records.Buffers.{flat, bufferWrong}
 use Rattle.theory_dumps.specs.ways.Undump.{undump}
 
 -- the rows that are read are few enough for a buffer of cells; a text with more is none that the writer gives

@@ -8,7 +8,7 @@ use lib.Dec.{eqb}
 use lib.ListN.{length}
 use Rattle.groups.specs.Constants.{noWordOfGrammar, block65Deep}
 use Rattle.rows.specs.declared.records.profile.Profile.{Profile}
-use Rattle.rows.specs.passes.Buffers.{h4Of}
+use Rattle.rows.specs.records.Buffers.{h4Of}
 use Rattle.theory_readings.specs.Tokens.{Token}
 use Rattle.theory_readings.specs.Readings.{Ops, Block, Passes, spellOps, spell, spellPasses, depthOf, depthOfPasses, flag, count, passesIn, endRowOf, asksOf, asksOfPasses, rowAt, allRows}
 use Rattle.theory_readings.specs.Answers.{ReaderAnswer, refused}

@@ -10,7 +10,8 @@ use lib.Dec.{ltb, eqb}
 use lib.ListN.{length, drop, getD, drop-of-length-le}
 use lib.Seq.{drop-cons}
 use Rattle.rows.specs.records.Cells.{fragmentWrong}
-use Rattle.rows.specs.passes.Passes.{bufferWrong, fewerRows, sumOf, anyAbove, notFull, noFragment, fragmentsWrong, refusal1}
+use Rattle.rows.specs.passes.Passes.{sumOf, anyAbove, notFull, noFragment, fragmentsWrong, refusal1}
+use Rattle.rows.specs.records.Buffers.{bufferWrong, fewerRows}
 use Rattle.rows.proofs.passes.Checks.{neither, none-first}
 
 -- SUMS

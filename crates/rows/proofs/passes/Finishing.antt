@@ -8,7 +8,8 @@ use borrow.Author.Tests.{ltb-false, leb-false}
 use lib.Dec.{ltb, leb}
 use lib.ListN.{length, take, drop, length-take, length-drop}
 use Rattle.rows.specs.declared.records.profile.Profile.{Profile}
-use Rattle.rows.specs.passes.Passes.{bufferWrong, fewerRows, sumOf, notFull, noFragment, fragmentsWrong, heightWrong, refusal2, refusalAll}
+use Rattle.rows.specs.passes.Passes.{sumOf, notFull, noFragment, fragmentsWrong, heightWrong, refusal2, refusalAll}
+use Rattle.rows.specs.records.Buffers.{bufferWrong, fewerRows}
 use Rattle.rows.proofs.passes.Checks.{neither, none-first}
 use Rattle.rows.proofs.passes.Counts.{fits}
 

@@ -9,7 +9,7 @@ use Rattle.field.specs.Cells.{reduced}
 use Rattle.field.proofs.CellLaws.{length-reduced}
 use Rattle.rows.specs.records.Built.{reversed16}
 use Rattle.rows.specs.records.Cells.{putRow}
-use Rattle.rows.specs.passes.Buffers.{rowsOf, flat, onRows}
+use Rattle.rows.specs.records.Buffers.{rowsOf, flat, onRows}
 use Rattle.rows.specs.passes.Passes.{withSides, firstRow, laterRows, fixedUp, builtOf}
 use Rattle.rows.proofs.passes.RowLists.{Wide, length-rows, wide-rows, row-at, put-set, as-rows, on-rows, on-flat}
 

@@ -13,7 +13,7 @@ use Rattle.rows.specs.declared.records.state.StackCols.{StackCols}
 use Rattle.rows.specs.records.DecoderRows.{noWord, decoderCells, controlFlow}
 use Rattle.rows.specs.records.Built.{systemCells, stackCells}
 use Rattle.rows.specs.records.Cells.{rowCells, putRow}
-use Rattle.rows.specs.passes.Buffers.{rowsOf, flat, onRows, lastRow}
+use Rattle.rows.specs.records.Buffers.{rowsOf, flat, onRows, lastRow}
 use Rattle.rows.specs.passes.Passes.{wordIn, firstHalf, haltDecoder, haltStack, haltRow, halted, paddingRow, paddingRows, padded}
 use Rattle.rows.proofs.records.Windows.{window}
 use Rattle.rows.proofs.passes.RowLists.{Wide, wide-app, length-rows, wide-rows, as-rows, last-rows, last-cell, length-last, put-behind}

@@ -12,7 +12,7 @@ use lib.Seq.{ext-getD, getD-set-same, getD-set-other, getD-take, getD-drop, getD
 use Rattle.field.specs.Inverse.{inverseOf}
 use Rattle.field.specs.Column.{invertIf, inColumn, invertColumn}
 use Rattle.field.proofs.Columns.{column-length, column-cell, column-none}
-use Rattle.rows.specs.passes.Buffers.{rowsOf, flat, onRows}
+use Rattle.rows.specs.records.Buffers.{rowsOf, flat, onRows}
 use Rattle.rows.specs.passes.Passes.{inverted}
 use Rattle.rows.proofs.passes.RowLists.{drop-rows}
 

@@ -10,7 +10,7 @@ use borrow.Author.Tests.{le-leb}
 use Rattle.rows.specs.ways.Order.{occurrences, Ordered, Sorts, SortsFirst}
 use Rattle.rows.proofs.sorted.Counts.{hit-same, count-more}
 use Rattle.rows.specs.declared.records.profile.Profile.{Profile}
-use Rattle.rows.specs.passes.Buffers.{rowAt}
+use Rattle.rows.specs.records.Buffers.{rowAt}
 use Rattle.rows.specs.ways.LoopCounts.{isLoop, nextAddr, endsIn, Tallied, Held, Took, Table}
 
 module _ (p : Profile) (c : List ℕ) (from next : ℕ) where

@@ -9,7 +9,8 @@ use Rattle.rows.specs.declared.records.profile.Profile.{Profile}
 use Rattle.rows.specs.declared.cycles.tracer.TracerFinalState.{TracerFinalState}
 use Rattle.rows.specs.records.Profiles.{profileWrong}
 use Rattle.rows.specs.cycles.Cycles.{forPasses}
-use Rattle.rows.specs.passes.Passes.{sumOf, firstOf, fragmentsWrong, refusal1, refusalAll}
+use Rattle.rows.specs.passes.Passes.{sumOf, fragmentsWrong, refusal1, refusalAll}
+use Rattle.groups.specs.Answer.{firstOf}
 use Rattle.rows.proofs.passes.Finishing.{fragments-sum}
 
 in-sum : (before after : List ℕ) (count : ℕ) → count ≤ sumOf (before ++ (count ∷ after))

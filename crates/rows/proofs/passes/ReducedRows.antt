@@ -5,8 +5,7 @@ use Prim.Native.Nat.{ℕ, zero, suc}
 use lib.ListN.{take, drop}
 use Rattle.field.specs.Cells.{reduced}
 use Rattle.field.proofs.CellLaws.{reduced-take, reduced-drop, reduced-twice}
-use Rattle.rows.specs.passes.Buffers.{rowsOf}
-use Rattle.rows.specs.passes.Passes.{lowBits, opcodeOf}
+use Rattle.rows.specs.records.Buffers.{rowsOf, lowBits, opcodeOf}
 
 pub bits-reduced : (row : List ℕ) → reduced (take 7 (drop 7 (reduced row))) ≡ reduced (take 7 (drop 7 row))
 bits-reduced row =

@@ -10,7 +10,8 @@ use lib.Dec.{ltb, leb, eqb}
 use lib.ListN.{length}
 use Rattle.rows.specs.declared.records.profile.Profile.{Profile}
 use Rattle.rows.proofs.passes.Checks.{neither, none-first}
-use Rattle.rows.specs.passes.Passes.{bufferWrong, fewerRows, refusal3, refusal4, refusal5, unlessRefused}
+use Rattle.rows.specs.passes.Passes.{refusal3, refusal4, refusal5, unlessRefused}
+use Rattle.rows.specs.records.Buffers.{bufferWrong, fewerRows}
 use Rattle.rows.proofs.passes.Finishing.{enough, held}
 
 -- fewer than one row more

@@ -6,7 +6,7 @@ use native.Mathlib.Omega.{arith}
 use lib.ListN.{length, take, drop, getD, set, length-append, length-take, length-drop, take-append-drop}
 use lib.Seq.{take-at, drop-at, drop-drop, take-add, take-append-add, drop-append-add, getD-take, getD-drop}
 use Rattle.rows.specs.records.Cells.{putRow}
-use Rattle.rows.specs.passes.Buffers.{rowsOf, flat, onRows, lastRow}
+use Rattle.rows.specs.records.Buffers.{rowsOf, flat, onRows, lastRow}
 
 -- each row has 49 cells
 unfoldable pub Wide : List (List ℕ) → Type 0

@@ -12,7 +12,7 @@ use lib.Seq.{drop-drop}
 use borrow.Author.Tests.{eq-eqb, ne-eqb}
 use Rattle.groups.specs.Answer.{pick}
 use Rattle.rows.specs.declared.records.profile.Profile.{Profile}
-use Rattle.rows.specs.passes.Buffers.{rowsOf, rowAt}
+use Rattle.rows.specs.records.Buffers.{rowsOf, rowAt}
 use Rattle.rows.specs.passes.Passes.{flaggedEnd, bodyEnds, withCounts, anyWithoutBody, loopWithoutBody}
 use Rattle.rows.specs.ways.LoopCounts.{rowsFrom, isLoop, nextAddr, endsIn, lacksFrom, Alike}
 use Rattle.rows.proofs.passes.RowLists.{drop-rows}

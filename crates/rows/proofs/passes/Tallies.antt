@@ -12,7 +12,7 @@ use Rattle.rows.proofs.sorted.Counts.{hit-same, hit-other}
 use Rattle.rows.proofs.sorted.Search.{lower-unique, found-inside, found-is}
 use Rattle.rows.specs.declared.records.profile.Profile.{Profile}
 use Rattle.rows.specs.passes.Passes.{flaggedEnd}
-use Rattle.rows.specs.passes.Buffers.{rowAt}
+use Rattle.rows.specs.records.Buffers.{rowAt}
 use Rattle.rows.specs.ways.LoopCounts.{nextAddr, endsIn, Tallied, Bumped}
 use Rattle.rows.proofs.passes.RowsFrom.{ends-more, ends-one}
 

@@ -7,7 +7,7 @@ use native.Mathlib.Omega.{arith}
 use lib.ListN.{length, set, take, drop, take-append-drop}
 use lib.Seq.{take-add, take-set-le, take-set-lt, drop-set-add, drop-set-lt}
 use Rattle.rows.specs.declared.records.profile.Profile.{Profile}
-use Rattle.rows.specs.passes.Buffers.{rowsOf, flat, onRows, rowAt}
+use Rattle.rows.specs.records.Buffers.{rowsOf, flat, onRows, rowAt}
 use Rattle.rows.specs.passes.Passes.{withCounts, multiplied}
 use Rattle.rows.specs.ways.LoopCounts.{rowsFrom, isLoop, nextAddr, endsIn, countedFrom, Alike}
 use Rattle.rows.proofs.passes.RowLists.{length-rows, flat-rows, on-rows}

@@ -6,14 +6,14 @@ use lib.Dec.{leb, ltb, eqb}
 use lib.ListN.{length, take, drop, getD, set}
 use Rattle.field.specs.Cells.{reduced}
 use Rattle.field.specs.Inverse.{inverseOf}
-use Rattle.groups.specs.Answer.{pick}
-use Rattle.groups.specs.Constants.{rowWidth, mostRows, addrColumn, opBitsColumn, hasherColumn, countColumn, helperColumn, badProfile, badLength, noBodyEnd, fragmentNotFull, noFragments, stackColumn}
+use Rattle.groups.specs.Answer.{pick, firstOf}
+use Rattle.groups.specs.Constants.{addrColumn, hasherColumn, countColumn, helperColumn, badProfile, badLength, noBodyEnd, fragmentNotFull, noFragments, stackColumn}
 use Rattle.groups.specs.declared.word.Word.{Word}
 use Rattle.rows.specs.declared.records.profile.Profile.{Profile}
 use Rattle.rows.specs.records.Profiles.{profileWrong}
 use Rattle.rows.specs.records.DecoderRows.{noWord, controlFlow, decoderCells}
 use Rattle.rows.specs.records.Built.{reversed16}
-use Rattle.rows.specs.passes.Buffers.{rowsOf, onRows, lastRow, addrOf, h4Of}
+use Rattle.rows.specs.records.Buffers.{rowsOf, onRows, lastRow, addrOf, h4Of, opcodeOf, bufferWrong, fewerRows}
 
 -- PASS 1
 
@@ -43,15 +43,6 @@ builtOf zero built = []
 builtOf (suc n) built = reduced (take 25 built) ∷ builtOf n (drop 25 built)
 
 -- PASS 2
-
--- the number whose digits, lowest first, are the lowest bits of the cells
-unfoldable pub lowBits : List ℕ → ℕ
-lowBits [] = 0
-lowBits (bit ∷ bits) = bit % 2 + 2 * lowBits bits
-
--- "Opcodes are read from each bit cell's lowest bit", that of the reduced cell
-unfoldable pub opcodeOf : List ℕ → ℕ
-opcodeOf row = lowBits (reduced (take 7 (drop opBitsColumn row)))
 
 -- an END row whose h4 is exactly 1
 unfoldable pub flaggedEnd : Profile → List ℕ → Bool
@@ -131,14 +122,6 @@ padded p height rows = rows ++ paddingRows p (height - length rows) (length rows
 
 -- WHAT THE PASSES REFUSE
 
--- Refusal 11: "buffer no multiple of 49, over 2^24 rows"
-unfoldable pub bufferWrong : (cells : ℕ) → Bool
-bufferWrong cells = ltb 0 (cells % rowWidth) || ltb mostRows (cells / rowWidth)
-
--- "fewer rows than said"
-unfoldable pub fewerRows : (cells rows : ℕ) → Bool
-fewerRows cells rows = ltb (cells / rowWidth) rows
-
 -- the sum of the fragments' row counts
 unfoldable pub sumOf : List ℕ → ℕ
 sumOf [] = 0
@@ -159,12 +142,6 @@ notFull size (count ∷ next ∷ counts) = ltb count size || notFull size (next 
 abbrev pub noFragment : List ℕ → Bool
 noFragment [] = true
 noFragment (count ∷ counts) = false
-
--- the first refusal of a list that holds, 0 where none does: "The finishing passes check 1, 2, 11, 26, 25, 14.", and 1 cannot be (N2)
-unfoldable pub firstOf : List (Bool × ℕ) → ℕ
-firstOf [] = 0
-firstOf ((true, number) ∷ rest) = number
-firstOf ((false, number) ∷ rest) = firstOf rest
 
 -- Refusal 11 of the fragments: "fragment size 0, a fragment's count above it", fewer rows than said, fewer than 25 built cells a fragment
 unfoldable pub fragmentsWrong : (cells size : ℕ) → (counts built : List ℕ) → Bool

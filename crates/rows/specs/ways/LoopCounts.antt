@@ -9,8 +9,8 @@ use lib.ListN.{length, take, drop, getD}
 use Rattle.groups.specs.Constants.{rowWidth, countColumn}
 use Rattle.rows.specs.ways.Order.{hit, occurrences, Ordered, Lower}
 use Rattle.rows.specs.declared.records.profile.Profile.{Profile}
-use Rattle.rows.specs.passes.Buffers.{rowsOf, rowAt, flat, addrOf}
-use Rattle.rows.specs.passes.Passes.{opcodeOf, bodyEnds, withCounts, anyWithoutBody}
+use Rattle.rows.specs.records.Buffers.{rowsOf, rowAt, flat, addrOf, opcodeOf}
+use Rattle.rows.specs.passes.Passes.{bodyEnds, withCounts, anyWithoutBody}
 
 -- of the first `rows` rows those from i on
 unfoldable pub rowsFrom : (rows i : ℕ) → (buffer : List ℕ) → List (List ℕ)

@@ -1,5 +1,4 @@
 // The finisher: all checks of the five finishing passes first, and then all five in order.
-use crate::passes::buffer::fewer_rows;
 use crate::passes::fixup::fixup_rows;
 use crate::passes::fixup::fragments_wrong;
 use crate::passes::fixup::no_fragment;
@@ -10,6 +9,7 @@ use crate::passes::halt::push_halt;
 use crate::passes::helper_column::invert_helpers;
 use crate::passes::multiplicity::any_without_body;
 use crate::passes::multiplicity::write_multiplicities;
+use crate::records::buffer::fewer_rows;
 use crate::records::profile::Profile;
 use crate::records::profile::is_wrong;
 use groups::constants::Refusal;

@@ -13,7 +13,7 @@ ghost use lib.ListN.{length, getD, take, drop};
 ghost use Rattle.field.specs.Cells.{reduced};
 ghost use Rattle.groups.specs.Constants.{rowWidth};
 ghost use Rattle.rows.specs.records.Cells.{putRow};
-ghost use Rattle.rows.specs.passes.Buffers.{onRows};
+ghost use Rattle.rows.specs.records.Buffers.{onRows};
 ghost use Rattle.rows.specs.passes.Passes.{withSides, firstRow, laterRows, fixedUp, builtOf, sumOf, anyAbove, notFull, noFragment, fragmentsWrong, refusal1, unlessRefused};
 
 // The row count of fragment i, 0 past the last.

@@ -1,6 +1,6 @@
 // The last two finishing passes: the HALT row behind the program's rows, and HALT rows up to the height.
-use crate::passes::buffer::buffer_wrong;
-use crate::passes::buffer::fewer_rows;
+use crate::records::buffer::buffer_wrong;
+use crate::records::buffer::fewer_rows;
 use crate::records::decoder_row::DecoderRow;
 use crate::records::profile::Profile;
 use crate::records::profile::is_wrong;
@@ -19,7 +19,7 @@ ghost use lib.ListN.{length, take};
 ghost use Rattle.groups.specs.Constants.{rowWidth};
 ghost use Rattle.rows.specs.records.DecoderRows.{noWord, controlFlow};
 ghost use Rattle.rows.specs.records.Built.{systemCells, stackCells};
-ghost use Rattle.rows.specs.passes.Buffers.{rowsOf, onRows, lastRow};
+ghost use Rattle.rows.specs.records.Buffers.{rowsOf, onRows, lastRow};
 ghost use Rattle.rows.specs.passes.Passes.{wordIn, firstHalf, halted, padded, refusal4, refusal5, unlessRefused};
 
 // The four numbers from `at` on, as they stand.

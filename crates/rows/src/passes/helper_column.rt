@@ -1,6 +1,6 @@
 // The third finishing pass: each helper cell becomes its inverse, 0 staying 0.
-use crate::passes::buffer::buffer_wrong;
-use crate::passes::buffer::fewer_rows;
+use crate::records::buffer::buffer_wrong;
+use crate::records::buffer::fewer_rows;
 use field::inverse::invert_column;
 use groups::constants::Column;
 use groups::constants::Refusal;
@@ -9,7 +9,7 @@ ghost use mathlib.Core.Path.{_≡_};
 ghost use Prim.Native.Nat.{_*_, _≤_};
 ghost use lib.ListN.{length};
 ghost use Rattle.groups.specs.Constants.{rowWidth};
-ghost use Rattle.rows.specs.passes.Buffers.{onRows};
+ghost use Rattle.rows.specs.records.Buffers.{onRows};
 ghost use Rattle.rows.specs.passes.Passes.{inverted, refusal3, unlessRefused};
 
 // What the pass refuses, 0 where it does not.

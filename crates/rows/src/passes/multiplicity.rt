@@ -2,8 +2,9 @@
 //
 // LOOP rows are taken some thousands at a time. The addresses behind them are sorted, and one sweep over all rows counts each flagged END at
 // the address behind it; the LOOP rows taken then look their counts up.
-use crate::passes::buffer::buffer_wrong;
-use crate::passes::buffer::fewer_rows;
+use crate::records::buffer::buffer_wrong;
+use crate::records::buffer::decode_opcode;
+use crate::records::buffer::fewer_rows;
 use crate::records::profile::Profile;
 use crate::records::profile::is_wrong;
 use field::cell::cell;
@@ -18,31 +19,14 @@ ghost use Prim.Native.Nat.{ℕ, _+_, _*_, _<_, _≤_};
 ghost use lib.ListN.{length, take, getD};
 ghost use Rattle.groups.specs.Constants.{rowWidth, mostRows};
 ghost use Rattle.rows.specs.ways.Order.{occurrences, Ordered};
-ghost use Rattle.rows.specs.passes.Buffers.{rowsOf, onRows, addrOf, rowAt};
-ghost use Rattle.rows.specs.passes.Passes.{opcodeOf, flaggedEnd, multiplied, loopWithoutBody, refusal2, unlessRefused};
+ghost use Rattle.rows.specs.records.Buffers.{rowsOf, onRows, addrOf, rowAt, opcodeOf};
+ghost use Rattle.rows.specs.passes.Passes.{flaggedEnd, multiplied, loopWithoutBody, refusal2, unlessRefused};
 ghost use Rattle.rows.specs.ways.LoopCounts.{isLoop, endsIn, lacksFrom, countedFrom, Alike, Tallied, Bumped, Took, Table};
 
 // LOOP rows that were taken: their number, and the row behind the last of them.
 struct Taken {
     count: usize,
     next: usize,
-}
-
-// The opcode of row i, from each bit cell's lowest bit; past the end, 0.
-pub fn decode_opcode(buffer: &[u64], i: usize) -> u64
-    ensures { λ r. ⌜ r ≡ opcodeOf (rowAt i (now (buffer .entry))) ⌝ }
-{
-    if buffer.len() / Row::WIDTH < i {
-        return 0;
-    }
-    let at = Row::WIDTH * i;
-    cell(buffer, at + 7) % 2
-        + 2 * (cell(buffer, at + 8) % 2)
-        + 4 * (cell(buffer, at + 9) % 2)
-        + 8 * (cell(buffer, at + 10) % 2)
-        + 16 * (cell(buffer, at + 11) % 2)
-        + 32 * (cell(buffer, at + 12) % 2)
-        + 64 * (cell(buffer, at + 13) % 2)
 }
 
 fn is_loop(profile: Profile, buffer: &[u64], i: usize) -> bool

@@ -9,7 +9,7 @@ use lib.ListN.{length}
 use Rattle.groups.specs.Answer.{pick}
 use Rattle.groups.specs.Constants.{noWordOfGrammar, wrongFlagOrCount, block65Deep}
 use Rattle.rows.specs.declared.records.profile.Profile.{Profile}
-use Rattle.rows.specs.passes.Buffers.{h4Of}
+use Rattle.rows.specs.records.Buffers.{h4Of}
 use Rattle.theory_readings.specs.Tokens.{OneChild, Kind, Token, start, repeat, end, halt, nothing, countOf, tokensOf}
 use Rattle.theory_readings.specs.Readings.{Ops, Block, Passes, Row, numbered, Ask, flag, count, asks, rowAt, allRows}
 use Rattle.theory_readings.specs.Answers.{ReaderAnswer, accepted, refused, readerRefusal, rowAsked}

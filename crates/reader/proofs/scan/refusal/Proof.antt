@@ -1,6 +1,7 @@
 -- `scan::refusal` meets its contract: each way out by the tests before it.
 use borrow.Author.Needs.{needs}
-use Rattle.rows.specs.passes.Passes.{firstOf, bufferWrong}
+use Rattle.rows.specs.records.Buffers.{bufferWrong}
+use Rattle.groups.specs.Answer.{firstOf}
 use Rattle.theory_readings.specs.Answers.{readerRefusal}
 use Rattle.reader.proofs.scan.refusal.Statement.{statement}
 use Rattle.reader.proofs.scan.refusal.Tie as tie

@@ -5,7 +5,7 @@ use native.Mathlib.Omega.{arith}
 use borrow.Author.Needs.{needs}
 use borrow.Author.Tests.{le-leb, lt-leb, lt-ltb, le-ltb}
 use lib.ListN.{length}
-use Rattle.rows.specs.passes.Passes.{bufferWrong}
+use Rattle.rows.specs.records.Buffers.{bufferWrong}
 use Rattle.reader.specs.Views.{viewRefused}
 use Rattle.reader.proofs.view.row.Statement.{statement}
 use Rattle.reader.proofs.view.row.Tie as tie

@@ -4,7 +4,8 @@ use mathlib.Core.Bool.{false}
 use borrow.Author.Needs.{needs}
 use lib.ListN.{length}
 use Rattle.rows.specs.records.Profiles.{profileWrong}
-use Rattle.rows.specs.passes.Passes.{refusalAll, firstOf, sumOf, fragmentsWrong, heightWrong, noFragment, notFull}
+use Rattle.rows.specs.passes.Passes.{refusalAll, sumOf, fragmentsWrong, heightWrong, noFragment, notFull}
+use Rattle.groups.specs.Answer.{firstOf}
 use Rattle.rows.proofs.passes.Finishing.{sum-uncapped, sum-held}
 use Rattle.rows.proofs.passes.finish.finish_refusal.Statement.{statement}
 use Rattle.rows.proofs.passes.finish.finish_refusal.Tie as tie

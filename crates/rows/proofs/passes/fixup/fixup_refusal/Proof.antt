@@ -1,6 +1,7 @@
 -- `fixup::fixup_refusal` meets its contract: each way out by the tests before it.
 use borrow.Author.Needs.{needs}
-use Rattle.rows.specs.passes.Passes.{refusal1, firstOf}
+use Rattle.rows.specs.passes.Passes.{refusal1}
+use Rattle.groups.specs.Answer.{firstOf}
 use Rattle.rows.proofs.passes.fixup.fixup_refusal.Statement.{statement}
 use Rattle.rows.proofs.passes.fixup.fixup_refusal.Tie as tie
 

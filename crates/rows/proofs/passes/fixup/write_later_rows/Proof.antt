@@ -5,7 +5,7 @@ use native.Mathlib.Nat.{mul-le-mul-right}
 use native.Mathlib.Omega.{arith}
 use borrow.Author.Needs.{needs}
 use lib.ListN.{length, length-take, length-drop}
-use Rattle.rows.specs.passes.Buffers.{onRows}
+use Rattle.rows.specs.records.Buffers.{onRows}
 use Rattle.rows.specs.passes.Passes.{laterRows, builtOf, sumOf}
 use Rattle.rows.proofs.passes.FirstRows.{later-start, later-turn}
 use Rattle.rows.proofs.passes.fixup.write_later_rows.Statement.{statement}

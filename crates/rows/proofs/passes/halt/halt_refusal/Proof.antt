@@ -8,7 +8,9 @@ use lib.Dec.{leb}
 use lib.ListN.{length}
 use Rattle.rows.specs.declared.records.profile.Profile.{Profile}
 use Rattle.rows.specs.records.Profiles.{profileWrong}
-use Rattle.rows.specs.passes.Passes.{firstOf, bufferWrong, refusal4}
+use Rattle.rows.specs.passes.Passes.{refusal4}
+use Rattle.rows.specs.records.Buffers.{bufferWrong}
+use Rattle.groups.specs.Answer.{firstOf}
 use Rattle.rows.proofs.passes.Refusals.{fewer-more}
 use Rattle.rows.proofs.passes.halt.halt_refusal.Statement.{statement}
 use Rattle.rows.proofs.passes.halt.halt_refusal.Tie as tie

@@ -2,7 +2,7 @@
 use mathlib.Core.Path.{_∙_, sym}
 use native.Mathlib.Omega.{arith}
 use borrow.Author.Needs.{needs}
-use Rattle.rows.specs.passes.Buffers.{rowsOf, lastRow}
+use Rattle.rows.specs.records.Buffers.{rowsOf, lastRow}
 use Rattle.rows.proofs.passes.HaltRows.{last-half}
 use Rattle.rows.proofs.passes.halt.last_half.Statement.{statement}
 use Rattle.rows.proofs.passes.halt.last_half.Tie as tie

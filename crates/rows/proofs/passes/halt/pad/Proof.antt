@@ -9,7 +9,7 @@ use lib.Seq.{take-take}
 use Rattle.rows.specs.declared.records.profile.Profile.{Profile}
 use Rattle.rows.specs.records.DecoderRows.{noWord, controlFlow}
 use Rattle.rows.specs.records.Built.{stackCells}
-use Rattle.rows.specs.passes.Buffers.{rowsOf, onRows, lastRow}
+use Rattle.rows.specs.records.Buffers.{rowsOf, onRows, lastRow}
 use Rattle.rows.specs.records.Cells.{rowCells}
 use Rattle.rows.proofs.records.Rooms.{row-fits}
 use Rattle.rows.specs.passes.Passes.{firstHalf, padded}

@@ -1,6 +1,7 @@
 -- `halt::padding_refusal` meets its contract.
 use borrow.Author.Needs.{needs}
-use Rattle.rows.specs.passes.Passes.{firstOf, refusal5}
+use Rattle.rows.specs.passes.Passes.{refusal5}
+use Rattle.groups.specs.Answer.{firstOf}
 use Rattle.rows.proofs.passes.halt.padding_refusal.Statement.{statement}
 use Rattle.rows.proofs.passes.halt.padding_refusal.Tie as tie
 

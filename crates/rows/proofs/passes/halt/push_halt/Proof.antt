@@ -7,7 +7,7 @@ use borrow.Author.Needs.{needs}
 use lib.ListN.{length, drop}
 use lib.Seq.{take-take}
 use Rattle.rows.proofs.records.Rooms.{row-fits}
-use Rattle.rows.specs.passes.Buffers.{rowsOf, lastRow}
+use Rattle.rows.specs.records.Buffers.{rowsOf, lastRow}
 use Rattle.rows.proofs.passes.HaltRows.{halt-row, put-halt}
 use Rattle.rows.proofs.passes.halt.push_halt.Statement.{statement}
 use Rattle.rows.proofs.passes.halt.push_halt.Tie as tie

@@ -1,6 +1,7 @@
 -- `helper_column::helper_refusal` meets its contract.
 use borrow.Author.Needs.{needs}
-use Rattle.rows.specs.passes.Passes.{firstOf, refusal3}
+use Rattle.rows.specs.passes.Passes.{refusal3}
+use Rattle.groups.specs.Answer.{firstOf}
 use Rattle.rows.proofs.passes.helper_column.helper_refusal.Statement.{statement}
 use Rattle.rows.proofs.passes.helper_column.helper_refusal.Tie as tie
 

@@ -4,7 +4,7 @@ use Prim.Native.Nat.{_-_, _≤_}
 use borrow.Author.Needs.{needs}
 use native.Mathlib.Omega.{arith}
 use denote.Ref.{now}
-use Rattle.rows.specs.passes.Buffers.{rowAt}
+use Rattle.rows.specs.records.Buffers.{rowAt}
 use Rattle.rows.specs.ways.LoopCounts.{isLoop, endsIn, lacksFrom}
 use mathlib.Core.Bool.{true}
 use Rattle.rows.proofs.passes.RowsFrom.{lacks-yes, lacks-no, lacks-skip}

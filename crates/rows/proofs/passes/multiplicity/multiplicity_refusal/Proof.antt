@@ -4,7 +4,9 @@ use mathlib.Core.Bool.{false, _||_}
 use borrow.Author.Needs.{needs}
 use lib.ListN.{length}
 use Rattle.rows.specs.records.Profiles.{profileWrong}
-use Rattle.rows.specs.passes.Passes.{refusal2, firstOf, bufferWrong, fewerRows}
+use Rattle.rows.specs.passes.Passes.{refusal2}
+use Rattle.rows.specs.records.Buffers.{bufferWrong, fewerRows}
+use Rattle.groups.specs.Answer.{firstOf}
 use Rattle.rows.proofs.passes.Finishing.{held}
 use Rattle.rows.proofs.passes.multiplicity.multiplicity_refusal.Statement.{statement}
 use Rattle.rows.proofs.passes.multiplicity.multiplicity_refusal.Tie as tie

@@ -5,7 +5,7 @@ use borrow.Author.Needs.{needs}
 use native.Mathlib.Omega.{arith}
 use denote.Ref.{now}
 use mathlib.Core.Bool.{true}
-use Rattle.rows.specs.passes.Buffers.{rowAt}
+use Rattle.rows.specs.records.Buffers.{rowAt}
 use Rattle.rows.specs.ways.LoopCounts.{isLoop, nextAddr, endsIn, countedFrom, Alike}
 use Rattle.rows.proofs.passes.RowCells.{alike-refl, alike-set, opcode-alike, cell-alike}
 use Rattle.rows.proofs.passes.Written.{counted-loop, counted-skip}

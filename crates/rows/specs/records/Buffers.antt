@@ -1,9 +1,11 @@
 -- A buffer of cells as rows of 49, one after another.
+use mathlib.Core.Bool.{Bool, _||_}
 use mathlib.Core.List.{List, [], _∷_, _++_}
-use Prim.Native.Nat.{ℕ, zero, suc, _*_}
+use Prim.Native.Nat.{ℕ, zero, suc, _+_, _*_, _/_, _%_}
+use lib.Dec.{ltb}
 use lib.ListN.{length, take, drop}
-use Rattle.field.specs.Cells.{cellAt}
-use Rattle.groups.specs.Constants.{rowWidth, addrColumn, h4Column}
+use Rattle.field.specs.Cells.{cellAt, reduced}
+use Rattle.groups.specs.Constants.{rowWidth, mostRows, addrColumn, opBitsColumn, h4Column}
 
 -- the first n rows of a buffer
 unfoldable pub rowsOf : (n : ℕ) → List ℕ → List (List ℕ)
@@ -36,3 +38,20 @@ addrOf row = cellAt row addrColumn
 
 abbrev pub h4Of : List ℕ → ℕ
 h4Of row = cellAt row h4Column
+
+-- the number whose digits, lowest first, are the lowest bits of the cells
+unfoldable pub lowBits : List ℕ → ℕ
+lowBits [] = 0
+lowBits (bit ∷ bits) = bit % 2 + 2 * lowBits bits
+
+-- "Opcodes are read from each bit cell's lowest bit", that of the reduced cell
+unfoldable pub opcodeOf : List ℕ → ℕ
+opcodeOf row = lowBits (reduced (take 7 (drop opBitsColumn row)))
+
+-- Refusal 11: "buffer no multiple of 49, over 2^24 rows"
+unfoldable pub bufferWrong : (cells : ℕ) → Bool
+bufferWrong cells = ltb 0 (cells % rowWidth) || ltb mostRows (cells / rowWidth)
+
+-- "fewer rows than said"
+unfoldable pub fewerRows : (cells rows : ℕ) → Bool
+fewerRows cells rows = ltb (cells / rowWidth) rows

@@ -3,8 +3,8 @@ use mathlib.Core.Path.{sym}
 use borrow.Author.Needs.{needs}
 use denote.Ref.{now}
 use Rattle.rows.proofs.passes.RowCells.{opcode-cells, opcode-past}
-use Rattle.rows.proofs.passes.multiplicity.decode_opcode.Statement.{statement}
-use Rattle.rows.proofs.passes.multiplicity.decode_opcode.Tie as tie
+use Rattle.rows.proofs.records.buffer.decode_opcode.Statement.{statement}
+use Rattle.rows.proofs.records.buffer.decode_opcode.Tie as tie
 
 returns : tie.Need-returns
 returns c = let a = c .before .before .args in opcode-past (now (a .buffer)) (a .i) (c .if1 .taken)
