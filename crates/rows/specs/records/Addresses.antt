@@ -14,6 +14,7 @@ use Rattle.rows.specs.declared.records.address_state.Positions.{Position
 use Rattle.rows.specs.declared.records.address_state.NodeEndData.{NodeEndData}
 use Rattle.rows.specs.declared.records.address_state.EndFound.{EndFound}
 use Rattle.rows.specs.declared.records.address_state.AddressFound.{AddressFound}
+use Rattle.rows.specs.declared.records.address_state.ParentFound.{ParentFound}
 use Rattle.rows.specs.declared.records.address_state.Started.{Started}
 use Rattle.rows.specs.declared.records.address_state.Ended.{Ended}
 
@@ -69,10 +70,14 @@ unfoldable pub respanStep : (step : ℕ) → DecoderState → DecoderState
 respanStep step state =
     record { «current_addr» = (state .«current_addr» + step) % P; «parent_addr» = state .«parent_addr» }
 
--- the number and the values of each case; a queue of single cells has its own refusal
-abbrev pub toldAddress : (refusal : ℕ) → AddressFound → Answer ℕ
-toldAddress refusal (AddressFound.At address) = accepted address
-toldAddress refusal AddressFound.Missing = refused refusal
+-- the number and the values of each case: "20 address, 21 parent, 22 end queue empty"
+abbrev pub toldAddress : AddressFound → Answer ℕ
+toldAddress (AddressFound.At address) = accepted address
+toldAddress AddressFound.Missing = refused addressQueueEmpty
+
+abbrev pub toldParent : ParentFound → Answer ℕ
+toldParent (ParentFound.At address) = accepted address
+toldParent ParentFound.Missing = refused parentQueueEmpty
 
 abbrev pub toldEnd : EndFound → Answer NodeEndData
 toldEnd (EndFound.At entry) = accepted entry

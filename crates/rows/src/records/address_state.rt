@@ -4,8 +4,9 @@ use field::felt::add;
 use field::felt::reduce;
 use groups::constants::Refusal;
 ghost use mathlib.Core.Path.{_≡_};
-ghost use Prim.Native.Nat.{ℕ, _+_, _*_, _≤_, _<_};
-ghost use Rattle.rows.specs.records.Addresses.{readState, startAnswer, startState, endAnswer, endState, respanStep, entryAt, endAt, toldAddress, toldEnd, toldStarted, toldEnded};
+ghost use Prim.Native.Nat.{_+_, _*_, _≤_, _<_};
+ghost use Rattle.groups.specs.Constants.{addressQueueEmpty, parentQueueEmpty};
+ghost use Rattle.rows.specs.records.Addresses.{readState, startAnswer, startState, endAnswer, endState, respanStep, entryAt, endAt, toldAddress, toldParent, toldEnd, toldStarted, toldEnded};
 
 #[repr(C)]
 pub struct DecoderState {
@@ -33,8 +34,14 @@ pub enum EndFound {
     Missing,
 }
 
-// An entry of the address queue or of the parent queue.
+// An entry of the address queue.
 enum AddressFound {
+    At(u64),
+    Missing,
+}
+
+// An entry of the parent queue.
+enum ParentFound {
     At(u64),
     Missing,
 }
@@ -75,14 +82,24 @@ pub fn end_at(ends: &[u64], at: usize) -> EndFound
     })
 }
 
-// The entry of a queue of addresses at a position, or the queue's refusal.
-fn address_at(queue: &[u64], at: usize) -> AddressFound
-    ensures { λ r. ⌜ ((refusal : ℕ) → toldAddress refusal r ≡ entryAt refusal (now (queue .entry)) at) ⌝ }
+// The entry of the address queue at a position, or 20.
+fn address_at(addresses: &[u64], at: usize) -> AddressFound
+    ensures { λ r. ⌜ toldAddress r ≡ entryAt addressQueueEmpty (now (addresses .entry)) at ⌝ }
 {
-    if queue.len() <= at {
+    if addresses.len() <= at {
         return AddressFound::Missing;
     }
-    AddressFound::At(cell(queue, at))
+    AddressFound::At(cell(addresses, at))
+}
+
+// The entry of the parent queue at a position, or 21.
+fn parent_at(parents: &[u64], at: usize) -> ParentFound
+    ensures { λ r. ⌜ toldParent r ≡ entryAt parentQueueEmpty (now (parents .entry)) at ⌝ }
+{
+    if parents.len() <= at {
+        return ParentFound::Missing;
+    }
+    ParentFound::At(cell(parents, at))
 }
 
 // A node starts: its address and its parent's come from their queues. 20, 21: a queue is used up.
@@ -96,7 +113,7 @@ fn start_step(state: DecoderState, addresses: &[u64], parents: &[u64], at: Posit
             state,
         };
     };
-    let AddressFound::At(parent_addr) = address_at(parents, at.parents) else {
+    let ParentFound::At(parent_addr) = parent_at(parents, at.parents) else {
         return StartStep {
             answer: Started::Refused(Refusal::PARENT_QUEUE_EMPTY),
             state,

@@ -6,11 +6,11 @@ use Rattle.rows.proofs.records.address_state.address_at.Tie as tie
 
 returns : tie.Need-returns
 unfolding entryAt
-returns c = λ refusal. rw (le-ltb _ _ (c .if1 .taken))
+returns c = rw (le-ltb _ _ (c .if1 .taken))
 
 returns-2 : tie.Need-returns-2
 unfolding entryAt
-returns-2 c = λ refusal. rw (lt-ltb _ _ (c .before .if1 .left), c .cell .ensures)
+returns-2 c = rw (lt-ltb _ _ (c .before .if1 .left), c .cell .ensures)
 
 pub address-at-spec : {M : Type 1} → statement M
 address-at-spec = tie.close (tie.spec returns (λ c κs. tt) returns-2)
