@@ -6,15 +6,15 @@ use Prim.Native.Nat.{ℕ, _+_, _≤_, _<_}
 use native.Mathlib.Omega.{arith}
 use lib.ListN.{length}
 use Rattle.theory_readings.specs.Tokens.{Kind, Token, start, repeat, end, halt, nothing}
-use Rattle.reader.specs.Rows.{kindOf, tokenIn}
+use Rattle.reader.specs.Rows.{rowKindOf, tokenIn}
 use Rattle.reader.specs.ways.FromRow.{rowsFrom}
 use Rattle.reader.specs.declared.token.RowKind.{RowKind}
 use Rattle.reader.specs.declared.token.RowKind.the-variants.{End}
 use Rattle.reader.proofs.RowTokens.{tag, among, rows-cons, rows-none}
 use Rattle.theory_indexes.specs.ways.IndexScan.{Change, begins, ends, stays, changeOf, oneIfBegins, starts}
 
-began : (t : Token) → OneOf (0 ∷ 1 ∷ 2 ∷ 3 ∷ []) (tag (kindOf t)) → begins ≡ changeOf t
-unfolding changeOf kindOf
+began : (t : Token) → OneOf (0 ∷ 1 ∷ 2 ∷ 3 ∷ []) (tag (rowKindOf t)) → begins ≡ changeOf t
+unfolding changeOf rowKindOf
 began (start kind) h = refl
 began (Token.op o) h = absurd (among 0 (1 ∷ 2 ∷ 3 ∷ []) 4 h)
 began Token.respan h = absurd (among 0 (1 ∷ 2 ∷ 3 ∷ []) 5 h)
@@ -23,8 +23,8 @@ began end h = absurd (among 0 (1 ∷ 2 ∷ 3 ∷ []) 7 h)
 began halt h = absurd (among 0 (1 ∷ 2 ∷ 3 ∷ []) 8 h)
 began nothing h = absurd (among 0 (1 ∷ 2 ∷ 3 ∷ []) 9 h)
 
-stayed : (t : Token) → OneOf (4 ∷ 5 ∷ 6 ∷ 8 ∷ 9 ∷ []) (tag (kindOf t)) → stays ≡ changeOf t
-unfolding changeOf kindOf
+stayed : (t : Token) → OneOf (4 ∷ 5 ∷ 6 ∷ 8 ∷ 9 ∷ []) (tag (rowKindOf t)) → stays ≡ changeOf t
+unfolding changeOf rowKindOf
 stayed (start Kind.span) h = absurd (among 4 (5 ∷ 6 ∷ 8 ∷ 9 ∷ []) 0 h)
 stayed (start Kind.join) h = absurd (among 4 (5 ∷ 6 ∷ 8 ∷ 9 ∷ []) 1 h)
 stayed (start (Kind.one k)) h = absurd (among 4 (5 ∷ 6 ∷ 8 ∷ 9 ∷ []) 2 h)
@@ -36,8 +36,8 @@ stayed end h = absurd (among 4 (5 ∷ 6 ∷ 8 ∷ 9 ∷ []) 7 h)
 stayed halt h = refl
 stayed nothing h = refl
 
-ended : (t : Token) → kindOf t ≡ End → ends ≡ changeOf t
-unfolding changeOf kindOf
+ended : (t : Token) → rowKindOf t ≡ End → ends ≡ changeOf t
+unfolding changeOf rowKindOf
 ended (start Kind.span) h = cc
 ended (start Kind.join) h = cc
 ended (start (Kind.one k)) h = cc
@@ -49,7 +49,7 @@ ended end h = refl
 ended halt h = cc
 ended nothing h = cc
 
-module _ (t : Token) (k : RowKind) (e : k ≡ kindOf t) where
+module _ (t : Token) (k : RowKind) (e : k ≡ rowKindOf t) where
   pub begins-by : OneOf (0 ∷ 1 ∷ 2 ∷ 3 ∷ []) (tag k) → begins ≡ changeOf t
   begins-by h = began t (rw e at h)
 

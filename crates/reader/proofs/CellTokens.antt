@@ -18,7 +18,7 @@ use Rattle.rows.specs.records.Buffers.{rowAt as rowIn, opcodeOf}
 use Rattle.rows.proofs.passes.RowCells.{row-cell, opcode-cells}
 use Rattle.theory_readings.specs.Tokens.{Kind, Token, start, repeat, end, halt, nothing, controls, tokenBeside, controlToken, controlOpcodes, isOpOpcode, opToken, inSpanOf, opBitsOf, allBits, tokenOf}
 use Rattle.theory_readings.specs.Readings.{rowAt, allRows}
-use Rattle.reader.specs.Rows.{kindOf}
+use Rattle.reader.specs.Rows.{rowKindOf}
 use Rattle.reader.specs.ways.FromRow.{opKind}
 use Rattle.reader.specs.declared.token.RowKind.{RowKind}
 use Rattle.reader.specs.declared.token.RowKind.the-variants.{Span, Join, One, Loop, Op, Respan, Repeat, End, Halt, Nothing}
@@ -67,10 +67,10 @@ bits-of cells i h =
 -- an op has none of the control rows' opcodes
 abbrev AllSomething : List (ℕ × Token) → Type 0
 AllSomething [] = Unit {0}
-AllSomething (x ∷ l) = Something (kindOf (x .1)) × AllSomething l
+AllSomething (x ∷ l) = Something (rowKindOf (x .1)) × AllSomething l
 
-no-op : (t : Token) → Something (kindOf t) → opKind (kindOf t) ≡ Nothing
-unfolding kindOf opKind
+no-op : (t : Token) → Something (rowKindOf t) → opKind (rowKindOf t) ≡ Nothing
+unfolding rowKindOf opKind
 no-op (start Kind.span) h = refl
 no-op (start Kind.join) h = refl
 no-op (start Kind.loop) h = refl
@@ -82,36 +82,36 @@ no-op end h = refl
 no-op halt h = refl
 no-op nothing h = absurd h
 
-op-next : (opcode : ℕ) (t u : Token) (a b : Bool) → Something (kindOf t) → opKind (kindOf u) ≡ kindOf (pick (not b) (Token.op opcode) nothing) →
-    opKind (kindOf (pick a t u)) ≡ kindOf (pick (not (a || b)) (Token.op opcode) nothing)
-unfolding kindOf
+op-next : (opcode : ℕ) (t u : Token) (a b : Bool) → Something (rowKindOf t) → opKind (rowKindOf u) ≡ rowKindOf (pick (not b) (Token.op opcode) nothing) →
+    opKind (rowKindOf (pick a t u)) ≡ rowKindOf (pick (not (a || b)) (Token.op opcode) nothing)
+unfolding rowKindOf
 op-next opcode t u true b h e = no-op t h
 op-next opcode t u false b h e = e
 
-op-beside : (opcode : ℕ) (l : List (ℕ × Token)) → AllSomething l → opKind (kindOf (tokenBeside opcode l nothing)) ≡ kindOf (pick (not (isOneOf opcode (map (λ (x : ℕ × Token). x .0) l))) (Token.op opcode) nothing)
-unfolding tokenBeside isOneOf opKind kindOf
+op-beside : (opcode : ℕ) (l : List (ℕ × Token)) → AllSomething l → opKind (rowKindOf (tokenBeside opcode l nothing)) ≡ rowKindOf (pick (not (isOneOf opcode (map (λ (x : ℕ × Token). x .0) l))) (Token.op opcode) nothing)
+unfolding tokenBeside isOneOf opKind rowKindOf
 op-beside opcode [] h = refl
 op-beside opcode (x ∷ l) h = op-next opcode (x .1) (tokenBeside opcode l nothing) (eqb opcode (x .0)) (isOneOf opcode (map (λ (y : ℕ × Token). y .0) l)) (h .0) (op-beside opcode l (h .1))
 
 all-controls : (p : Profile) → AllSomething (controls p)
-unfolding controls kindOf
+unfolding controls rowKindOf
 all-controls p = (tt, (tt, (tt, (tt, (tt, (tt, (tt, (tt, (tt, (tt, (tt, (tt, tt))))))))))))
 
-op-of-control : (p : Profile) (opcode : ℕ) → opKind (kindOf (controlToken p opcode)) ≡ kindOf (opToken p opcode)
+op-of-control : (p : Profile) (opcode : ℕ) → opKind (rowKindOf (controlToken p opcode)) ≡ rowKindOf (opToken p opcode)
 unfolding controlToken opToken isOpOpcode controlOpcodes
 op-of-control p opcode = op-beside opcode (controls p) (all-controls p)
 
 module _ (p : Profile) (row : List ℕ) where
-  pub kind-control : allBits (inSpanOf row ∷ opBitsOf row) ≡ true → inSpanOf row ≡ 0 → kindOf (controlToken p (opcodeOf row)) ≡ kindOf (tokenOf p row)
+  pub kind-control : allBits (inSpanOf row ∷ opBitsOf row) ≡ true → inSpanOf row ≡ 0 → rowKindOf (controlToken p (opcodeOf row)) ≡ rowKindOf (tokenOf p row)
   unfolding tokenOf
   kind-control h e = rw (h, eq-eqb (inSpanOf row) 0 e)
 
-  pub kind-op : allBits (inSpanOf row ∷ opBitsOf row) ≡ true → (inSpanOf row ≡ 0 → ⊥) → opKind (kindOf (controlToken p (opcodeOf row))) ≡ kindOf (tokenOf p row)
+  pub kind-op : allBits (inSpanOf row ∷ opBitsOf row) ≡ true → (inSpanOf row ≡ 0 → ⊥) → opKind (rowKindOf (controlToken p (opcodeOf row))) ≡ rowKindOf (tokenOf p row)
   unfolding tokenOf
   kind-op h e = rw (h, ne-eqb (inSpanOf row) 0 e) (op-of-control p (opcodeOf row))
 
-  pub kind-none : allBits (inSpanOf row ∷ opBitsOf row) ≡ false → Nothing ≡ kindOf (tokenOf p row)
-  unfolding tokenOf kindOf
+  pub kind-none : allBits (inSpanOf row ∷ opBitsOf row) ≡ false → Nothing ≡ rowKindOf (tokenOf p row)
+  unfolding tokenOf rowKindOf
   kind-none h = rw h
 
 pub op-no : (k : RowKind) → OneOf (0 ∷ 1 ∷ 2 ∷ 3 ∷ 4 ∷ 5 ∷ 6 ∷ 7 ∷ 8 ∷ []) (tag k) → Nothing ≡ opKind k

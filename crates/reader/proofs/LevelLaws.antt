@@ -9,7 +9,7 @@ use lib.ListN.{length, take, drop, set, drop-of-length-le}
 use lib.Seq.{take-suc-set}
 use Rattle.theory_readings.specs.Tokens.{Kind, Token, start, repeat, end, halt, nothing}
 use Rattle.theory_readings.specs.ways.Parser.{levels}
-use Rattle.reader.specs.Rows.{tokenIn, kindOf}
+use Rattle.reader.specs.Rows.{tokenIn, rowKindOf}
 use Rattle.reader.specs.ways.Levels.{levelAt, levelBehind}
 use Rattle.reader.specs.declared.token.RowKind.{RowKind}
 use Rattle.reader.specs.declared.token.RowKind.the-variants.{Span, Join, One, Loop, Op, Respan, Repeat, End, Halt, Nothing}
@@ -80,8 +80,8 @@ behind-le End c = omega arith
 behind-le Halt c = omega arith
 behind-le Nothing c = omega arith
 
-levels-cons : (t : Token) (w : List Token) (c : ℕ) → levels c (t ∷ w) ≡ levelAt (kindOf t) c ∷ levels (levelBehind (kindOf t) (levelAt (kindOf t) c)) w
-unfolding levels levelAt levelBehind kindOf
+levels-cons : (t : Token) (w : List Token) (c : ℕ) → levels c (t ∷ w) ≡ levelAt (rowKindOf t) c ∷ levels (levelBehind (rowKindOf t) (levelAt (rowKindOf t) c)) w
+unfolding levels levelAt levelBehind rowKindOf
 levels-cons (start Kind.span) w c = rw (add-one c)
 levels-cons (start Kind.join) w c = rw (add-one c)
 levels-cons (start Kind.loop) w c = rw (add-one c)
@@ -101,9 +101,9 @@ drop-token (t ∷ w) (suc i) h = drop-token w i (omega arith)
 
 module _ (w : List Token) (G : List ℕ) where
   pub scan-step : (at c : ℕ) (D : List ℕ) → at < length w → at < length D → take at D ++ levels c (drop at w) ≡ G
-      → take (at + 1) (set D at (levelAt (kindOf (tokenIn w at)) c)) ++ levels (levelBehind (kindOf (tokenIn w at)) (levelAt (kindOf (tokenIn w at)) c)) (drop (at + 1) w) ≡ G
+      → take (at + 1) (set D at (levelAt (rowKindOf (tokenIn w at)) c)) ++ levels (levelBehind (rowKindOf (tokenIn w at)) (levelAt (rowKindOf (tokenIn w at)) c)) (drop (at + 1) w) ≡ G
   scan-step at c D i l h =
-      let k : RowKind = kindOf (tokenIn w at) in
+      let k : RowKind = rowKindOf (tokenIn w at) in
       rw (add-one at, take-suc-set D at (levelAt k c) l, append-assoc) (rw (drop-token w at i, levels-cons (tokenIn w at) (drop (suc at) w) c) at h)
 
   pub scan-done : (at c : ℕ) (D : List ℕ) → length w ≤ at → take at D ++ levels c (drop at w) ≡ G → take at D ≡ G

@@ -15,7 +15,7 @@ use Rattle.theory_readings.specs.Readings.{Ops, Block, Passes, spellOps, spell,
 use Rattle.theory_readings.specs.Answers.{ReaderAnswer, refused}
 use Rattle.theory_readings.specs.ways.Parser.{PassesRead, noPass, pass, OpsRead, noOp, Open, first, second, child, body, both, only, ran, Live, need, inside, full, fails, deeper, State, live, stop, give, enter, opening, atRepeat, step, Parsed, parse, wordAnswer, orElse, firstWrong, answerOfWord}
 use Rattle.theory_readings.proofs.Parses.{parse-stop, parses}
-use Rattle.reader.specs.Rows.{tokenIn, kindOf}
+use Rattle.reader.specs.Rows.{tokenIn, rowKindOf}
 use Rattle.reader.specs.ways.FromRow.{rowsFrom}
 use Rattle.reader.specs.ways.Parts.{PartRead, upTo, refusedAt, wrongUnless, tooDeep, closed, Ahead, rightFrom, OpsRight, BlockRight, PassesRight}
 use Rattle.reader.specs.declared.token.RowKind.{RowKind}
@@ -47,8 +47,8 @@ NotEnd halt = Unit {0}
 NotEnd nothing = Unit {0}
 
 -- what holds of both ways to close a block holds of its closing
-closing : (Q : PartRead → Type 0) (a h4 wanted : ℕ) (v : Option ℕ) (t : Token) → (t ≡ end → Q (upTo (a + 1) (orElse v (wrongUnless (eqb h4 wanted) a)))) → (NotEnd t → Q (refusedAt 12 a)) → Q (closed (kindOf t) a h4 wanted v)
-unfolding closed kindOf
+closing : (Q : PartRead → Type 0) (a h4 wanted : ℕ) (v : Option ℕ) (t : Token) → (t ≡ end → Q (upTo (a + 1) (orElse v (wrongUnless (eqb h4 wanted) a)))) → (NotEnd t → Q (refusedAt 12 a)) → Q (closed (rowKindOf t) a h4 wanted v)
+unfolding closed rowKindOf
 closing Q a h4 wanted v (start Kind.span) y n = n tt
 closing Q a h4 wanted v (start Kind.join) y n = n tt
 closing Q a h4 wanted v (start Kind.loop) y n = n tt
@@ -118,8 +118,8 @@ deep-ahead Halt at row rows = tt
 deep-ahead Nothing at row rows = tt
 
 -- a closed block goes on behind its END
-pub closed-ahead : (w : List Token) (a h4 wanted : ℕ) (v : Option ℕ) (r : PartRead) → r ≡ closed (kindOf (tokenIn w a)) a h4 wanted v → Ahead a (length w) r
-unfolding Ahead kindOf
+pub closed-ahead : (w : List Token) (a h4 wanted : ℕ) (v : Option ℕ) (r : PartRead) → r ≡ closed (rowKindOf (tokenIn w a)) a h4 wanted v → Ahead a (length w) r
+unfolding Ahead rowKindOf
 closed-ahead w a h4 wanted v r f =
     rw f (closing (Ahead a (length w)) a h4 wanted v (tokenIn w a) (λ e. let i = token-inside w a end e tt in (omega arith, omega arith)) (λ n. tt))
 
@@ -143,8 +143,8 @@ no-end-only d s k n a m end h = absurd h
 no-end-only d s k n a m halt h = refl
 no-end-only d s k n a m nothing h = refl
 
-no-start : (d : ℕ) (s : List Open) (m : ℕ) (t : Token) → OneOf (4 ∷ 5 ∷ 6 ∷ 7 ∷ 8 ∷ 9 ∷ []) (tag (kindOf t)) → step (need d s) m t ≡ stop (fails m)
-unfolding step kindOf
+no-start : (d : ℕ) (s : List Open) (m : ℕ) (t : Token) → OneOf (4 ∷ 5 ∷ 6 ∷ 7 ∷ 8 ∷ 9 ∷ []) (tag (rowKindOf t)) → step (need d s) m t ≡ stop (fails m)
+unfolding step rowKindOf
 no-start d s m (start Kind.span) h = absurd (among 4 (5 ∷ 6 ∷ 7 ∷ 8 ∷ 9 ∷ []) 0 h)
 no-start d s m (start Kind.join) h = absurd (among 4 (5 ∷ 6 ∷ 7 ∷ 8 ∷ 9 ∷ []) 1 h)
 no-start d s m (start Kind.loop) h = absurd (among 4 (5 ∷ 6 ∷ 7 ∷ 8 ∷ 9 ∷ []) 3 h)
@@ -156,8 +156,8 @@ no-start d s m end h = refl
 no-start d s m halt h = refl
 no-start d s m nothing h = refl
 
-no-op : (d : ℕ) (s : List Open) (n : ℕ) (i : OpsRead) (m : ℕ) (t : Token) → OneOf (0 ∷ 1 ∷ 2 ∷ 3 ∷ 6 ∷ 8 ∷ 9 ∷ []) (tag (kindOf t)) → step (inside d s n i) m t ≡ stop (fails m)
-unfolding step kindOf
+no-op : (d : ℕ) (s : List Open) (n : ℕ) (i : OpsRead) (m : ℕ) (t : Token) → OneOf (0 ∷ 1 ∷ 2 ∷ 3 ∷ 6 ∷ 8 ∷ 9 ∷ []) (tag (rowKindOf t)) → step (inside d s n i) m t ≡ stop (fails m)
+unfolding step rowKindOf
 no-op d s n i m (start k) h = refl
 no-op d s n i m (Token.op c) h = absurd (among 0 (1 ∷ 2 ∷ 3 ∷ 6 ∷ 8 ∷ 9 ∷ []) 4 h)
 no-op d s n i m Token.respan h = absurd (among 0 (1 ∷ 2 ∷ 3 ∷ 6 ∷ 8 ∷ 9 ∷ []) 5 h)
@@ -166,8 +166,8 @@ no-op d s n i m end h = absurd (among 0 (1 ∷ 2 ∷ 3 ∷ 6 ∷ 8 ∷ 9 ∷ [])
 no-op d s n i m halt h = refl
 no-op d s n i m nothing h = refl
 
-no-pass : (d : ℕ) (s : List Open) (n : ℕ) (q : PassesRead) (b : Block) (m : ℕ) (t : Token) → OneOf (0 ∷ 1 ∷ 2 ∷ 3 ∷ 4 ∷ 5 ∷ 8 ∷ 9 ∷ []) (tag (kindOf t)) → step (full d s (ran n q b)) m t ≡ stop (fails m)
-unfolding step kindOf
+no-pass : (d : ℕ) (s : List Open) (n : ℕ) (q : PassesRead) (b : Block) (m : ℕ) (t : Token) → OneOf (0 ∷ 1 ∷ 2 ∷ 3 ∷ 4 ∷ 5 ∷ 8 ∷ 9 ∷ []) (tag (rowKindOf t)) → step (full d s (ran n q b)) m t ≡ stop (fails m)
+unfolding step rowKindOf
 no-pass d s n q b m (start k) h = refl
 no-pass d s n q b m (Token.op c) h = refl
 no-pass d s n q b m Token.respan h = refl
@@ -223,8 +223,8 @@ module _ (rows : List (List ℕ)) (w : List Token) where
   ops-respan row wanted e i (upTo next wrong) (o, f, g) = (Ops.respan row o, rows-at w row _ e i ∙ ap (λ r. (row, Token.respan) ∷ r) f, g)
   ops-respan row wanted e i (refusedAt number at) h = λ left s n j. right-next row _ _ _ e i refl ∙ h left s n (OpsRead.respan j row)
 
-  more-by : (t : Token) (row wanted : ℕ) → tokenIn w row ≡ t → OneOf (4 ∷ 5 ∷ []) (tag (kindOf t)) → row < length w → (r : PartRead) → OpsRight rows w (row + 1) wanted r → OpsRight rows w row wanted r
-  unfolding kindOf
+  more-by : (t : Token) (row wanted : ℕ) → tokenIn w row ≡ t → OneOf (4 ∷ 5 ∷ []) (tag (rowKindOf t)) → row < length w → (r : PartRead) → OpsRight rows w (row + 1) wanted r → OpsRight rows w row wanted r
+  unfolding rowKindOf
   more-by (start Kind.span) row wanted e h i r x = absurd (among 4 (5 ∷ []) 0 h)
   more-by (start Kind.join) row wanted e h i r x = absurd (among 4 (5 ∷ []) 1 h)
   more-by (start Kind.loop) row wanted e h i r x = absurd (among 4 (5 ∷ []) 3 h)
@@ -237,14 +237,14 @@ module _ (rows : List (List ℕ)) (w : List Token) where
   more-by nothing row wanted e h i r x = absurd (among 4 (5 ∷ []) 9 h)
 
   -- an op or a RESPAN, END, or a row that fails
-  pub ops-more : (row wanted : ℕ) → OneOf (4 ∷ 5 ∷ []) (tag (kindOf (tokenIn w row))) → row < length w → (r : PartRead) → OpsRight rows w (row + 1) wanted r → OpsRight rows w row wanted r
+  pub ops-more : (row wanted : ℕ) → OneOf (4 ∷ 5 ∷ []) (tag (rowKindOf (tokenIn w row))) → row < length w → (r : PartRead) → OpsRight rows w (row + 1) wanted r → OpsRight rows w row wanted r
   ops-more row wanted h i r x = more-by (tokenIn w row) row wanted refl h i r x
 
   pub ops-end : (row wanted : ℕ) → tokenIn w row ≡ end → row < length w → OpsRight rows w row wanted (upTo (row + 1) (wrongUnless (eqb (cellAt (rowAt rows row) 18) wanted) row))
   unfolding OpsRight spellOps endRowOf
   ops-end row wanted e i = (Ops.ended row, rows-at w row _ e i, flag-alone rows row wanted)
 
-  pub ops-no : (row wanted : ℕ) → OneOf (0 ∷ 1 ∷ 2 ∷ 3 ∷ 6 ∷ 8 ∷ 9 ∷ []) (tag (kindOf (tokenIn w row))) → row ≤ length w → OpsRight rows w row wanted (refusedAt 12 row)
+  pub ops-no : (row wanted : ℕ) → OneOf (0 ∷ 1 ∷ 2 ∷ 3 ∷ 6 ∷ 8 ∷ 9 ∷ []) (tag (rowKindOf (tokenIn w row))) → row ≤ length w → OpsRight rows w row wanted (refusedAt 12 row)
   unfolding OpsRight
   ops-no row wanted h i = λ left s n j. right-fails row (inside left s n j) i (no-op left s n j row (tokenIn w row) h)
 
@@ -254,8 +254,8 @@ module _ (rows : List (List ℕ)) (w : List Token) where
   pub at-left : (row left wanted : ℕ) (r : PartRead) → 0 < left → BlockRight rows w row (suc (left - 1)) wanted r → BlockRight rows w row left wanted r
   at-left row left wanted r h x = let e : suc (left - 1) ≡ left = omega arith in rw e at x
 
-  deep-by : (t : Token) (row wanted : ℕ) → tokenIn w row ≡ t → row ≤ length w → BlockRight rows w row 0 wanted (tooDeep (kindOf t) row)
-  unfolding BlockRight tooDeep kindOf step opening
+  deep-by : (t : Token) (row wanted : ℕ) → tokenIn w row ≡ t → row ≤ length w → BlockRight rows w row 0 wanted (tooDeep (rowKindOf t) row)
+  unfolding BlockRight tooDeep rowKindOf step opening
   deep-by (start Kind.span) row wanted e h = λ s. right-deep row (need 0 s) _ e (token-inside w row _ e tt) refl
   deep-by (start Kind.join) row wanted e h = λ s. right-deep row (need 0 s) _ e (token-inside w row _ e tt) refl
   deep-by (start Kind.loop) row wanted e h = λ s. right-deep row (need 0 s) _ e (token-inside w row _ e tt) refl
@@ -267,10 +267,10 @@ module _ (rows : List (List ℕ)) (w : List Token) where
   deep-by halt row wanted e h = λ s. right-fails row (need 0 s) h (ap (step (need 0 s) row) e)
   deep-by nothing row wanted e h = λ s. right-fails row (need 0 s) h (ap (step (need 0 s) row) e)
 
-  pub block-deep : (row left wanted : ℕ) → left ≡ 0 → row ≤ length w → BlockRight rows w row left wanted (tooDeep (kindOf (tokenIn w row)) row)
+  pub block-deep : (row left wanted : ℕ) → left ≡ 0 → row ≤ length w → BlockRight rows w row left wanted (tooDeep (rowKindOf (tokenIn w row)) row)
   block-deep row left wanted e h = rw e (deep-by (tokenIn w row) row wanted refl h)
 
-  pub block-no : (row left wanted : ℕ) → OneOf (4 ∷ 5 ∷ 6 ∷ 7 ∷ 8 ∷ 9 ∷ []) (tag (kindOf (tokenIn w row))) → row ≤ length w → BlockRight rows w row left wanted (refusedAt 12 row)
+  pub block-no : (row left wanted : ℕ) → OneOf (4 ∷ 5 ∷ 6 ∷ 7 ∷ 8 ∷ 9 ∷ []) (tag (rowKindOf (tokenIn w row))) → row ≤ length w → BlockRight rows w row left wanted (refusedAt 12 row)
   unfolding BlockRight
   block-no row left wanted h i = λ s. right-fails row (need left s) i (no-start left s row (tokenIn w row) h)
 
@@ -289,7 +289,7 @@ module _ (rows : List (List ℕ)) (w : List Token) where
 
       one-end : (b : Block) (a : ℕ) (v : Option ℕ) → rowsFrom w (row + 1) ≡ spell b (rowsFrom w a) → depthOf b ≤ d → v ≡ firstWrong rows (asksOf 0 b []) → tokenIn w a ≡ end →
           BlockRight rows w row (suc d) wanted (upTo (a + 1) (orElse v (wrongUnless (eqb (cellAt (rowAt rows a) 18) wanted) a)))
-      unfolding BlockRight spell depthOf asksOf kindOf
+      unfolding BlockRight spell depthOf asksOf rowKindOf
       one-end b a v f g u j = (
         Block.one k row b a,
         rows-at w row _ e i ∙ ap (λ r. (row, start (Kind.one k)) ∷ r) (f ∙ ap (spell b) (rows-at w a end j (token-inside w a end j tt))),
@@ -302,7 +302,7 @@ module _ (rows : List (List ℕ)) (w : List Token) where
       one-no b a f g l n =
           λ s. right-next row _ _ _ e i refl ∙ right-block b d (row + 1) a (child k row ∷ s) (full d s (only k row b)) f g refl ∙ right-fails a (full d s (only k row b)) l (no-end-only d s k row b a (tokenIn w a) n)
 
-      pub one-closed : (a : ℕ) (v : Option ℕ) → x ≡ upTo a v → a ≤ length w → BlockRight rows w row (suc d) wanted (closed (kindOf (tokenIn w a)) a (cellAt (rowAt rows a) 18) wanted v)
+      pub one-closed : (a : ℕ) (v : Option ℕ) → x ≡ upTo a v → a ≤ length w → BlockRight rows w row (suc d) wanted (closed (rowKindOf (tokenIn w a)) a (cellAt (rowAt rows a) 18) wanted v)
       unfolding BlockRight
       one-closed a v f l =
           let (b, p, g, u) = rw f at h in
@@ -324,7 +324,7 @@ module _ (rows : List (List ℕ)) (w : List Token) where
         join-end : (b b′ : Block) (n : ℕ) (v′ : Option ℕ) → rowsFrom w (row + 1) ≡ spell b (rowsFrom w a) → rowsFrom w a ≡ spell b′ (rowsFrom w n) → depthOf b ≤ d → depthOf b′ ≤ d →
             v ≡ firstWrong rows (asksOf 0 b []) → v′ ≡ firstWrong rows (asksOf 0 b′ []) → tokenIn w n ≡ end →
             BlockRight rows w row (suc d) wanted (upTo (n + 1) (orElse (orElse v v′) (wrongUnless (eqb (cellAt (rowAt rows n) 18) wanted) n)))
-        unfolding BlockRight spell depthOf asksOf kindOf
+        unfolding BlockRight spell depthOf asksOf rowKindOf
         join-end b b′ n v′ p p′ g g′ u u′ j = (
           Block.join row b b′ n,
           rows-at w row _ e i ∙ ap (λ r. (row, start Kind.join) ∷ r) (p ∙ ap (spell b) (p′ ∙ ap (spell b′) (rows-at w n end j (token-inside w n end j tt)))),
@@ -344,7 +344,7 @@ module _ (rows : List (List ℕ)) (w : List Token) where
             ∙ right-block b′ d a n (second row b ∷ s) (full d s (both row b b′)) p′ g′ refl
             ∙ right-fails n (full d s (both row b b′)) l (no-end-both d s row b b′ n (tokenIn w n) m)
 
-        pub join-closed : (n : ℕ) (v′ : Option ℕ) → y ≡ upTo n v′ → n ≤ length w → BlockRight rows w row (suc d) wanted (closed (kindOf (tokenIn w n)) n (cellAt (rowAt rows n) 18) wanted (orElse v v′))
+        pub join-closed : (n : ℕ) (v′ : Option ℕ) → y ≡ upTo n v′ → n ≤ length w → BlockRight rows w row (suc d) wanted (closed (rowKindOf (tokenIn w n)) n (cellAt (rowAt rows n) 18) wanted (orElse v v′))
         unfolding BlockRight
         join-closed n v′ g l =
             let (b, p, q, u) = rw f at h in
@@ -428,7 +428,7 @@ module _ (rows : List (List ℕ)) (w : List Token) where
       pass-more n m e i (upTo next wrong) k = let (b, p, g, u) = rw f at h in more-done b next wrong e i p g u (rw m at k)
       pass-more n m e i (refusedAt number at) k = let (b, p, g, u) = rw f at h in more-refused b number at e i p g (rw m at k)
 
-      pub pass-no : OneOf (0 ∷ 1 ∷ 2 ∷ 3 ∷ 4 ∷ 5 ∷ 8 ∷ 9 ∷ []) (tag (kindOf (tokenIn w a))) → a ≤ length w → PassesFrom loopRow row left wanted before so (refusedAt 12 a)
+      pub pass-no : OneOf (0 ∷ 1 ∷ 2 ∷ 3 ∷ 4 ∷ 5 ∷ 8 ∷ 9 ∷ []) (tag (rowKindOf (tokenIn w a))) → a ≤ length w → PassesFrom loopRow row left wanted before so (refusedAt 12 a)
       unfolding BlockRight PassesFrom give
       pass-no k l =
           let (b, p, g, u) = rw f at h in

@@ -22,7 +22,7 @@ use Rattle.theory_readings.proofs.Parses.{parse-done}
 use Rattle.theory_readings.proofs.SpelledRows.{numbered-length, word-length}
 use Rattle.theory_readings.proofs.RightAnswer.{answer-right}
 use Rattle.theory_readings.proofs.AcceptedTraces.{buffer-passes, accepted-trace, accepted-passes, number-accepted, accepted-depths}
-use Rattle.reader.specs.Rows.{wordIn, tokenIn, kindOf}
+use Rattle.reader.specs.Rows.{wordIn, tokenIn, rowKindOf}
 use Rattle.reader.specs.ways.FromRow.{rowsFrom}
 use Rattle.reader.specs.ways.Parts.{PartRead, upTo, refusedAt, rightFrom, BlockRight}
 use Rattle.reader.specs.Reads.{traceRead, TellsTrace, ReadsTrace}
@@ -36,8 +36,8 @@ reads n r k = record { refusal = n; row = r; «program_rows» = k }
 
 -- HALT ROWS
 
-not-halt : (t : Token) (a b : WordAnswer) → OneOf (0 ∷ 1 ∷ 2 ∷ 3 ∷ 4 ∷ 5 ∷ 6 ∷ 7 ∷ 9 ∷ []) (tag (kindOf t)) → ifHalt t a b ≡ b
-unfolding ifHalt kindOf
+not-halt : (t : Token) (a b : WordAnswer) → OneOf (0 ∷ 1 ∷ 2 ∷ 3 ∷ 4 ∷ 5 ∷ 6 ∷ 7 ∷ 9 ∷ []) (tag (rowKindOf t)) → ifHalt t a b ≡ b
+unfolding ifHalt rowKindOf
 not-halt (start k) a b h = refl
 not-halt (Token.op c) a b h = refl
 not-halt Token.respan a b h = refl
@@ -51,7 +51,7 @@ module _ (w : List Token) (i : ℕ) where
   unfolding afterHalt ifHalt
   halt-more e h b = ap (afterHalt b) (rows-at w i halt e h)
 
-  pub halt-stop : OneOf (0 ∷ 1 ∷ 2 ∷ 3 ∷ 4 ∷ 5 ∷ 6 ∷ 7 ∷ 9 ∷ []) (tag (kindOf (tokenIn w i))) → i < length w → (b : Block) → afterHalt b (rowsFrom w i) ≡ pick (eqb i (length w)) (wordOf b) (noWordAt i)
+  pub halt-stop : OneOf (0 ∷ 1 ∷ 2 ∷ 3 ∷ 4 ∷ 5 ∷ 6 ∷ 7 ∷ 9 ∷ []) (tag (rowKindOf (tokenIn w i))) → i < length w → (b : Block) → afterHalt b (rowsFrom w i) ≡ pick (eqb i (length w)) (wordOf b) (noWordAt i)
   unfolding afterHalt
   halt-stop k h b =
       rw (ne-eqb i (length w) (λ e. omega arith)) (ap (afterHalt b) (rows-cons w i h) ∙ not-halt (tokenIn w i) (afterHalt b (rowsFrom w (i + 1))) (noWordAt i) k)

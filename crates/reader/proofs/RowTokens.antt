@@ -20,7 +20,7 @@ use Rattle.rows.proofs.passes.RowLists.{length-rows, drop-rows}
 use Rattle.theory_readings.specs.Tokens.{OneChild, Kind, Token, start, repeat, end, halt, nothing, tokenOf, tokensOf}
 use Rattle.theory_readings.specs.Readings.{numbered, rowAt, allRows}
 use Rattle.theory_readings.proofs.SpelledRows.{tokensOf-length}
-use Rattle.reader.specs.Rows.{wordIn, tokenIn, kindOf}
+use Rattle.reader.specs.Rows.{wordIn, tokenIn, rowKindOf}
 use Rattle.reader.specs.ways.FromRow.{rowsFrom}
 use Rattle.reader.specs.declared.token.RowKind.{RowKind}
 use Rattle.reader.specs.declared.token.RowKind.the-variants.{Span, Join, One, Loop, Op, Respan, Repeat, End, Halt, Nothing}
@@ -32,14 +32,14 @@ pub rows-in : (p : Profile) (cells : List ℕ) → length (wordIn p cells) ≡ l
 unfolding wordIn allRows
 rows-in p cells = tokensOf-length p (allRows cells) ∙ length-rows (length cells / 49) cells
 
-row-in : (n i : ℕ) (cells : List ℕ) → i < n → getD (rowsOf n cells) i [] ≡ buffer.rowAt i cells
-unfolding rowsOf buffer.rowAt
+row-in : (n i : ℕ) (cells : List ℕ) → i < n → getD (rowsOf n cells) i [] ≡ buffer.bufferRow i cells
+unfolding rowsOf buffer.bufferRow
 row-in zero i cells h = absurd (omega arith)
 row-in (suc n) zero cells h = refl
 row-in (suc n) (suc i) cells h = row-in n i (drop 49 cells) (omega arith) ∙ ap (take 49) (drop-rows i cells)
 
 -- a row of the buffer
-pub row-of : (cells : List ℕ) (i : ℕ) → i < length cells / 49 → rowAt (allRows cells) i ≡ buffer.rowAt i cells
+pub row-of : (cells : List ℕ) (i : ℕ) → i < length cells / 49 → rowAt (allRows cells) i ≡ buffer.bufferRow i cells
 unfolding allRows
 row-of cells i h = row-in (length cells / 49) i cells h
 
@@ -99,8 +99,8 @@ Is End t = t ≡ end
 Is Halt t = t ≡ halt
 Is Nothing t = t ≡ nothing
 
-is-kind : (t : Token) → Is (kindOf t) t
-unfolding kindOf
+is-kind : (t : Token) → Is (rowKindOf t) t
+unfolding rowKindOf
 is-kind (start Kind.span) = refl
 is-kind (start Kind.join) = refl
 is-kind (start Kind.loop) = refl
@@ -113,7 +113,7 @@ is-kind halt = refl
 is-kind nothing = refl
 
 -- what the code found is the token
-pub found : (t : Token) (k x : RowKind) → k ≡ kindOf t → k ≡ x → Is x t
+pub found : (t : Token) (k x : RowKind) → k ≡ rowKindOf t → k ≡ x → Is x t
 found t k x e f = rw (sym e ∙ f) at (is-kind t)
 
 -- a row that is something lies in the buffer
@@ -129,16 +129,16 @@ Something End = Unit {0}
 Something Halt = Unit {0}
 Something Nothing = ⊥
 
-pub row-inside : (w : List Token) (i : ℕ) (k : RowKind) → k ≡ kindOf (tokenIn w i) → Something k → i < length w
-unfolding kindOf
+pub row-inside : (w : List Token) (i : ℕ) (k : RowKind) → k ≡ rowKindOf (tokenIn w i) → Something k → i < length w
+unfolding rowKindOf
 row-inside w i k e h = at (decLt i (length w))
   where
     at : Dec (i < length w) → i < length w
     at (yes l) = l
-    at (no n) = absurd (rw (e ∙ ap kindOf (token-past w i (omega (arith, n)))) at h)
+    at (no n) = absurd (rw (e ∙ ap rowKindOf (token-past w i (omega (arith, n)))) at h)
 
-pub token-inside : (w : List Token) (i : ℕ) (t : Token) → tokenIn w i ≡ t → Something (kindOf t) → i < length w
-token-inside w i t e h = row-inside w i (kindOf t) (ap kindOf (sym e)) h
+pub token-inside : (w : List Token) (i : ℕ) (t : Token) → tokenIn w i ≡ t → Something (rowKindOf t) → i < length w
+token-inside w i t e h = row-inside w i (rowKindOf t) (ap rowKindOf (sym e)) h
 
 -- a row of the buffer at which something stands
 pub record Stands (p : Profile) (cells : List ℕ) (row : ℕ) (x : RowKind) : Type 0 where
@@ -146,7 +146,7 @@ pub record Stands (p : Profile) (cells : List ℕ) (row : ℕ) (x : RowKind) : T
   pub below : row < length (wordIn p cells)
   pub inside : row < length cells / 49
 
-pub stands : (p : Profile) (cells : List ℕ) (row : ℕ) (k x : RowKind) → k ≡ kindOf (tokenIn (wordIn p cells) row) → k ≡ x → Something x → Stands p cells row x
+pub stands : (p : Profile) (cells : List ℕ) (row : ℕ) (k x : RowKind) → k ≡ rowKindOf (tokenIn (wordIn p cells) row) → k ≡ x → Something x → Stands p cells row x
 stands p cells row k x e f h =
     let l : row < length (wordIn p cells) = row-inside (wordIn p cells) row x (sym f ∙ e) h in
     record { token = found (tokenIn (wordIn p cells) row) k x e f; below = l; inside = omega (arith, rows-in p cells) }

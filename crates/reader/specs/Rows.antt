@@ -20,14 +20,14 @@ abbrev pub tokenAt : Profile → (cells : List ℕ) → (i : ℕ) → Token
 tokenAt p cells i = tokenIn (wordIn p cells) i
 
 -- what the code keeps of a token: not which kind of one child, not the opcode of an op
-unfoldable pub kindOf : Token → RowKind
-kindOf (start Kind.span) = Span
-kindOf (start Kind.join) = Join
-kindOf (start Kind.loop) = Loop
-kindOf (start (Kind.one kind)) = One
-kindOf (Token.op opcode) = Op
-kindOf Token.respan = Respan
-kindOf repeat = Repeat
-kindOf end = End
-kindOf halt = Halt
-kindOf nothing = Nothing
+unfoldable pub rowKindOf : Token → RowKind
+rowKindOf (start Kind.span) = Span
+rowKindOf (start Kind.join) = Join
+rowKindOf (start Kind.loop) = Loop
+rowKindOf (start (Kind.one kind)) = One
+rowKindOf (Token.op opcode) = Op
+rowKindOf Token.respan = Respan
+rowKindOf repeat = Repeat
+rowKindOf end = End
+rowKindOf halt = Halt
+rowKindOf nothing = Nothing

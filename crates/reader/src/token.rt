@@ -12,7 +12,7 @@ ghost use Rattle.groups.specs.Constants.{rowWidth};
 ghost use Rattle.rows.specs.records.Buffers.{opcodeOf};
 ghost use Rattle.theory_readings.specs.Tokens.{nothing, controls, tokenBeside, controlToken, inSpanOf, opBitsOf, allBits};
 ghost use Rattle.theory_readings.specs.Readings.{rowAt, allRows};
-ghost use Rattle.reader.specs.Rows.{kindOf, tokenAt};
+ghost use Rattle.reader.specs.Rows.{rowKindOf, tokenAt};
 ghost use Rattle.reader.specs.ways.FromRow.{opKind};
 
 // The start of a Block (One: of a kind with one child), an op, the other control rows, or a row that fits nothing.
@@ -31,7 +31,7 @@ pub enum RowKind {
 
 // The control row of an opcode, of the last six of the profile's other than PUSH.
 fn later_control(profile: Profile, opcode: u8) -> RowKind
-    ensures { λ r. ⌜ r ≡ kindOf (tokenBeside opcode (drop 6 (controls profile)) nothing) ⌝ }
+    ensures { λ r. ⌜ r ≡ rowKindOf (tokenBeside opcode (drop 6 (controls profile)) nothing) ⌝ }
 {
     if opcode == profile.call {
         return RowKind::One;
@@ -56,7 +56,7 @@ fn later_control(profile: Profile, opcode: u8) -> RowKind
 
 // The control row of an opcode.
 fn control(profile: Profile, opcode: u8) -> RowKind
-    ensures { λ r. ⌜ r ≡ kindOf (controlToken profile opcode) ⌝ }
+    ensures { λ r. ⌜ r ≡ rowKindOf (controlToken profile opcode) ⌝ }
 {
     if opcode == profile.span {
         return RowKind::Span;
@@ -122,7 +122,7 @@ fn opcode(cells: &[u64], row: usize) -> u8
 
 // What a row is; past the end, nothing.
 pub fn row_kind(profile: Profile, cells: &[u64], row: usize) -> RowKind
-    ensures { λ r. ⌜ r ≡ kindOf (tokenAt profile (now (cells .entry)) row) ⌝ }
+    ensures { λ r. ⌜ r ≡ rowKindOf (tokenAt profile (now (cells .entry)) row) ⌝ }
 {
     if cells.len() / Row::WIDTH <= row {
         return RowKind::Nothing;

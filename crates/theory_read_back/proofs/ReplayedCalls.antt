@@ -18,7 +18,7 @@ use Rattle.rows.specs.declared.cycles.tracer.CoreTraceGenerationTracer.{CoreTra
 use Rattle.rows.specs.records.Forests.{Forest}
 use Rattle.rows.specs.records.Addresses.{Queues}
 use Rattle.rows.specs.cycles.Made.{Cursor, cursor}
-use Rattle.rows.specs.cycles.Cycles.{fresh, storing, storedIn, keeping, tracerAfter, fragmentAfter, finalState, forPasses}
+use Rattle.rows.specs.cycles.Cycles.{fresh, storingOf, storedIn, keeping, tracerAfter, fragmentAfter, finalState, forPasses}
 use Rattle.rows.specs.records.CallRecords as records
 use Rattle.rows.specs.replay.Calls.{directoryEntry, forestIn, forestOf, Setting, scanned, refusing, told, nextState, nextPositions}
 use Rattle.rows.specs.records.CallRecords.{stores, finishes, callIn, recordAt}
@@ -40,7 +40,7 @@ stays false t u h e = e
 
 stored-kept : (t : CoreTraceGenerationTracer) (values : StoredValues) → storedIn t values .refusal ≡ 0 → t .refusal ≡ 0
 unfolding storedIn
-stored-kept t values = stays (eqb (t .refusal) 0) t (storing t values) refl
+stored-kept t values = stays (eqb (t .refusal) 0) t (storingOf t values) refl
 
 kept-number : (system : SystemState) (stack : StackState) (t : CoreTraceGenerationTracer) (a : Answer MadeRow) → tracerAfter system stack t a .refusal ≡ refusal a
 unfolding tracerAfter

@@ -36,7 +36,7 @@ use Rattle.rows.specs.records.DecoderRows.{decoderCells}
 use Rattle.rows.specs.records.Cells.{rowCells, putRow, fragmentWrong}
 use Rattle.rows.specs.cycles.Made.{cursor, made}
 use Rattle.rows.specs.cycles.Scans.{scanOf}
-use Rattle.rows.specs.cycles.Cycles.{fresh, storing, storedIn, continuationOf, refuseIf, cycleWith, cycle, leftAfter, tracerAfter, lastSystem, lastStack, fragmentAfter, finalState}
+use Rattle.rows.specs.cycles.Cycles.{fresh, storingOf, storedIn, continuationOf, refuseIf, cycleWith, cycle, leftAfter, tracerAfter, lastSystem, lastStack, fragmentAfter, finalState}
 use Rattle.theory_reductions.specs.Inputs.{readForest, readQueues, readSystemState, readStackState, readValues, readTracer, readRow, readMade, readAnswer}
 use Rattle.theory_reductions.proofs.LentReduced.{word-twice}
 use Rattle.theory_reductions.proofs.StatesRead.{read-is}
@@ -216,7 +216,7 @@ unfolding fresh
 fresh-reduced state at = rw (read-is state)
 
 stored-alike : (same : Bool) (t : CoreTraceGenerationTracer) (values : StoredValues) →
-    readTracer (pick same (storing (readTracer t) (readValues values)) (readTracer t)) ≡ readTracer (pick same (storing t values) t)
+    readTracer (pick same (storingOf (readTracer t) (readValues values)) (readTracer t)) ≡ readTracer (pick same (storingOf t values) t)
 unfolding readTracer readValues
 stored-alike true t values = rw (captured-twice (values .captured), captured-twice (values .captured), read-is (t .«decoder_state»), system-twice (t .«system_cols»), stack-twice (t .«stack_cols»))
 stored-alike false t values = rw (captured-twice (t .captured), read-is (t .«decoder_state»), system-twice (t .«system_cols»), stack-twice (t .«stack_cols»))

@@ -30,7 +30,7 @@ use Rattle.rows.specs.declared.records.forest.MastNode.{MastNode}
 use Rattle.rows.specs.declared.records.decoder_row.DecoderRow.{DecoderRow}
 use Rattle.rows.specs.records.Forests.{Forest, nodeAt, digestAt, opcodeAt, blockOf}
 use Rattle.rows.specs.records.Addresses.{Queues, startedAt, afterStart, endAt, stateAfterEnd, afterEnd, respanStep}
-use Rattle.rows.specs.records.DecoderRows.{noWord, wordCells, controlFlow, basicBlockBatch, operation, flagWord}
+use Rattle.rows.specs.records.DecoderRows.{zeroWord, wordCells, controlFlow, basicBlockBatch, operation, flagWord}
 use Rattle.rows.specs.declared.cycles.made.MadeRow.{MadeRow}
 use Rattle.rows.specs.declared.cycles.made.Finish.{Finish}
 use Rattle.rows.specs.cycles.Made.{Cursor, madeRow, startBlock, startTwo, startOne, startDyn, calleeOf, infoOf, startDyncall, startKind, cursor, startNode, entryKind, madeEnd, bodyOf, madeRepeat, conditionOf, finishLoop, operationMade, resumed, madeRespan, made}
@@ -80,7 +80,7 @@ below-group opcode batch addr count flags b a c f = record {
   flags = f;
 }
 
-pub below-none : Below (wordCells noWord)
+pub below-none : Below (wordCells zeroWord)
 unfolding Below
 below-none = omega arith
 
@@ -148,7 +148,7 @@ module _ (f : Forest) (q : Queues) (p : Profile) (registers : OperationHelperReg
   below-one opcode child here m s e =
       let a = came (digestAt (f .nodes) (f .digests) (child .0)) _ m e in
       below-made _ here Used.Nothing m
-      (below-control opcode (a .value) noWord (here .state .«parent_addr») (below-digest (f .nodes) (f .digests) (child .0) (a .value) (a .first)) below-none (s .1))
+      (below-control opcode (a .value) zeroWord (here .state .«parent_addr») (below-digest (f .nodes) (f .digests) (child .0) (a .value) (a .first)) below-none (s .1))
       s (a .then)
 
   below-dyn : (opcode : ℕ) (here : Cursor) (m : MadeRow) → StateBelow (here .state) → startDyn opcode (captured .«dyn_callee_hash») here ≡ accepted m → MadeBelow m
@@ -156,7 +156,7 @@ module _ (f : Forest) (q : Queues) (p : Profile) (registers : OperationHelperReg
   below-dyn opcode here m s e =
       let a = came (calleeOf (captured .«dyn_callee_hash»)) _ m e in
       below-made _ here Used.Callee m
-      (below-control opcode (a .value) noWord (here .state .«parent_addr») (below-callee (captured .«dyn_callee_hash») (a .value) word (a .first)) below-none (s .1))
+      (below-control opcode (a .value) zeroWord (here .state .«parent_addr») (below-callee (captured .«dyn_callee_hash») (a .value) word (a .first)) below-none (s .1))
       s (a .then)
 
   below-dyncall : (opcode : ℕ) (here : Cursor) (m : MadeRow)

@@ -12,7 +12,7 @@ use Rattle.field.specs.Cells.{read, cellAt}
 use Rattle.field.proofs.CellLaws.{read-twice}
 use Rattle.groups.specs.Answer.{pick}
 use Rattle.groups.specs.Words.{wordAt}
-use Rattle.rows.specs.records.CallRecords.{conditionIn, calleeIn, infoIn, resumeIn, respanIn, continuationOn, continuationIn, namesNothing, storedInRecord, systemIn, stackIn, registersIn, finishIn, storing, callIn, recordAt}
+use Rattle.rows.specs.records.CallRecords.{conditionIn, calleeIn, infoIn, resumeIn, respanIn, continuationOn, continuationIn, namesNothing, storedInRecord, systemIn, stackIn, registersIn, finishIn, recordedStoring, callIn, recordAt}
 use Rattle.theory_reductions.specs.Inputs.{readPlaces, storingCell, finishCell, readRecord, readRecords}
 
 -- ONE PLACE
@@ -104,9 +104,9 @@ module _ (r : List ℕ) where
 -- A RECORD
 
 by-first : (isStoring : Bool) (r : List ℕ) →
-    pick isStoring (storing (storedInRecord (readPlaces (pick isStoring storingCell finishCell) 0 r))) (finishIn (readPlaces (pick isStoring storingCell finishCell) 0 r))
-    ≡ pick isStoring (storing (storedInRecord r)) (finishIn r)
-by-first true r = ap storing (stored-same r)
+    pick isStoring (recordedStoring (storedInRecord (readPlaces (pick isStoring storingCell finishCell) 0 r))) (finishIn (readPlaces (pick isStoring storingCell finishCell) 0 r))
+    ≡ pick isStoring (recordedStoring (storedInRecord r)) (finishIn r)
+by-first true r = ap recordedStoring (stored-same r)
 by-first false r = finish-same r
 
 -- number 0 is a cell of neither

@@ -18,7 +18,7 @@ use Rattle.rows.specs.records.Addresses.{Queues, readState}
 use Rattle.rows.specs.records.CallRecords.{RecordedCall, stores, finishes, callIn, recordAt}
 use Rattle.rows.specs.declared.cycles.tracer.CoreTraceGenerationTracer.{CoreTraceGenerationTracer}
 use Rattle.rows.specs.declared.replay.directory.DirectoryEntry.{DirectoryEntry}
-use Rattle.rows.specs.cycles.Cycles.{fresh, storing, storedIn, keeping, finalState}
+use Rattle.rows.specs.cycles.Cycles.{fresh, storingOf, storedIn, keeping, finalState}
 use Rattle.rows.specs.replay.Calls.{window, forestIn, directoryEntry, Setting, setting, forestOf, refusing, callDone, callWritten, through, written, ending, nextState, nextPositions, told, scanned, replayed, replayedFragment}
 use Rattle.theory_reductions.specs.Inputs.{readForest, readQueues, readTracer, readCall, readAnswer, readAllRecords}
 use Rattle.theory_reductions.proofs.StatesRead.{IsRead, read-is, read-moved, cycle-with-moves, after-moves}
@@ -138,7 +138,7 @@ refusing-read n t e = pick-read (eqb (t .refusal) 0) (keeping n t) t e e
 done-read : (s : Setting) (t : CoreTraceGenerationTracer) (a : Answer RecordedCall) → IsRead (t .«decoder_state») → IsRead (callDone s t a .«decoder_state»)
 unfolding callDone storedIn
 done-read s t (refused n) e = refusing-read n t e
-done-read s t (accepted (stores values)) e = pick-read (eqb (t .refusal) 0) (storing t values) t e e
+done-read s t (accepted (stores values)) e = pick-read (eqb (t .refusal) 0) (storingOf t values) t e e
 done-read s t (accepted (finishes k system stack registers)) e =
     read-moved (t .«decoder_state») _ (after-moves system stack t _ (cycle-with-moves (s .scan) (s .profile) (forestOf s k) (s .queues) stack registers (s .cells) t)) e
 

@@ -26,8 +26,8 @@ use Rattle.rows.specs.declared.records.call_record.SystemFound.{SystemFound}
 use Rattle.rows.specs.records.Forests.{nodeId}
 use Rattle.rows.specs.records.DecoderRows.{wordCells}
 use Rattle.rows.specs.records.Built.{cells16}
-use Rattle.rows.specs.records.CallRecords.{RecordedCall, stores, finishes, of32, conditionIn, calleeIn, infoIn, continuationOn, namesNoKind, continuationIn, namesNothing, storedInRecord, systemIn, stackIn, fewCells, manyCells, registersIn, finishIn, storing, callIn, toldInfo, toldSystem}
-use Rattle.rows.specs.passes.Passes.{wordIn}
+use Rattle.rows.specs.records.CallRecords.{RecordedCall, stores, finishes, of32, conditionIn, calleeIn, infoIn, continuationOn, namesNoKind, continuationIn, namesNothing, storedInRecord, systemIn, stackIn, fewCells, manyCells, registersIn, finishIn, recordedStoring, callIn, toldInfo, toldSystem}
+use Rattle.rows.specs.passes.Passes.{wordFrom}
 use Rattle.theory_reductions.specs.Below.{Below}
 use Rattle.theory_reductions.specs.Inputs.{readAnswer}
 use Rattle.theory_reductions.specs.BeforeN2.{registerCells, calleeCells, infoCells, stateCells, calleeInBefore, infoInBefore, continuationInBefore, storedInRecordBefore, systemInBefore, stackInBefore, registersInBefore, finishInBefore, callInBefore, callCells, toldInfoBefore, toldSystemBefore}
@@ -111,8 +111,8 @@ unfolding calleeIn calleeInBefore
 same-calleeIn r h = by (eqb (getD r 7 0) 1) h
   where
     by : (t : Bool)
-        → Below (calleeCells (pick t (CalleeWord.Is (wordIn r 8)) CalleeWord.Absent))
-        → pick t (CalleeWord.Is (wordAt r 8)) CalleeWord.Absent ≡ pick t (CalleeWord.Is (wordIn r 8)) CalleeWord.Absent
+        → Below (calleeCells (pick t (CalleeWord.Is (wordFrom r 8)) CalleeWord.Absent))
+        → pick t (CalleeWord.Is (wordAt r 8)) CalleeWord.Absent ≡ pick t (CalleeWord.Is (wordFrom r 8)) CalleeWord.Absent
     by true h = rw (same-wordAt r 8 h)
     by false h = refl
 
@@ -148,11 +148,11 @@ same-systemIn r system e h =
     let a = came (of32 1 (getD r 2 0)) (λ clk. andThen (of32 1 (getD r 3 0)) (λ ctx. accepted (all clk ctx))) system e in
     let b = came (of32 1 (getD r 3 0)) (λ ctx. accepted (all (a .value) ctx)) system (a .then) in
     let is : all (a .value) (b .value) ≡ system = cc (b .then) in
-    let small : Below (wordCells (wordIn r 4)) = subst (λ (s : SystemState). Below (wordCells (s .«fn_hash»))) (sym is) h in
+    let small : Below (wordCells (wordFrom r 4)) = subst (λ (s : SystemState). Below (wordCells (s .«fn_hash»))) (sym is) h in
     rw (same-of32 1 23 (getD r 2 0) (a .value) (a .first), same-of32 1 23 (getD r 3 0) (b .value) (b .first), same-wordAt r 4 small) (b .then)
   where
     all : ℕ → ℕ → SystemState
-    all clk ctx = record { clk = record { 0 = clk }; ctx = record { 0 = ctx }; «fn_hash» = wordIn r 4 }
+    all clk ctx = record { clk = record { 0 = clk }; ctx = record { 0 = ctx }; «fn_hash» = wordFrom r 4 }
 
 -- an answer of one of two, read
 read-pick : {A : Type 0} (f : A → A) (t : Bool) (x : A) (rest other : Answer A)
@@ -194,7 +194,7 @@ same-registersIn : (r : List ℕ) (registers : OperationHelperRegisters)
     → registersInBefore r ≡ accepted registers → Below (registerCells registers) → registersIn r ≡ accepted registers
 unfolding registersIn registersInBefore wordAt cellAt
 same-registersIn r registers e h =
-    read-many (getD r 0 0) (wordIn r 26) (wordIn r 30) ∙ ap (readAnswer readRegisters) e ∙ ap accepted (same-readRegisters registers h)
+    read-many (getD r 0 0) (wordFrom r 26) (wordFrom r 30) ∙ ap (readAnswer readRegisters) e ∙ ap accepted (same-readRegisters registers h)
 
 -- the stack state
 pub same-stackIn : (r : List ℕ) (depth : ℕ) → Below (stackInBefore r depth .«overflow_addr» ∷ cells16 (stackInBefore r depth .«stack_top»)) → stackIn r depth ≡ stackInBefore r depth
@@ -251,11 +251,11 @@ pub same-callIn : (r : List ℕ) (c : RecordedCall) → callInBefore r ≡ accep
 unfolding callIn callInBefore callCells
 same-callIn r c e h = by (eqb (getD r 0 0) 0) e
   where
-    stored : (values : StoredValues) → storedInRecordBefore r ≡ accepted values → stores values ≡ c → storing (storedInRecord r) ≡ accepted c
+    stored : (values : StoredValues) → storedInRecordBefore r ≡ accepted values → stores values ≡ c → recordedStoring (storedInRecord r) ≡ accepted c
     stored values a is =
         rw (same-storedInRecord r values a (subst (λ (x : RecordedCall). Below (callCells x)) (sym is) h), is)
 
-    by : (t : Bool) → pick t (storing (storedInRecordBefore r)) (finishInBefore r) ≡ accepted c → pick t (storing (storedInRecord r)) (finishIn r) ≡ accepted c
+    by : (t : Bool) → pick t (recordedStoring (storedInRecordBefore r)) (finishInBefore r) ≡ accepted c → pick t (recordedStoring (storedInRecord r)) (finishIn r) ≡ accepted c
     by true e =
         let a = came (storedInRecordBefore r) (λ values. accepted (stores values)) c e in
         stored (a .value) (a .first) (cc (a .then))

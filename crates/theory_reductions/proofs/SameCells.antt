@@ -40,7 +40,7 @@ use Rattle.rows.specs.records.Addresses.{entryAt, endAt}
 use Rattle.rows.specs.records.DecoderRows.{wordCells, decoderCells}
 use Rattle.rows.specs.records.Built.{builtSystem, builtStack, reversed16, read16, cells16, systemCells, stackCells}
 use Rattle.rows.specs.records.Cells.{rowCells, copiedIn, putIn}
-use Rattle.rows.specs.passes.Passes.{wordIn}
+use Rattle.rows.specs.passes.Passes.{wordFrom}
 use Rattle.rows.proofs.passes.Checks.{neither}
 use Rattle.theory_reductions.specs.Below.{Below}
 use Rattle.theory_reductions.specs.BeforeN2.{inverseNumber, inverseValue, beyond, batchOfBefore, batchAtBefore, bigGroup, groupCells, registerCells}
@@ -143,9 +143,9 @@ same-readWord w h =
 
 -- the four cells from cell i on
 pub same-wordAt : (cells : List ℕ) (i : ℕ)
-    → Below (wordCells (wordIn cells i)) → wordAt cells i ≡ (getD cells i 0, getD cells (i + 1) 0, getD cells (i + 2) 0, getD cells (i + 3) 0)
+    → Below (wordCells (wordFrom cells i)) → wordAt cells i ≡ (getD cells i 0, getD cells (i + 1) 0, getD cells (i + 2) 0, getD cells (i + 3) 0)
 unfolding wordAt cellAt
-same-wordAt cells i h = same-readWord (wordIn cells i) h
+same-wordAt cells i h = same-readWord (wordFrom cells i) h
 
 -- the cell of the operation's group
 pub same-groupCell : (groups : List ℕ) (block : BasicBlockNode) (index : ℕ) (place : OpPlace)
@@ -155,7 +155,7 @@ same-groupCell groups block index place h = same-cellAt groups (8 * recordOf blo
 
 same-batchOf : (batches groups : List ℕ) (r : ℕ) → Below (groupCells (batchOfBefore batches groups r)) → batchOf batches groups r ≡ batchOfBefore batches groups r
 same-batchOf batches groups r h =
-    let (a, b) = below-both (wordCells (wordIn groups (8 * r))) (wordCells (wordIn groups (8 * r + 4))) h in
+    let (a, b) = below-both (wordCells (wordFrom groups (8 * r))) (wordCells (wordFrom groups (8 * r + 4))) h in
     rw (same-wordAt groups (8 * r) a, same-wordAt groups (8 * r + 4) b)
 
 same-batchAt : (batches groups : List ℕ) (block : BasicBlockNode) (index : ℕ)

@@ -38,7 +38,7 @@ use Rattle.rows.specs.declared.cycles.scan.Scan.{Scan}
 use Rattle.rows.specs.declared.cycles.tracer.StoredContinuation.{StoredContinuation}
 use Rattle.rows.specs.declared.cycles.tracer.CoreTraceGenerationTracer.{CoreTraceGenerationTracer}
 use Rattle.rows.specs.cycles.Scans.{anyBigOpcode, anyLongBlock, anyLargeBatch, forestTooLarge, scanOf}
-use Rattle.rows.specs.cycles.Cycles.{fresh, storing, continuationOf, cycleWith, cycle, tracerAfter, lastSystem, lastStack, fragmentAfter, finalState}
+use Rattle.rows.specs.cycles.Cycles.{fresh, storingOf, continuationOf, cycleWith, cycle, tracerAfter, lastSystem, lastStack, fragmentAfter, finalState}
 use Rattle.rows.specs.replay.Calls.{Setting, setting, forestOf, callDone, callWritten, scanned}
 use Rattle.rows.specs.replay.SingleCalls.{singleDone, singleWritten}
 use Rattle.rows.proofs.passes.Checks.{neither}
@@ -145,7 +145,7 @@ same-readCaptured c h =
 
 -- a storing
 pub same-storing : (t : CoreTraceGenerationTracer) (values : StoredValues)
-    → Below (calleeCells (values .captured .«dyn_callee_hash») ++ infoCells (values .captured .«ctx_info»)) → storing t values ≡ record {
+    → Below (calleeCells (values .captured .«dyn_callee_hash») ++ infoCells (values .captured .«ctx_info»)) → storingOf t values ≡ record {
       refusal = t .refusal;
       «row_write_index» = t .«row_write_index»;
       continuation = StoredContinuation.Is (values .continuation);

@@ -12,7 +12,7 @@ use Rattle.field.specs.Modulus.{P}
 use Rattle.field.specs.Bounds.{anyFrom}
 use Rattle.rows.specs.declared.records.profile.Profile.{Profile}
 use Rattle.rows.specs.records.Profiles.{profileWrong}
-use Rattle.rows.specs.records.DecoderRows.{noWord, wordCells, controlFlow}
+use Rattle.rows.specs.records.DecoderRows.{zeroWord, wordCells, controlFlow}
 use Rattle.rows.specs.records.Built.{reversed16}
 use Rattle.rows.specs.records.Buffers.{rowsOf, addrOf, h4Of, lowBits, opcodeOf, bufferWrong, fewerRows}
 use Rattle.rows.specs.passes.Passes.{withSides, firstRow, builtOf, loopWithoutBody, firstHalf, haltDecoder, haltStack, haltRow, paddingRow, sumOf, notFull, noFragment, fragmentsWrong, refusal1, refusal2, refusal3, refusal4, refusal5, heightWrong, refusalAll}
@@ -93,7 +93,7 @@ below-halt : (p : Profile) (before : List ℕ) → Below before → Below (haltD
 unfolding haltDecoder Below
 below-halt p before h =
     let half : Below (wordCells (firstHalf before)) = (below-at before 14 h, (below-at before 15 h, (below-at before 16 h, (below-at before 17 h, tt)))) in
-    below-decoder (controlFlow (p .halt) (firstHalf before) noWord 0) (below-control (p .halt) (firstHalf before) noWord 0 half below-none (omega arith))
+    below-decoder (controlFlow (p .halt) (firstHalf before) zeroWord 0) (below-control (p .halt) (firstHalf before) zeroWord 0 half below-none (omega arith))
 
 -- the HALT row
 pub same-haltRow : (p : Profile) (built before : List ℕ) → Below built → Below before → haltRow p built before ≡ take 6 built ++ haltDecoder p before ++ haltStack built

@@ -34,7 +34,7 @@ use Rattle.rows.specs.records.Cells.{rowCells, putRow, fragmentWrong}
 use Rattle.rows.specs.records.CallRecords.{RecordedCall, stores, finishes, callIn, recordAt}
 use Rattle.rows.specs.cycles.Made.{cursor, made}
 use Rattle.rows.specs.cycles.Scans.{scanOf}
-use Rattle.rows.specs.cycles.Cycles.{fresh, storing, storedIn, continuationOf, refuseIf, cycleWith, cycle, leftAfter, tracerAfter, lastSystem, lastStack, fragmentAfter, finalState, forPasses}
+use Rattle.rows.specs.cycles.Cycles.{fresh, storingOf, storedIn, continuationOf, refuseIf, cycleWith, cycle, leftAfter, tracerAfter, lastSystem, lastStack, fragmentAfter, finalState, forPasses}
 use Rattle.rows.specs.replay.Calls.{Setting, forestOf, callWritten, through, written, replayed, replayedFragment}
 use Rattle.theory_reductions.specs.Below.{Below}
 use Rattle.theory_reductions.specs.Inputs.{readTracer}
@@ -88,7 +88,7 @@ parts-held t e = (
   ap (λ (x : CoreTraceGenerationTracer). x .«stack_cols») e,
 )
 
-stored-held : (same : Bool) (t : CoreTraceGenerationTracer) (values : StoredValues) → HoldsCells t → HoldsCells (pick same (storing t values) t)
+stored-held : (same : Bool) (t : CoreTraceGenerationTracer) (values : StoredValues) → HoldsCells t → HoldsCells (pick same (storingOf t values) t)
 unfolding readTracer
 stored-held true t values e =
     let (c, s, y, k) = parts-held t e in

@@ -38,14 +38,14 @@ use Rattle.rows.specs.records.Addresses.{Queues}
 use Rattle.rows.specs.records.DecoderRows.{wordCells}
 use Rattle.rows.specs.records.Built.{systemCells, cells16, stackCells}
 use Rattle.rows.specs.records.Cells.{fragmentWrong}
-use Rattle.rows.specs.records.CallRecords.{RecordedCall, stores, finishes, of32, conditionIn, continuationOn, namesNothing, manyCells, storing}
+use Rattle.rows.specs.records.CallRecords.{RecordedCall, stores, finishes, of32, conditionIn, continuationOn, namesNothing, manyCells, recordedStoring}
 use Rattle.rows.specs.declared.cycles.made.MadeRow.{MadeRow}
 use Rattle.rows.specs.declared.cycles.scan.Scan.{Scan}
 use Rattle.rows.specs.declared.cycles.tracer.CoreTraceGenerationTracer.{CoreTraceGenerationTracer}
 use Rattle.rows.specs.cycles.Made.{cursor, made}
 use Rattle.rows.specs.cycles.Scans.{forestTooLarge}
 use Rattle.rows.specs.cycles.Cycles.{continuationOf, refuseIf}
-use Rattle.rows.specs.passes.Passes.{wordIn}
+use Rattle.rows.specs.passes.Passes.{wordFrom}
 use Rattle.theory_reductions.specs.Below.{Below}
 
 -- THE INVERSE FOR OTHER LANGUAGES
@@ -69,8 +69,8 @@ batchOfBefore batches groups r = record {
   «num_ops» = getD batches (12 * r + 10) 0;
   «first_op» = getD batches (12 * r + 11) 0;
   «record_index» = r;
-  low = wordIn groups (8 * r);
-  high = wordIn groups (8 * r + 4);
+  low = wordFrom groups (8 * r);
+  high = wordFrom groups (8 * r + 4);
 }
 
 unfoldable pub batchAtBefore : (batches groups : List ℕ) → BasicBlockNode → ℕ → Answer OpBatch
@@ -186,7 +186,7 @@ pub record Narrow32 (f : Forest) (captured : Captured) : Type 0 where
 -- CALL RECORDS: a clk, ctx or depth over 32 bits was refused by 1 too, and first
 
 unfoldable pub calleeInBefore : List ℕ → CalleeWord
-calleeInBefore r = pick (eqb (getD r 7 0) 1) (CalleeWord.Is (wordIn r 8)) CalleeWord.Absent
+calleeInBefore r = pick (eqb (getD r 7 0) 1) (CalleeWord.Is (wordFrom r 8)) CalleeWord.Absent
 
 unfoldable pub infoInBefore : List ℕ → Answer ContextInfo
 infoInBefore r =
@@ -217,7 +217,7 @@ unfoldable pub systemInBefore : List ℕ → Answer SystemState
 systemInBefore r =
     andThen (of32 1 (getD r 2 0)) (λ clk.
     andThen (of32 1 (getD r 3 0)) (λ ctx.
-    accepted (record { clk = record { 0 = clk }; ctx = record { 0 = ctx }; «fn_hash» = wordIn r 4 })))
+    accepted (record { clk = record { 0 = clk }; ctx = record { 0 = ctx }; «fn_hash» = wordFrom r 4 })))
 
 unfoldable pub stackInBefore : List ℕ → (depth : ℕ) → StackState
 stackInBefore r depth = record {
@@ -229,7 +229,7 @@ stackInBefore r depth = record {
 }
 
 unfoldable pub registersInBefore : List ℕ → Answer OperationHelperRegisters
-registersInBefore r = manyCells (getD r 0 0) (wordIn r 26) (wordIn r 30)
+registersInBefore r = manyCells (getD r 0 0) (wordFrom r 26) (wordFrom r 30)
 
 unfoldable pub finishInBefore : List ℕ → Answer RecordedCall
 finishInBefore r =
@@ -239,7 +239,7 @@ finishInBefore r =
     accepted (finishes (getD r 1 0) system (stackInBefore r depth) registers))))
 
 unfoldable pub callInBefore : List ℕ → Answer RecordedCall
-callInBefore r = pick (eqb (getD r 0 0) 0) (storing (storedInRecordBefore r)) (finishInBefore r)
+callInBefore r = pick (eqb (getD r 0 0) 0) (recordedStoring (storedInRecordBefore r)) (finishInBefore r)
 
 -- the cells of a call
 unfoldable pub callCells : RecordedCall → List ℕ

@@ -28,7 +28,7 @@ use Rattle.rows.specs.declared.cycles.made.MadeRow.{MadeRow}
 use Rattle.rows.specs.declared.cycles.made.Finish.{Finish}
 use Rattle.rows.specs.records.Forests.{Forest, nodeAt, digestAt, opcodeAt, blockOf}
 use Rattle.rows.specs.records.Addresses.{Queues, startedAt, afterStart, endAt, stateAfterEnd, afterEnd, respanStep}
-use Rattle.rows.specs.records.DecoderRows.{noWord, controlFlow, basicBlockBatch, operation, bit, flagWord}
+use Rattle.rows.specs.records.DecoderRows.{zeroWord, controlFlow, basicBlockBatch, operation, bit, flagWord}
 use Rattle.rows.specs.cycles.Made.{Cursor, cursor, madeRow, startBlock, startTwo, startOne, calleeOf, infoOf, conditionOf, startDyn, startDyncall, startKind, startNode, entryKind, madeEnd, bodyOf, madeRepeat, finishLoop, operationMade, resumed, madeRespan, made}
 use Rattle.theory_readings.specs.Tokens.{OneChild, Kind, opcodeOfKind}
 use Rattle.theory_runs.specs.Happened.{Ending, Did, InForce, startOf, operationAt, finishOf, didBy, usedBy, positionsAfter}
@@ -106,7 +106,7 @@ module _ (f : Forest) (q : Queues) (p : Profile) (registers : OperationHelperReg
     unfolding startOne
     one-law opcode kind x o u n e =
         let (v, e1, e2) = then-accepted (digestAt (f .nodes) (f .digests) (x .0)) _ m e in
-        control-law opcode kind v noWord Used.Nothing o u n e2
+        control-law opcode kind v zeroWord Used.Nothing o u n e2
 
     start-law : (node : MastNode) → startKind (f .nodes) (f .digests) (f .batches) (f .groups) p node captured here ≡ accepted m → Law p (startOf node id b a) before at m
     unfolding startKind startOf startBlock startDyn startDyncall opcodeOfKind usedBy NoCount basicBlockBatch RowBy stateAfter positionsAfter
@@ -122,7 +122,7 @@ module _ (f : Forest) (q : Queues) (p : Profile) (registers : OperationHelperReg
     start-law (MastNode.Syscall x) e = one-law (p .syscall) (Kind.one OneChild.syscall) x refl refl (λ row z. tt) e
     start-law MastNode.Dyn e =
         let (word, e1, e2) = then-accepted (calleeOf (captured .«dyn_callee_hash»)) _ m e in
-        control-law (p .«dyn_op») (Kind.one OneChild.dyn) word noWord Used.Callee refl refl (λ row z. tt) e2
+        control-law (p .«dyn_op») (Kind.one OneChild.dyn) word zeroWord Used.Callee refl refl (λ row z. tt) e2
     start-law MastNode.Dyncall e =
         let (word, e1, e2) = then-accepted (calleeOf (captured .«dyn_callee_hash»)) _ m e in
         let (info, e3, e4) = then-accepted (infoOf (captured .«ctx_info»)) _ m e2 in

@@ -29,7 +29,7 @@ use Rattle.rows.specs.records.Built.{systemCells, stackCells}
 use Rattle.rows.specs.records.Cells.{rowCells, putRow}
 use Rattle.rows.specs.records.Buffers.{flat}
 use Rattle.rows.specs.passes.Passes.{sumOf}
-use Rattle.rows.specs.cycles.Cycles.{fresh, storing, storedIn, tracerAfter, fragmentAfter, finalState, forPasses, lastSystem, lastStack}
+use Rattle.rows.specs.cycles.Cycles.{fresh, storingOf, storedIn, tracerAfter, fragmentAfter, finalState, forPasses, lastSystem, lastStack}
 use Rattle.rows.proofs.passes.RowLists.{Wide, wide-app, flat-app, put-behind}
 use Rattle.theory_runs.specs.Calls.{Handed, Call, store, finish, Fragment, Held, answered, after, callRefusal, afterAll, Accepted, opened, closed, cursorOf, AllAccepted, finalStates, cellsOf, countsOf, OneSize}
 use Rattle.theory_runs.specs.Happened.{Ending, Did, Cycle, InForce, nothingStored, orNothing, startOf, operationAt, finishOf, didBy, didStored, did, stored, leftBy, inForceAfter, inForceAfterAll, cyclesIn, cyclesOf}
@@ -109,7 +109,7 @@ pub row-wide : (t : CoreTraceGenerationTracer) (m : MadeRow) → length (rowCell
 unfolding rowCells reduced systemCells decoderCells stackCells
 row-wide t m = refl
 
-pub stored-same : (t : CoreTraceGenerationTracer) (values : StoredValues) → t .refusal ≡ 0 → storedIn t values ≡ storing t values
+pub stored-same : (t : CoreTraceGenerationTracer) (values : StoredValues) → t .refusal ≡ 0 → storedIn t values ≡ storingOf t values
 unfolding storedIn
 stored-same t values e = rw (eq-eqb (t .refusal) 0 e)
 

@@ -16,7 +16,7 @@ use Rattle.field.proofs.CellLaws.{read-small, length-reduced, reduced-take, red
 use Rattle.groups.specs.Answer.{pick}
 use Rattle.rows.specs.declared.records.profile.Profile.{Profile}
 use Rattle.rows.specs.records.Profiles.{opcodes, profileWrong}
-use Rattle.rows.specs.records.DecoderRows.{noWord, controlFlow, decoderCells}
+use Rattle.rows.specs.records.DecoderRows.{zeroWord, controlFlow, decoderCells}
 use Rattle.rows.specs.records.Built.{reversed16, noSystem, noStack, systemCells, stackCells}
 use Rattle.rows.specs.records.Cells.{rowCells}
 use Rattle.rows.specs.records.Buffers.{addrOf, h4Of, lowBits, opcodeOf}
@@ -270,9 +270,9 @@ unfolding haltDecoder controlFlow rowCells systemCells decoderCells noSystem
 halting-row p right system before stack e f = record {
   wide = length-reduced (system ++ haltDecoder p before ++ stack) ∙ rw (length-append, length-append) (omega (arith, halt-decoder-length p before));
   shows-halt =
-      same-look p (reduced (system ++ haltDecoder p before ++ stack)) (rowCells noSystem (controlFlow (p .halt) (firstHalf before) noWord 0) noStack)
+      same-look p (reduced (system ++ haltDecoder p before ++ stack)) (rowCells noSystem (controlFlow (p .halt) (firstHalf before) zeroWord 0) noStack)
       (reduced-decoder (system ++ haltDecoder p before ++ stack) ∙ ap reduced (sides-decoder system (haltDecoder p before) stack e refl) ∙ unfold reduced stackCells in refl)
-      ∙ halt-look p noSystem (controlFlow (p .halt) (firstHalf before) noWord 0) noStack right (record { addr-is = refl; opcode-is = refl; inside-is = refl });
+      ∙ halt-look p noSystem (controlFlow (p .halt) (firstHalf before) zeroWord 0) noStack right (record { addr-is = refl; opcode-is = refl; inside-is = refl });
 }
 
 pub halting-halt : (p : Profile) → profileWrong p ≡ false → (built before : List ℕ) → length built ≡ 25 → Halting p (haltRow p built before)

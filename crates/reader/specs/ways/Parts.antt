@@ -14,7 +14,7 @@ use Rattle.theory_readings.specs.Readings.{Ops, Block, Passes, spellOps, spell,
 use Rattle.theory_readings.specs.Answers.{ReaderAnswer, refused}
 use Rattle.theory_readings.specs.ways.Parser as machine
 use Rattle.theory_readings.specs.ways.Parser.{Open, body, Live, need, inside, live, parse, wordAnswer, orElse, firstWrong, answerOfWord}
-use Rattle.reader.specs.Rows.{tokenAt, kindOf}
+use Rattle.reader.specs.Rows.{tokenAt, rowKindOf}
 use Rattle.reader.specs.ways.FromRow.{rowsFrom}
 use Rattle.reader.specs.declared.token.RowKind.{RowKind}
 use Rattle.reader.specs.declared.token.RowKind.the-variants.{Span, Join, One, Loop, Op, Respan, Repeat, End, Halt, Nothing}
@@ -74,7 +74,7 @@ closed Nothing row h4 wanted parts = refusedAt noWordOfGrammar row
 
 -- in a row of a buffer
 abbrev pub closedAt : Profile → (cells : List ℕ) → (row wanted : ℕ) → (parts : Option ℕ) → PartRead
-closedAt p cells row wanted parts = closed (kindOf (tokenAt p cells row)) row (h4Of (rowAt (allRows cells) row)) wanted parts
+closedAt p cells row wanted parts = closed (rowKindOf (tokenAt p cells row)) row (h4Of (rowAt (allRows cells) row)) wanted parts
 
 -- PARTS
 

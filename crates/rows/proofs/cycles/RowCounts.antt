@@ -22,7 +22,7 @@ use Rattle.rows.specs.records.Built.{noSystem, noStack, readSystem, read
 use Rattle.rows.specs.records.Cells.{fragmentWrong}
 use Rattle.rows.specs.cycles.Scans.{scanOf}
 use Rattle.rows.specs.cycles.Made.{cursor, made}
-use Rattle.rows.specs.cycles.Cycles.{storing, storedIn, continuationOf, refuseIf, cycleWith, cycle, tracerAfter, lastSystem, lastStack, finalState, forPasses}
+use Rattle.rows.specs.cycles.Cycles.{storingOf, storedIn, continuationOf, refuseIf, cycleWith, cycle, tracerAfter, lastSystem, lastStack, finalState, forPasses}
 use Rattle.rows.proofs.passes.Checks.{neither}
 
 -- a fragment has at most 2^24 rows
@@ -88,7 +88,7 @@ cycle-few p f q system stack registers cells t few = cycle-with-few (scanOf p (f
 
 -- A STORING
 
-stored-few : (t : CoreTraceGenerationTracer) (values : StoredValues) (same : Bool) → FewRows t → FewRows (pick same (storing t values) t)
+stored-few : (t : CoreTraceGenerationTracer) (values : StoredValues) (same : Bool) → FewRows t → FewRows (pick same (storingOf t values) t)
 stored-few t values true few = few
 stored-few t values false few = few
 

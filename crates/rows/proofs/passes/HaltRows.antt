@@ -10,16 +10,16 @@ use Rattle.rows.specs.declared.records.profile.Profile.{Profile}
 use Rattle.rows.specs.declared.records.decoder_row.DecoderRow.{DecoderRow}
 use Rattle.rows.specs.declared.records.state.SystemCols.{SystemCols}
 use Rattle.rows.specs.declared.records.state.StackCols.{StackCols}
-use Rattle.rows.specs.records.DecoderRows.{noWord, decoderCells, controlFlow}
+use Rattle.rows.specs.records.DecoderRows.{zeroWord, decoderCells, controlFlow}
 use Rattle.rows.specs.records.Built.{systemCells, stackCells}
 use Rattle.rows.specs.records.Cells.{rowCells, putRow}
 use Rattle.rows.specs.records.Buffers.{rowsOf, flat, onRows, lastRow}
-use Rattle.rows.specs.passes.Passes.{wordIn, firstHalf, haltDecoder, haltStack, haltRow, halted, paddingRow, paddingRows, padded}
+use Rattle.rows.specs.passes.Passes.{wordFrom, firstHalf, haltDecoder, haltStack, haltRow, halted, paddingRow, paddingRows, padded}
 use Rattle.rows.proofs.records.Windows.{window}
 use Rattle.rows.proofs.passes.RowLists.{Wide, wide-app, length-rows, wide-rows, as-rows, last-rows, last-cell, length-last, put-behind}
 
 -- h0 to h3 of the last row stand 35 cells before its end
-pub last-half : (n : ℕ) (b : List ℕ) → 0 < n → firstHalf (lastRow (rowsOf n b)) ≡ wordIn b (49 * n - 35)
+pub last-half : (n : ℕ) (b : List ℕ) → 0 < n → firstHalf (lastRow (rowsOf n b)) ≡ wordFrom b (49 * n - 35)
 last-half zero b h = absurd (omega arith)
 last-half (suc n) b h =
     let a : 49 * suc n - 35 ≡ 49 * n + 14 = omega arith in
@@ -40,7 +40,7 @@ pub length-row : (system : SystemCols) (d : DecoderRow) (stack : StackCols) → 
 unfolding rowCells systemCells decoderCells stackCells
 length-row system d stack = length-reduced (systemCells system ++ decoderCells d ++ stackCells stack)
 
-module _ (p : Profile) (before : List ℕ) (system : SystemCols) (d : DecoderRow) (stack : StackCols) (is : d ≡ controlFlow (p .halt) (firstHalf before) noWord 0) where
+module _ (p : Profile) (before : List ℕ) (system : SystemCols) (d : DecoderRow) (stack : StackCols) (is : d ≡ controlFlow (p .halt) (firstHalf before) zeroWord 0) where
   pub halt-row : (built : List ℕ) → systemCells system ≡ take 6 built → stackCells stack ≡ take 19 (drop 6 built) → rowCells system d stack ≡ haltRow p built before
   unfolding rowCells haltRow haltDecoder haltStack
   halt-row built s k = rw (is, s, k)

@@ -12,7 +12,7 @@ use lib.Seq.{drop-drop}
 use borrow.Author.Tests.{eq-eqb, ne-eqb}
 use Rattle.groups.specs.Answer.{pick}
 use Rattle.rows.specs.declared.records.profile.Profile.{Profile}
-use Rattle.rows.specs.records.Buffers.{rowsOf, rowAt}
+use Rattle.rows.specs.records.Buffers.{rowsOf, bufferRow}
 use Rattle.rows.specs.passes.Passes.{flaggedEnd, bodyEnds, withCounts, anyWithoutBody, loopWithoutBody}
 use Rattle.rows.specs.ways.LoopCounts.{rowsFrom, isLoop, nextAddr, endsIn, lacksFrom, Alike}
 use Rattle.rows.proofs.passes.RowLists.{drop-rows}
@@ -20,13 +20,13 @@ use Rattle.rows.proofs.passes.RowCells.{cell-alike, flagged-alike}
 
 -- THE ENDS AMONG THE FIRST ROWS
 
-row-behind : (n : ℕ) (c : List ℕ) → rowAt n (drop 49 c) ≡ rowAt (suc n) c
-unfolding rowAt
+row-behind : (n : ℕ) (c : List ℕ) → bufferRow n (drop 49 c) ≡ bufferRow (suc n) c
+unfolding bufferRow
 row-behind n c = ap (take 49) (drop-rows n c)
 
 -- whether row n is a flagged END with the address x behind it
 endAt : Profile → (x n : ℕ) → List ℕ → ℕ
-endAt p x n c = pick (flaggedEnd p (rowAt n c) && eqb (nextAddr n c) x) 1 0
+endAt p x n c = pick (flaggedEnd p (bufferRow n c) && eqb (nextAddr n c) x) 1 0
 
 end-behind : (p : Profile) (x n : ℕ) (c : List ℕ) → endAt p x n (drop 49 c) ≡ endAt p x (suc n) c
 unfolding endAt
@@ -35,7 +35,7 @@ end-behind p x n c =
     rw (e, row-behind n c, row-behind (n + 1) c)
 
 ends-cons : (p : Profile) (x n : ℕ) (c : List ℕ) → bodyEnds p x (rowsOf (suc (suc n)) c) ≡ endAt p x 0 c + bodyEnds p x (rowsOf (suc n) (drop 49 c))
-unfolding bodyEnds rowsOf endAt rowAt
+unfolding bodyEnds rowsOf endAt bufferRow
 ends-cons p x n c = refl
 
 pub ends-one : (p : Profile) (x : ℕ) (c : List ℕ) → endsIn p (0 + 1) c x ≡ 0
@@ -48,7 +48,7 @@ ends-suc p x (suc n) c = omega (arith, ends-cons p x (suc n) c, ends-cons p x n 
 
 -- one row more
 pub ends-more : (p : Profile) (x i : ℕ) (c : List ℕ)
-    → endsIn p (i + 1 + 1) c x ≡ endsIn p (i + 1) c x + pick (flaggedEnd p (rowAt i c) && eqb (nextAddr i c) x) 1 0
+    → endsIn p (i + 1 + 1) c x ≡ endsIn p (i + 1) c x + pick (flaggedEnd p (bufferRow i c) && eqb (nextAddr i c) x) 1 0
 unfolding endAt
 ends-more p x i c =
     let e : i + 1 + 1 ≡ suc (suc i) = omega arith in
@@ -65,8 +65,8 @@ ends-alike p x (suc (suc n)) a b g =
 
 -- FROM A ROW ON
 
-rows-cons : (rows i : ℕ) (c : List ℕ) → i < rows → rowsFrom rows i c ≡ rowAt i c ∷ rowsFrom rows (i + 1) c
-unfolding rowsFrom rowAt rowsOf
+rows-cons : (rows i : ℕ) (c : List ℕ) → i < rows → rowsFrom rows i c ≡ bufferRow i c ∷ rowsFrom rows (i + 1) c
+unfolding rowsFrom bufferRow rowsOf
 rows-cons rows i c h =
     let e : rows - i ≡ suc (rows - (i + 1)) = omega arith in
     let f : 49 * i + 49 ≡ 49 * (i + 1) = omega arith in
@@ -79,22 +79,22 @@ rows-none rows i c h =
     rw e
 
 module _ (p : Profile) (count : ℕ → ℕ) (rows i : ℕ) (c : List ℕ) where
-  lacks-step : i + 1 < rows → lacksFrom p count rows i c ≡ (isLoop p (rowAt i c) && eqb (count (nextAddr i c)) 0) || lacksFrom p count rows (i + 1) c
+  lacks-step : i + 1 < rows → lacksFrom p count rows i c ≡ (isLoop p (bufferRow i c) && eqb (count (nextAddr i c)) 0) || lacksFrom p count rows (i + 1) c
   unfolding anyWithoutBody
   lacks-step h = rw (rows-cons rows i c (omega arith), rows-cons rows (i + 1) c h)
 
   -- a LOOP row without body END, one with, and a row that is none
-  pub lacks-yes : i + 1 < rows → isLoop p (rowAt i c) ≡ true → count (nextAddr i c) ≡ 0 → lacksFrom p count rows i c ≡ true
+  pub lacks-yes : i + 1 < rows → isLoop p (bufferRow i c) ≡ true → count (nextAddr i c) ≡ 0 → lacksFrom p count rows i c ≡ true
   lacks-yes h l z = lacks-step h ∙ rw (l, eq-eqb (count (nextAddr i c)) 0 z)
 
-  pub lacks-no : i + 1 < rows → isLoop p (rowAt i c) ≡ true → (count (nextAddr i c) ≡ 0 → ⊥) → lacksFrom p count rows i c ≡ lacksFrom p count rows (i + 1) c
+  pub lacks-no : i + 1 < rows → isLoop p (bufferRow i c) ≡ true → (count (nextAddr i c) ≡ 0 → ⊥) → lacksFrom p count rows i c ≡ lacksFrom p count rows (i + 1) c
   lacks-no h l n = lacks-step h ∙ rw (l, ne-eqb (count (nextAddr i c)) 0 n)
 
-  pub lacks-skip : i + 1 < rows → isLoop p (rowAt i c) ≡ false → lacksFrom p count rows i c ≡ lacksFrom p count rows (i + 1) c
+  pub lacks-skip : i + 1 < rows → isLoop p (bufferRow i c) ≡ false → lacksFrom p count rows i c ≡ lacksFrom p count rows (i + 1) c
   lacks-skip h l = lacks-step h ∙ rw l
 
   pub counts-step : i + 1 < rows
-      → withCounts p count (rowsFrom rows i c) ≡ pick (isLoop p (rowAt i c)) (set (rowAt i c) 23 (count (nextAddr i c))) (rowAt i c) ∷ withCounts p count (rowsFrom rows (i + 1) c)
+      → withCounts p count (rowsFrom rows i c) ≡ pick (isLoop p (bufferRow i c)) (set (bufferRow i c) 23 (count (nextAddr i c))) (bufferRow i c) ∷ withCounts p count (rowsFrom rows (i + 1) c)
   unfolding withCounts
   counts-step h = rw (rows-cons rows i c (omega arith), rows-cons rows (i + 1) c h)
 

@@ -12,7 +12,7 @@ use Rattle.rows.proofs.sorted.Counts.{hit-same, hit-other}
 use Rattle.rows.proofs.sorted.Search.{lower-unique, found-inside, found-is}
 use Rattle.rows.specs.declared.records.profile.Profile.{Profile}
 use Rattle.rows.specs.passes.Passes.{flaggedEnd}
-use Rattle.rows.specs.records.Buffers.{rowAt}
+use Rattle.rows.specs.records.Buffers.{bufferRow}
 use Rattle.rows.specs.ways.LoopCounts.{nextAddr, endsIn, Tallied, Bumped}
 use Rattle.rows.proofs.passes.RowsFrom.{ends-more, ends-one}
 
@@ -68,10 +68,10 @@ tally-none p c keys n x r u l e = zero-at n r ∙ sym (ends-one p x c)
 
 module _ (p : Profile) (c : List ℕ) (i : ℕ) (keys counts : List ℕ) where
   -- row i is a flagged END, and its address counted
-  pub tally-more : (new : List ℕ) → flaggedEnd p (rowAt i c) ≡ true → Bumped keys (nextAddr i c) counts new → Tallied keys counts (endsIn p (i + 1) c) → Tallied keys new (endsIn p (i + 1 + 1) c)
+  pub tally-more : (new : List ℕ) → flaggedEnd p (bufferRow i c) ≡ true → Bumped keys (nextAddr i c) counts new → Tallied keys counts (endsIn p (i + 1) c) → Tallied keys new (endsIn p (i + 1 + 1) c)
   unfolding hit
   tally-more new f b t x r u l e = b .more (endsIn p (i + 1) c) t x r u l e ∙ sym (rw f at (ends-more p x i c))
 
   -- row i is none
-  pub tally-skip : flaggedEnd p (rowAt i c) ≡ false → Tallied keys counts (endsIn p (i + 1) c) → Tallied keys counts (endsIn p (i + 1 + 1) c)
+  pub tally-skip : flaggedEnd p (bufferRow i c) ≡ false → Tallied keys counts (endsIn p (i + 1) c) → Tallied keys counts (endsIn p (i + 1 + 1) c)
   tally-skip f t x r u l e = omega (arith, t x r u l e, rw f at (ends-more p x i c))

@@ -7,7 +7,7 @@ use native.Mathlib.Omega.{arith}
 use lib.ListN.{length, set, take, drop, take-append-drop}
 use lib.Seq.{take-add, take-set-le, take-set-lt, drop-set-add, drop-set-lt}
 use Rattle.rows.specs.declared.records.profile.Profile.{Profile}
-use Rattle.rows.specs.records.Buffers.{rowsOf, flat, onRows, rowAt}
+use Rattle.rows.specs.records.Buffers.{rowsOf, flat, onRows, bufferRow}
 use Rattle.rows.specs.passes.Passes.{withCounts, multiplied}
 use Rattle.rows.specs.ways.LoopCounts.{rowsFrom, isLoop, nextAddr, endsIn, countedFrom, Alike}
 use Rattle.rows.proofs.passes.RowLists.{length-rows, flat-rows, on-rows}
@@ -34,31 +34,31 @@ counted-last p count rows i c l h =
     (take-append-drop (49 * rows) c)
 
 module _ (p : Profile) (count : ℕ → ℕ) (rows i : ℕ) (c : List ℕ) (h : i + 1 < rows) where
-  front : (a : List ℕ) → take (49 * (i + 1)) a ≡ take (49 * i) a ++ rowAt i a
-  unfolding rowAt
+  front : (a : List ℕ) → take (49 * (i + 1)) a ≡ take (49 * i) a ++ bufferRow i a
+  unfolding bufferRow
   front a =
       let e : 49 * (i + 1) ≡ 49 * i + 49 = omega arith in
       rw (e, take-add (49 * i) 49 a)
 
   -- a row that is no LOOP row
-  pub counted-skip : isLoop p (rowAt i c) ≡ false → countedFrom p count rows (i + 1) c ≡ countedFrom p count rows i c
+  pub counted-skip : isLoop p (bufferRow i c) ≡ false → countedFrom p count rows (i + 1) c ≡ countedFrom p count rows i c
   unfolding countedFrom flat
   counted-skip e = rw (counts-step p count rows i c h, e, front c) (simp append-assoc)
 
   module _ (v : ℕ) where
-    set-row : rowAt i (set c (49 * i + 23) v) ≡ set (rowAt i c) 23 v
-    unfolding rowAt
+    set-row : bufferRow i (set c (49 * i + 23) v) ≡ set (bufferRow i c) 23 v
+    unfolding bufferRow
     set-row = rw (drop-set-add (49 * i) c 23 v, take-set-lt 49 (drop (49 * i) c) 23 v (omega arith))
 
     set-behind : rowsFrom rows (i + 1) (set c (49 * i + 23) v) ≡ rowsFrom rows (i + 1) c
     unfolding rowsFrom
     set-behind = rw (drop-set-lt (49 * (i + 1)) c (49 * i + 23) v (omega arith))
 
-    set-front : take (49 * (i + 1)) (set c (49 * i + 23) v) ≡ take (49 * i) c ++ set (rowAt i c) 23 v
+    set-front : take (49 * (i + 1)) (set c (49 * i + 23) v) ≡ take (49 * i) c ++ set (bufferRow i c) 23 v
     set-front = front (set c (49 * i + 23) v) ∙ rw (set-row, take-set-le (49 * i) c (49 * i + 23) v (omega arith))
 
   -- a LOOP row that gets its count
-  pub counted-loop : isLoop p (rowAt i c) ≡ true → countedFrom p count rows (i + 1) (set c (49 * i + 23) (count (nextAddr i c))) ≡ countedFrom p count rows i c
+  pub counted-loop : isLoop p (bufferRow i c) ≡ true → countedFrom p count rows (i + 1) (set c (49 * i + 23) (count (nextAddr i c))) ≡ countedFrom p count rows i c
   unfolding countedFrom flat
   counted-loop e =
       let v = count (nextAddr i c) in

@@ -15,15 +15,15 @@ use Rattle.rows.specs.declared.cycles.tracer.TracerFinalState.{TracerFin
 use Rattle.rows.specs.records.Built.{noSystem, noStack, readSystem, readStack}
 use Rattle.rows.specs.cycles.Cycles.{finalState, lastSystem, lastStack}
 use Rattle.rows.specs.replay.Calls.{Setting, storingDone, callDone, callWritten, through, written, told}
-use Rattle.rows.specs.records.CallRecords.{storing, callIn, recordAt}
+use Rattle.rows.specs.records.CallRecords.{recordedStoring, callIn, recordAt}
 use Rattle.rows.proofs.cycles.Picks.{pick-same, pick-step}
 
-pub storing-done : (s : Setting) (t : CoreTraceGenerationTracer) (found : Answer StoredValues) → callDone s t (storing found) ≡ storingDone t found
+pub storing-done : (s : Setting) (t : CoreTraceGenerationTracer) (found : Answer StoredValues) → callDone s t (recordedStoring found) ≡ storingDone t found
 unfolding callDone storingDone
 storing-done s t (accepted values) = refl
 storing-done s t (refused n) = refl
 
-pub storing-written : (s : Setting) (t : CoreTraceGenerationTracer) (found : Answer StoredValues) (fragment : List ℕ) → callWritten s t (storing found) fragment ≡ fragment
+pub storing-written : (s : Setting) (t : CoreTraceGenerationTracer) (found : Answer StoredValues) (fragment : List ℕ) → callWritten s t (recordedStoring found) fragment ≡ fragment
 unfolding callWritten
 storing-written s t (accepted values) fragment = refl
 storing-written s t (refused n) fragment = refl

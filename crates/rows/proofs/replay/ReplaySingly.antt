@@ -23,7 +23,7 @@ use Rattle.rows.specs.records.Profiles.{profileWrong}
 use Rattle.rows.specs.cycles.Made.{cursor, made}
 use Rattle.rows.specs.cycles.Scans.{anyBigOpcode, forestTooLarge, scanOf}
 use Rattle.rows.specs.records.Cells.{fragmentWrong}
-use Rattle.rows.specs.cycles.Cycles.{fresh, storing, storedIn, continuationOf, refuseIf, cycleWith, cycle, keeping, tracerAfter, fragmentAfter}
+use Rattle.rows.specs.cycles.Cycles.{fresh, storingOf, storedIn, continuationOf, refuseIf, cycleWith, cycle, keeping, tracerAfter, fragmentAfter}
 use Rattle.rows.specs.replay.Calls.{Setting, directoryEntry, forestIn, forestOf, refusing, callDone, callWritten, through, written, ending, told, scanned, replayed, replayedFragment}
 use Rattle.rows.specs.records.CallRecords.{RecordedCall, stores, finishes, callIn, recordAt}
 use Rattle.rows.specs.replay.SingleCalls.{singleDone, singleWritten, singlyThrough, singlyWritten}
@@ -93,7 +93,7 @@ module _ (p : Profile) (f : Forest) (directory : List ℕ) (q : Queues) (cells :
   before : (t : CoreTraceGenerationTracer) (a : Answer RecordedCall) → callDone s t a .refusal ≡ 0 → t .refusal ≡ 0
   unfolding scanned callDone refusing storedIn
   before t (refused n) e = number-stays (eqb (t .refusal) 0) t (keeping n t) refl e
-  before t (accepted (stores values)) e = number-stays (eqb (t .refusal) 0) t (storing t values) refl e
+  before t (accepted (stores values)) e = number-stays (eqb (t .refusal) 0) t (storingOf t values) refl e
   before t (accepted (finishes k system stack registers)) e =
       kept-first k system stack registers t (eqb (t .refusal) 0) refl (sym (kept-number system stack t (finish k system stack registers t)) ∙ e)
 

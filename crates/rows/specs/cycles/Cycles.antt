@@ -52,8 +52,8 @@ fresh state at = record {
 }
 
 -- "Storing replaces all of them and checks none."; the cells among them are read (N2)
-abbrev pub storing : CoreTraceGenerationTracer → StoredValues → CoreTraceGenerationTracer
-storing t values = record {
+abbrev pub storingOf : CoreTraceGenerationTracer → StoredValues → CoreTraceGenerationTracer
+storingOf t values = record {
   refusal = t .refusal;
   «row_write_index» = t .«row_write_index»;
   continuation = StoredContinuation.Is (values .continuation);
@@ -67,7 +67,7 @@ storing t values = record {
 
 -- "The tracer keeps a refusal's number; storing, later cycles and the final state then answer it and change nothing."
 unfoldable pub storedIn : CoreTraceGenerationTracer → StoredValues → CoreTraceGenerationTracer
-storedIn t values = pick (eqb (t .refusal) 0) (storing t values) t
+storedIn t values = pick (eqb (t .refusal) 0) (storingOf t values) t
 
 -- "23 if nothing is stored"
 abbrev pub continuationOf : StoredContinuation → Answer Continuation

@@ -33,7 +33,7 @@ use Rattle.rows.specs.declared.cycles.made.Finish.{Finish}
 use Rattle.rows.specs.declared.cycles.made.KindFound.{KindFound}
 use Rattle.rows.specs.records.Forests.{Forest, nodeAt, digestAt, opcodeAt, blockOf}
 use Rattle.rows.specs.records.Addresses.{Queues, startedAt, afterStart, endAt, stateAfterEnd, afterEnd, respanStep}
-use Rattle.rows.specs.records.DecoderRows.{noWord, controlFlow, basicBlockBatch, operation, flagWord}
+use Rattle.rows.specs.records.DecoderRows.{zeroWord, controlFlow, basicBlockBatch, operation, flagWord}
 
 -- where a cycle stands: the address state and the queue positions
 pub record Cursor : Type 0 where
@@ -73,7 +73,7 @@ startTwo nodes digests opcode first second here =
 unfoldable pub startOne : (nodes digests : List ℕ) → (opcode : ℕ) → (child : MastNodeId) → Cursor → Answer MadeRow
 startOne nodes digests opcode child here =
     andThen (digestAt nodes digests (child .0)) (λ a.
-    madeRow (controlFlow opcode a noWord (here .state .«parent_addr»)) here Used.Nothing)
+    madeRow (controlFlow opcode a zeroWord (here .state .«parent_addr»)) here Used.Nothing)
 
 -- a captured value, or "23 .. a captured value absent"
 abbrev pub calleeOf : CalleeWord → Answer Word
@@ -92,7 +92,7 @@ conditionOf LoopCondition.Absent = refused storedAbsent
 unfoldable pub startDyn : (opcode : ℕ) → CalleeWord → Cursor → Answer MadeRow
 startDyn opcode callee here =
     andThen (calleeOf callee) (λ word.
-    madeRow (controlFlow opcode word noWord (here .state .«parent_addr»)) here Used.Callee)
+    madeRow (controlFlow opcode word zeroWord (here .state .«parent_addr»)) here Used.Callee)
 
 -- Dyn: "23 for the callee word, then for DYNCALL's context info"; "DYNCALL that, then depth, next overflow address"
 unfoldable pub startDyncall : (opcode : ℕ) → CalleeWord → ContextInfo → Cursor → Answer MadeRow

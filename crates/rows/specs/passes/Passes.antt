@@ -11,7 +11,7 @@ use Rattle.groups.specs.Constants.{addrColumn, hasherColumn, countColumn, helpe
 use Rattle.groups.specs.declared.word.Word.{Word}
 use Rattle.rows.specs.declared.records.profile.Profile.{Profile}
 use Rattle.rows.specs.records.Profiles.{profileWrong}
-use Rattle.rows.specs.records.DecoderRows.{noWord, controlFlow, decoderCells}
+use Rattle.rows.specs.records.DecoderRows.{zeroWord, controlFlow, decoderCells}
 use Rattle.rows.specs.records.Built.{reversed16}
 use Rattle.rows.specs.records.Buffers.{rowsOf, onRows, lastRow, addrOf, h4Of, opcodeOf, bufferWrong, fewerRows}
 
@@ -84,16 +84,16 @@ inverted (row ∷ rows) = set row helperColumn (inverseOf (getD row helperColumn
 -- PASS 4
 
 -- the four numbers from number i on
-abbrev pub wordIn : List ℕ → (i : ℕ) → Word
-wordIn cells i = (getD cells i 0, getD cells (i + 1) 0, getD cells (i + 2) 0, getD cells (i + 3) 0)
+abbrev pub wordFrom : List ℕ → (i : ℕ) → Word
+wordFrom cells i = (getD cells i 0, getD cells (i + 1) 0, getD cells (i + 2) 0, getD cells (i + 3) 0)
 
 -- h0 to h3 of a row
 abbrev pub firstHalf : List ℕ → Word
-firstHalf row = wordIn row hasherColumn
+firstHalf row = wordFrom row hasherColumn
 
 -- the decoder cells of a HALT row: "h0 to h3 of the row before (0 if there is none); the rest 0 but opcode and extra"
 unfoldable pub haltDecoder : Profile → (before : List ℕ) → List ℕ
-haltDecoder p before = decoderCells (controlFlow (p .halt) (firstHalf before) noWord 0)
+haltDecoder p before = decoderCells (controlFlow (p .halt) (firstHalf before) zeroWord 0)
 
 -- the stack cells of the HALT row: the last built ones, "helper not inverted"
 unfoldable pub haltStack : (built : List ℕ) → List ℕ

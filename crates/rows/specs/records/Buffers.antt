@@ -13,8 +13,8 @@ rowsOf zero buffer = []
 rowsOf (suc n) buffer = take rowWidth buffer ∷ rowsOf n (drop rowWidth buffer)
 
 -- row i of a buffer
-unfoldable pub rowAt : (i : ℕ) → (buffer : List ℕ) → List ℕ
-rowAt i buffer = take rowWidth (drop (rowWidth * i) buffer)
+unfoldable pub bufferRow : (i : ℕ) → (buffer : List ℕ) → List ℕ
+bufferRow i buffer = take rowWidth (drop (rowWidth * i) buffer)
 
 -- the cells of rows one after another
 unfoldable pub flat : List (List ℕ) → List ℕ

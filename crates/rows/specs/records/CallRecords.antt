@@ -167,12 +167,12 @@ finishIn r =
     andThen (registersIn r) (λ registers.
     accepted (finishes (getD r 1 0) system (stackIn r depth) registers))))
 
-abbrev pub storing : Answer StoredValues → Answer RecordedCall
-storing found = andThen found (λ values. accepted (stores values))
+abbrev pub recordedStoring : Answer StoredValues → Answer RecordedCall
+recordedStoring found = andThen found (λ values. accepted (stores values))
 
 -- number 0 is 0: a storing; else a finish
 unfoldable pub callIn : List ℕ → Answer RecordedCall
-callIn r = pick (eqb (getD r 0 0) 0) (storing (storedInRecord r)) (finishIn r)
+callIn r = pick (eqb (getD r 0 0) 0) (recordedStoring (storedInRecord r)) (finishIn r)
 
 -- record k of a list of numbers
 unfoldable pub recordAt : List ℕ → ℕ → List ℕ

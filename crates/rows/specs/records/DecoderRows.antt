@@ -10,8 +10,8 @@ use Rattle.rows.specs.declared.records.decoder_row.DecoderRow.{DecoderRo
 use Rattle.rows.specs.declared.records.decoder_row.EndBlockFlags.{EndBlockFlags}
 use Rattle.rows.specs.declared.records.decoder_row.EndBlockStackEntryKind.{EndBlockStackEntryKind}
 
-abbrev pub noWord : Word
-noWord = (0, 0, 0, 0)
+abbrev pub zeroWord : Word
+zeroWord = (0, 0, 0, 0)
 
 -- a start, REPEAT or END row: its address and h0 to h7
 unfoldable pub controlFlow : (opcode : ℕ) → (first second : Word) → (addr : ℕ) → DecoderRow

@@ -9,7 +9,7 @@ use lib.ListN.{length, take, drop, getD}
 use Rattle.groups.specs.Constants.{rowWidth, countColumn}
 use Rattle.rows.specs.ways.Order.{hit, occurrences, Ordered, Lower}
 use Rattle.rows.specs.declared.records.profile.Profile.{Profile}
-use Rattle.rows.specs.records.Buffers.{rowsOf, rowAt, flat, addrOf, opcodeOf}
+use Rattle.rows.specs.records.Buffers.{rowsOf, bufferRow, flat, addrOf, opcodeOf}
 use Rattle.rows.specs.passes.Passes.{bodyEnds, withCounts, anyWithoutBody}
 
 -- of the first `rows` rows those from i on
@@ -22,7 +22,7 @@ isLoop p row = eqb (opcodeOf row) (p .«loop_op»)
 
 -- the address of the row behind row i
 abbrev pub nextAddr : (i : ℕ) → (buffer : List ℕ) → ℕ
-nextAddr i buffer = addrOf (rowAt (i + 1) buffer)
+nextAddr i buffer = addrOf (bufferRow (i + 1) buffer)
 
 -- the number of body ENDs by the LOOP successor's address
 abbrev pub endsIn : Profile → (rows : ℕ) → (buffer : List ℕ) → ℕ → ℕ
@@ -52,7 +52,7 @@ pub record Bumped (keys : List ℕ) (x : ℕ) (old new : List ℕ) : Type 0 wher
 
 -- the successors' addresses of the LOOP rows from `from` to `next` are keys
 abbrev pub Held : Profile → (buffer : List ℕ) → (from next : ℕ) → (keys : List ℕ) → Type 0
-Held p buffer from next keys = (j : ℕ) → from ≤ j → j < next → isLoop p (rowAt j buffer) ≡ true → 0 < occurrences (nextAddr j buffer) keys
+Held p buffer from next keys = (j : ℕ) → from ≤ j → j < next → isLoop p (bufferRow j buffer) ≡ true → 0 < occurrences (nextAddr j buffer) keys
 
 -- LOOP rows taken from the row `from` on: `next` is behind the last of them, and `count` keys are in front of `keys`
 pub record Took (p : Profile) (buffer : List ℕ) (rows from : ℕ) (keys : List ℕ) (count next : ℕ) : Type 0 where

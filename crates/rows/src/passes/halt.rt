@@ -17,15 +17,15 @@ ghost use mathlib.Core.List.{[], _∷_};
 ghost use Prim.Native.Nat.{_+_, _*_, _≤_, _<_};
 ghost use lib.ListN.{length, take};
 ghost use Rattle.groups.specs.Constants.{rowWidth};
-ghost use Rattle.rows.specs.records.DecoderRows.{noWord, controlFlow};
+ghost use Rattle.rows.specs.records.DecoderRows.{zeroWord, controlFlow};
 ghost use Rattle.rows.specs.records.Built.{systemCells, stackCells};
 ghost use Rattle.rows.specs.records.Buffers.{rowsOf, onRows, lastRow};
-ghost use Rattle.rows.specs.passes.Passes.{wordIn, firstHalf, halted, padded, refusal4, refusal5, unlessRefused};
+ghost use Rattle.rows.specs.passes.Passes.{wordFrom, firstHalf, halted, padded, refusal4, refusal5, unlessRefused};
 
 // The four numbers from `at` on, as they stand.
 fn word_in(cells: &[u64], at: usize) -> Word
     requires { ⌜ at + 4 ≤ length (now cells) ⌝ }
-    ensures { λ r. ⌜ r ≡ wordIn (now (cells .entry)) at ⌝ }
+    ensures { λ r. ⌜ r ≡ wordFrom (now (cells .entry)) at ⌝ }
 {
     Word(cells[at], cells[at + 1], cells[at + 2], cells[at + 3])
 }
@@ -87,7 +87,7 @@ fn last_half(buffer: &[u64], rows: usize) -> Word
 // The decoder part of a HALT row behind the first `rows` rows.
 fn halt_decoder(profile: Profile, buffer: &[u64], rows: usize) -> DecoderRow
     requires { ⌜ rowWidth * rows ≤ length (now buffer) ⌝ }
-    ensures { λ r. ⌜ r ≡ controlFlow (profile .halt) (firstHalf (lastRow (rowsOf rows (now (buffer .entry))))) noWord 0 ⌝ }
+    ensures { λ r. ⌜ r ≡ controlFlow (profile .halt) (firstHalf (lastRow (rowsOf rows (now (buffer .entry))))) zeroWord 0 ⌝ }
 {
     let first = last_half(buffer, rows);
     let second = Word(Felt::ZERO, Felt::ZERO, Felt::ZERO, Felt::ZERO);

@@ -19,7 +19,7 @@ ghost use Prim.Native.Nat.{ℕ, _+_, _*_, _<_, _≤_};
 ghost use lib.ListN.{length, take, getD};
 ghost use Rattle.groups.specs.Constants.{rowWidth, mostRows};
 ghost use Rattle.rows.specs.ways.Order.{occurrences, Ordered};
-ghost use Rattle.rows.specs.records.Buffers.{rowsOf, onRows, addrOf, rowAt, opcodeOf};
+ghost use Rattle.rows.specs.records.Buffers.{rowsOf, onRows, addrOf, bufferRow, opcodeOf};
 ghost use Rattle.rows.specs.passes.Passes.{flaggedEnd, multiplied, loopWithoutBody, refusal2, unlessRefused};
 ghost use Rattle.rows.specs.ways.LoopCounts.{isLoop, endsIn, lacksFrom, countedFrom, Alike, Tallied, Bumped, Took, Table};
 
@@ -31,14 +31,14 @@ struct Taken {
 
 fn is_loop(profile: Profile, buffer: &[u64], i: usize) -> bool
     requires { ⌜ i < mostRows ⌝ }
-    ensures { λ r. ⌜ r ≡ isLoop profile (rowAt i (now (buffer .entry))) ⌝ }
+    ensures { λ r. ⌜ r ≡ isLoop profile (bufferRow i (now (buffer .entry))) ⌝ }
 {
     decode_opcode(buffer, i) == profile.loop_op as u64
 }
 
 fn is_flagged_end(profile: Profile, buffer: &[u64], i: usize) -> bool
     requires { ⌜ i < mostRows ⌝ }
-    ensures { λ r. ⌜ r ≡ flaggedEnd profile (rowAt i (now (buffer .entry))) ⌝ }
+    ensures { λ r. ⌜ r ≡ flaggedEnd profile (bufferRow i (now (buffer .entry))) ⌝ }
 {
     if cell(buffer, Row::WIDTH * i + Column::H4) == Felt::ONE {
         decode_opcode(buffer, i) == profile.end as u64
@@ -49,7 +49,7 @@ fn is_flagged_end(profile: Profile, buffer: &[u64], i: usize) -> bool
 
 fn addr_at(buffer: &[u64], i: usize) -> u64
     requires { ⌜ i ≤ mostRows ⌝ }
-    ensures { λ r. ⌜ r ≡ addrOf (rowAt i (now (buffer .entry))) ⌝ }
+    ensures { λ r. ⌜ r ≡ addrOf (bufferRow i (now (buffer .entry))) ⌝ }
 {
     cell(buffer, Row::WIDTH * i + Column::ADDR)
 }

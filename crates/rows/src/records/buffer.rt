@@ -2,7 +2,7 @@
 use field::cell::cell;
 use groups::constants::Row;
 ghost use mathlib.Core.Path.{_≡_};
-ghost use Rattle.rows.specs.records.Buffers.{rowAt, opcodeOf, bufferWrong, fewerRows};
+ghost use Rattle.rows.specs.records.Buffers.{bufferRow, opcodeOf, bufferWrong, fewerRows};
 
 // Refusal 11: the buffer has a part of a row, or over 2^24 rows.
 pub fn buffer_wrong(cells: usize) -> bool
@@ -20,7 +20,7 @@ pub fn fewer_rows(cells: usize, rows: usize) -> bool
 
 // The opcode of row i, from each bit cell's lowest bit; past the end, 0.
 pub fn decode_opcode(buffer: &[u64], i: usize) -> u64
-    ensures { λ r. ⌜ r ≡ opcodeOf (rowAt i (now (buffer .entry))) ⌝ }
+    ensures { λ r. ⌜ r ≡ opcodeOf (bufferRow i (now (buffer .entry))) ⌝ }
 {
     if buffer.len() / Row::WIDTH < i {
         return 0;

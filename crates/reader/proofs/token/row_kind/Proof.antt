@@ -5,14 +5,14 @@ use native.Mathlib.Omega.{arith}
 use borrow.Author.Needs.{needs}
 use lib.ListN.{length}
 use Rattle.theory_readings.specs.Readings.{rowAt, allRows}
-use Rattle.reader.specs.Rows.{wordIn, kindOf}
+use Rattle.reader.specs.Rows.{wordIn, rowKindOf}
 use Rattle.reader.proofs.RowTokens.{rows-in, token-of, token-past}
 use Rattle.reader.proofs.CellTokens.{cell-of, kind-control, kind-op, kind-none}
 use Rattle.reader.proofs.token.row_kind.Statement.{statement}
 use Rattle.reader.proofs.token.row_kind.Tie as tie
 
 returns : tie.Need-returns
-unfolding kindOf
+unfolding rowKindOf
 returns c =
     let a = c .before .before .args in
     rw (token-past (wordIn (a .profile) (a .cells .now)) (a .row) (omega (arith, rows-in (a .profile) (a .cells .now), c .if1 .taken)))

@@ -7,7 +7,7 @@ use borrow.Author.Needs.{needs}
 use lib.ListN.{length, take, drop}
 use lib.Seq.{take-take}
 use Rattle.rows.specs.declared.records.profile.Profile.{Profile}
-use Rattle.rows.specs.records.DecoderRows.{noWord, controlFlow}
+use Rattle.rows.specs.records.DecoderRows.{zeroWord, controlFlow}
 use Rattle.rows.specs.records.Built.{stackCells}
 use Rattle.rows.specs.records.Buffers.{rowsOf, onRows, lastRow}
 use Rattle.rows.specs.records.Cells.{rowCells}
@@ -21,7 +21,7 @@ use Rattle.rows.proofs.passes.halt.pad.Tie as tie
 abbrev Inv-loop : tie.InvT-loop
 Inv-loop buffer₀ rows height decoder at stack row₀ buffer row =
     (rows ≤ row) × (row ≤ height) × (length buffer ≡ length buffer₀)
-    × ((p : Profile) → decoder ≡ controlFlow (p .halt) (firstHalf (lastRow (rowsOf rows buffer₀))) noWord 0 → buffer ≡ onRows rows (padded p row) buffer₀)
+    × ((p : Profile) → decoder ≡ controlFlow (p .halt) (firstHalf (lastRow (rowsOf rows buffer₀))) zeroWord 0 → buffer ≡ onRows rows (padded p row) buffer₀)
 
 abbrev μ-loop : tie.MeasureT-loop
 μ-loop buffer₀ rows height decoder at stack row₀ buffer row = height - row

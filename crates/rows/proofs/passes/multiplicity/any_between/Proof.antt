@@ -4,7 +4,7 @@ use Prim.Native.Nat.{_-_, _≤_}
 use borrow.Author.Needs.{needs}
 use native.Mathlib.Omega.{arith}
 use denote.Ref.{now}
-use Rattle.rows.specs.records.Buffers.{rowAt}
+use Rattle.rows.specs.records.Buffers.{bufferRow}
 use Rattle.rows.specs.ways.LoopCounts.{isLoop, endsIn, lacksFrom}
 use mathlib.Core.Bool.{true}
 use Rattle.rows.proofs.passes.RowsFrom.{lacks-yes, lacks-no, lacks-skip}
@@ -25,7 +25,7 @@ returns : tie.Need-returns Inv-loop μ-loop
 returns c =
     let l = c .before .before .before .before .before .before .loop in
     let a = c .before .before .before .before .before .before .before .before .before .before .args in
-    let y : isLoop (a .profile) (rowAt (l .i) (now (a .buffer))) ≡ true = sym (c .before .before .before .before .is-loop .ensures) ∙ c .before .before .before .if1 .taken in
+    let y : isLoop (a .profile) (bufferRow (l .i) (now (a .buffer))) ≡ true = sym (c .before .before .before .before .is-loop .ensures) ∙ c .before .before .before .if1 .taken in
     let n = table-count (a .profile) (now (a .buffer)) (a .rows) (a .from) (a .next) (now (a .keys)) (now (a .counts)) (c .before .before .before .before .before .before .before .before .before .before .pre .1) (l .i) (omega arith) (omega arith) y (c .before .before .addr-at .result) (c .before .count-of .result) (c .before .before .addr-at .ensures) (c .before .count-of .ensures) in
     sym (sym (l .inv .2) ∙ lacks-yes (a .profile) (endsIn (a .profile) (a .rows) (now (a .buffer))) (a .rows) (l .i) (now (a .buffer)) (omega arith) y (sym n ∙ c .if2 .taken))
 
@@ -33,7 +33,7 @@ loop-again : tie.Need-loop-again Inv-loop μ-loop
 loop-again c =
     let l = c .before .before .before .before .before .before .loop in
     let a = c .before .before .before .before .before .before .before .before .before .before .args in
-    let y : isLoop (a .profile) (rowAt (l .i) (now (a .buffer))) ≡ true = sym (c .before .before .before .before .is-loop .ensures) ∙ c .before .before .before .if1 .taken in
+    let y : isLoop (a .profile) (bufferRow (l .i) (now (a .buffer))) ≡ true = sym (c .before .before .before .before .is-loop .ensures) ∙ c .before .before .before .if1 .taken in
     let n = table-count (a .profile) (now (a .buffer)) (a .rows) (a .from) (a .next) (now (a .keys)) (now (a .counts)) (c .before .before .before .before .before .before .before .before .before .before .pre .1) (l .i) (omega arith) (omega arith) y (c .before .before .addr-at .result) (c .before .count-of .result) (c .before .before .addr-at .ensures) (c .before .count-of .ensures) in
     (omega arith, omega arith, sym (lacks-no (a .profile) (endsIn (a .profile) (a .rows) (now (a .buffer))) (a .rows) (l .i) (now (a .buffer)) (omega arith) y (λ z. c .if2 .left (n ∙ z))) ∙ l .inv .2)
 

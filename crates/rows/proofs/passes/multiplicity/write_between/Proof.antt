@@ -5,7 +5,7 @@ use borrow.Author.Needs.{needs}
 use native.Mathlib.Omega.{arith}
 use denote.Ref.{now}
 use mathlib.Core.Bool.{true}
-use Rattle.rows.specs.records.Buffers.{rowAt}
+use Rattle.rows.specs.records.Buffers.{bufferRow}
 use Rattle.rows.specs.ways.LoopCounts.{isLoop, nextAddr, endsIn, countedFrom, Alike}
 use Rattle.rows.proofs.passes.RowCells.{alike-refl, alike-set, opcode-alike, cell-alike}
 use Rattle.rows.proofs.passes.Written.{counted-loop, counted-skip}
@@ -26,8 +26,8 @@ loop-again : tie.Need-loop-again Inv-loop μ-loop
 loop-again c =
     let l = c .before .before .before .before .before .before .before .loop in
     let a = c .before .before .before .before .before .before .before .before .before .before .before .args in
-    let y : isLoop (a .profile) (rowAt (l .i) (l .buffer)) ≡ true = sym (c .before .before .before .before .is-loop .ensures) ∙ c .before .before .before .if1 .taken in
-    let y₀ : isLoop (a .profile) (rowAt (l .i) (now (a .buffer))) ≡ true = rw (← (opcode-alike (l .buffer) (now (a .buffer)) (l .inv .2) (l .i))) y in
+    let y : isLoop (a .profile) (bufferRow (l .i) (l .buffer)) ≡ true = sym (c .before .before .before .before .is-loop .ensures) ∙ c .before .before .before .if1 .taken in
+    let y₀ : isLoop (a .profile) (bufferRow (l .i) (now (a .buffer))) ≡ true = rw (← (opcode-alike (l .buffer) (now (a .buffer)) (l .inv .2) (l .i))) y in
     let s : nextAddr (l .i) (l .buffer) ≡ nextAddr (l .i) (now (a .buffer)) = cell-alike (l .buffer) (now (a .buffer)) (l .inv .2) (l .i + 1) 6 (omega arith) in
     let n = table-count (a .profile) (now (a .buffer)) (a .rows) (a .from) (a .next) (now (a .keys)) (now (a .counts)) (c .before .before .before .before .before .before .before .before .before .before .before .pre .1) (l .i) (omega arith) (omega arith) y₀ (c .before .addr-at .result) (c .count-of .result) (c .before .addr-at .ensures ∙ s) (c .count-of .ensures) in
     (omega arith, omega arith, alike-set (l .buffer) (now (a .buffer)) (l .i) (c .count-of .result) (l .inv .2), rw (n, ← s) (counted-loop (a .profile) (endsIn (a .profile) (a .rows) (now (a .buffer))) (a .rows) (l .i) (l .buffer) (omega arith) y) ∙ l .inv .3)
