@@ -10,7 +10,7 @@ use lib.ListN.{length, getD, drop, take, length-append, drop-of-length-le}
 use lib.Seq.{drop-cons, take-at}
 use Rattle.groups.specs.Answer.{pick}
 use Rattle.rows.proofs.passes.Checks.{neither}
-use Rattle.theory_dumps.specs.Numerals.{spelled, plain}
+use Rattle.theory_dumps.specs.ways.Spelled.{spelled, plain}
 use Rattle.theory_dumps.specs.ways.Undump.{bitsIn}
 use Rattle.theory_dumps.proofs.NumeralLaws.{Digits}
 use Rattle.dump.specs.ways.Reading.{DigitsRead}

@@ -9,7 +9,8 @@ use borrow.Author.Tests.{ltb-true, ltb-false}
 use lib.Dec.{ltb}
 use lib.ListN.{length, getD, drop, take, length-append, length-drop, List·getD-eq-default}
 use lib.Seq.{drop-cons, drop-drop, getD-append-add}
-use Rattle.theory_dumps.specs.Numerals.{binary, decimal, spelled, plain}
+use Rattle.theory_dumps.specs.Numerals.{binary, decimal}
+use Rattle.theory_dumps.specs.ways.Spelled.{spelled, plain}
 use Rattle.theory_dumps.specs.Dumps.{identifier, timeLine, valueLine}
 use Rattle.theory_dumps.specs.ways.Undump.{behind, lineBits, lineValue}
 use Rattle.theory_dumps.proofs.NumeralLaws.{spells, are-digits, few-digits}

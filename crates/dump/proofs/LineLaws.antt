@@ -11,7 +11,8 @@ use lib.ListN.{length, getD, drop, take}
 use lib.Seq.{drop-drop, getD-drop, take-all}
 use Rattle.field.specs.Modulus.{P}
 use Rattle.groups.specs.Answer.{pick}
-use Rattle.theory_dumps.specs.Numerals.{numeralWithin, spelled}
+use Rattle.theory_dumps.specs.Numerals.{numeralWithin}
+use Rattle.theory_dumps.specs.ways.Spelled.{spelled}
 use Rattle.theory_dumps.specs.Dumps.{identifier, valueLine}
 use Rattle.theory_dumps.specs.ways.Undump.{behind, bitsIn, lineBits, lineValue, isLineOf, afterValue, orNone}
 use Rattle.theory_dumps.proofs.ReadBack.{value-sound, line-bits}

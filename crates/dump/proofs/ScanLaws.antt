@@ -11,7 +11,7 @@ use lib.Dec.{eqb, ltb}
 use lib.ListN.{length, getD, drop, take, length-drop, drop-of-length-le}
 use lib.Seq.{drop-cons, getD-drop, take-nil}
 use Rattle.groups.specs.Answer.{pick}
-use Rattle.theory_dumps.specs.Numerals.{spelled}
+use Rattle.theory_dumps.specs.ways.Spelled.{spelled}
 use Rattle.theory_dumps.specs.ways.Undump.{behind, bitsIn}
 use Rattle.dump.specs.ways.Scanning.{inFront, Scanned, AllScanned}
 

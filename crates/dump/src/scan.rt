@@ -7,7 +7,7 @@ ghost use lib.ListN.{length, drop, take, getD};
 ghost use Rattle.field.specs.Modulus.{P};
 ghost use Rattle.groups.specs.Answer.{pick};
 ghost use Rattle.groups.specs.Constants.{mostRows};
-ghost use Rattle.theory_dumps.specs.Numerals.{plain};
+ghost use Rattle.theory_dumps.specs.ways.Spelled.{plain};
 ghost use Rattle.dump.specs.ways.Reading.{DigitsRead};
 ghost use Rattle.dump.specs.ways.Scanning.{inFront, Scanned, AllScanned, FirstScanned, LineScanned, digitsIn};
 

@@ -2,3 +2,4 @@ pub mod Order
 pub mod Sides
 pub mod LoopCounts
 pub mod ContinuationKinds
+pub mod Inner

@@ -7,7 +7,8 @@ use Rattle.field.specs.Cells.{reduced}
 use Rattle.groups.specs.Answer.{accepted, refused}
 use Rattle.rows.specs.records.Buffers.{rowsOf, flat, bufferWrong}
 use Rattle.theory_readings.specs.Readings.{allRows}
-use Rattle.theory_dumps.specs.Numerals.{numeralWithin, spelled}
+use Rattle.theory_dumps.specs.Numerals.{numeralWithin}
+use Rattle.theory_dumps.specs.ways.Spelled.{spelled}
 use Rattle.theory_dumps.specs.Dumps.{bytes, columns, varLines, header, timeLine, valueLine, allValues, changes, laterLines, dumpLines, dumpRows, dump}
 use Rattle.theory_dumps.specs.ways.Undump.{behind, bitsIn, isLineOf, afterValue, readChanges, readRows, hasAll, fromFirst, undump}
 use Rattle.dump.specs.Dumping.{rowsWrong, dumping, ReadsDump}

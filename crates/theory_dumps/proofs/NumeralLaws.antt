@@ -10,7 +10,8 @@ use lib.Dec.{ltb}
 use lib.ListN.{length, drop, set, length-set, length-append}
 use lib.Seq.{drop-cons, drop-set-lt, getD-set-same}
 use Rattle.groups.specs.Answer.{pick}
-use Rattle.theory_dumps.specs.Numerals.{numeralWithin, spelled}
+use Rattle.theory_dumps.specs.Numerals.{numeralWithin}
+use Rattle.theory_dumps.specs.ways.Spelled.{spelled}
 
 spelled-last : (base before : ℕ) (digits : List ℕ) (digit : ℕ) → spelled base before (digits ++ (digit ∷ [])) ≡ spelled base before digits * base + (digit - 48)
 unfolding spelled

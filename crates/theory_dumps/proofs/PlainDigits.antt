@@ -9,7 +9,8 @@ use borrow.Author.Tests.{eqb-false, ne-eqb, ltb-false}
 use lib.Dec.{eqb, ltb}
 use lib.ListN.{length, getD, length-append, List·getD-append}
 use Rattle.groups.specs.Answer.{pick}
-use Rattle.theory_dumps.specs.Numerals.{numeralWithin, spelled, plain}
+use Rattle.theory_dumps.specs.Numerals.{numeralWithin}
+use Rattle.theory_dumps.specs.ways.Spelled.{spelled, plain}
 use Rattle.theory_dumps.proofs.NumeralLaws.{Digits, one-digit, last-digit}
 
 -- DIGITS TO NUMERAL

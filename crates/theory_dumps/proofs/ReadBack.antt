@@ -10,7 +10,8 @@ use lib.Dec.{eqb, ltb}
 use lib.ListN.{length, getD, replicate, length-append}
 use Rattle.field.specs.Modulus.{P}
 use Rattle.groups.specs.Answer.{pick}
-use Rattle.theory_dumps.specs.Numerals.{binary, spelled}
+use Rattle.theory_dumps.specs.Numerals.{binary}
+use Rattle.theory_dumps.specs.ways.Spelled.{spelled}
 use Rattle.theory_dumps.specs.Dumps.{identifier, header, timeLine, valueLine, allValues, changes, laterLines, dumpLines, dumpRows}
 use Rattle.theory_dumps.specs.ways.Undump.{behind, bitsIn, lineBits, lineValue, isLineOf, afterValue, withValue, orNone, readChanges, withRow, orEnd, readRows, noValues, hasAll, fromFirst, undump}
 use Rattle.theory_dumps.proofs.NumeralLaws.{spells, Digits, are-digits}

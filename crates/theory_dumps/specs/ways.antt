@@ -1,1 +1,2 @@
 pub mod Undump
+pub mod Spelled

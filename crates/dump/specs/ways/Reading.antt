@@ -7,7 +7,8 @@ use Prim.Native.Nat.{ℕ, _+_, _*_, _≤_, _<_}
 use lib.ListN.{length, drop}
 use Rattle.groups.specs.Answer.{pick}
 use Rattle.groups.specs.Constants.{rowWidth, mostRows}
-use Rattle.theory_dumps.specs.Numerals.{decimal, spelled}
+use Rattle.theory_dumps.specs.Numerals.{decimal}
+use Rattle.theory_dumps.specs.ways.Spelled.{spelled}
 use Rattle.theory_dumps.specs.Dumps.{header, timeLine}
 use Rattle.theory_dumps.specs.ways.Undump.{behind, orNone, readChanges, hasAll, undump}
 use Rattle.dump.specs.ways.Scanning.{found}

@@ -8,7 +8,7 @@ use lib.Dec.{eqb, ltb}
 use lib.ListN.{length, getD, take, drop}
 use Rattle.field.specs.Modulus.{P}
 use Rattle.groups.specs.Answer.{pick}
-use Rattle.theory_dumps.specs.Numerals.{spelled}
+use Rattle.theory_dumps.specs.ways.Spelled.{spelled}
 use Rattle.theory_dumps.specs.Dumps.{identifier}
 use Rattle.theory_dumps.specs.ways.Undump.{bitsIn, lineBits, lineValue, isLineOf, afterValue, orNone}
 

@@ -12,7 +12,8 @@ use Rattle.groups.specs.Answer.{Answer, accepted, refused, pick}
 use Rattle.groups.specs.Words.{wordAt}
 use Rattle.groups.specs.declared.batch.BasicBlockNode.{BasicBlockNode}
 use Rattle.groups.specs.declared.word.Word.{Word}
-use Rattle.rows.specs.records.Forests.{isSlot, kindAt, nodeOf, nodeAt, digestAt}
+use Rattle.rows.specs.records.Forests.{isSlot, nodeOf, nodeAt, digestAt}
+use Rattle.rows.specs.ways.Inner.{kindAt}
 
 -- a number from 2 to 10 names a kind
 abbrev NoKind : ℕ → Type 0

@@ -14,7 +14,8 @@ use Rattle.rows.specs.declared.cycles.tracer.CoreTraceGenerationTracer.{
 use Rattle.rows.specs.declared.cycles.tracer.TracerFinalState.{TracerFinalState}
 use Rattle.rows.specs.records.Built.{noSystem, noStack, readSystem, readStack}
 use Rattle.rows.specs.cycles.Cycles.{finalState, lastSystem, lastStack}
-use Rattle.rows.specs.replay.Calls.{Setting, storingDone, callDone, callWritten, through, written, told}
+use Rattle.rows.specs.replay.Calls.{Setting, callDone, callWritten, through, written, told}
+use Rattle.rows.specs.ways.Inner.{storingDone}
 use Rattle.rows.specs.records.CallRecords.{recordedStoring, callIn, recordAt}
 use Rattle.rows.proofs.cycles.Picks.{pick-same, pick-step}
 

@@ -10,7 +10,8 @@ use lib.Dec.{ltb}
 use lib.ListN.{length, take, drop, length-drop, drop-of-length-le}
 use lib.Seq.{take-all, take-length, drop-length}
 use Rattle.groups.specs.Answer.{pick}
-use Rattle.rows.specs.replay.Calls.{clipped, window}
+use Rattle.rows.specs.replay.Calls.{window}
+use Rattle.rows.specs.ways.Inner.{clipped}
 
 drop-pick : (xs : List ℕ) (m : ℕ) (t : Bool) → ltb (length xs) m ≡ t → drop (pick t (length xs) m) xs ≡ drop m xs
 drop-pick xs m true e = drop-length xs ∙ sym (drop-of-length-le xs {i = m} (omega (arith, ltb-true (length xs) m e)))

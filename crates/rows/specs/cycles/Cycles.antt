@@ -1,9 +1,8 @@
 -- Document 01, "Entry: one cycle": storing, finishing and the final state.
 use mathlib.Core.Bool.{Bool, true, false, not, _||_}
-use mathlib.Core.List.{List, [], _∷_, _++_}
-use Prim.Native.Nat.{ℕ, zero, suc, _+_, _/_, _<_, min}
+use mathlib.Core.List.{List, _++_}
+use Prim.Native.Nat.{ℕ, _+_, _/_, min}
 use lib.Dec.{leb, ltb, eqb}
-use lib.ListN.{length}
 use Rattle.groups.specs.Answer.{Answer, accepted, refused, andThen, pick, refusal}
 use Rattle.groups.specs.Constants.{rowWidth, bigOpcode, badProfile, lowDepth, badLength, storedAbsent, noRowLeft}
 use Rattle.groups.specs.declared.helpers.OperationHelperRegisters.{OperationHelperRegisters}
@@ -22,7 +21,6 @@ use Rattle.rows.specs.declared.records.continuation.Captured.{Captured}
 use Rattle.rows.specs.declared.records.continuation.StoredValues.{StoredValues}
 use Rattle.rows.specs.declared.records.continuation.Used.{Used}
 use Rattle.rows.specs.declared.cycles.made.MadeRow.{MadeRow}
-use Rattle.rows.specs.declared.cycles.made.Made.{Made}
 use Rattle.rows.specs.declared.cycles.scan.Scan.{Scan}
 use Rattle.rows.specs.declared.cycles.tracer.StoredContinuation.{StoredContinuation}
 use Rattle.rows.specs.declared.cycles.tracer.CoreTraceGenerationTracer.{CoreTraceGenerationTracer}
@@ -92,11 +90,6 @@ cycleWith scan p f q stack registers cells t =
     (andThen (made f q p registers continuation (t .«is_loop_body») (t .captured) (cursor (t .«decoder_state») (t .at))) (λ row.
     refuseIf (leb (cells / rowWidth) (t .«row_write_index»)) noRowLeft
     (accepted row))))))))
-
--- a row that is made has room in the fragment
-abbrev pub HasRoom : Made → (cells rows : ℕ) → Type 0
-HasRoom (Made.Row m) cells rows = rows < cells / rowWidth
-HasRoom (Made.Refused n) cells rows = Unit {0}
 
 unfoldable pub cycle : Profile → Forest → Queues → StackState → OperationHelperRegisters → (cells : ℕ) → CoreTraceGenerationTracer → Answer MadeRow
 cycle p f q stack registers cells t = cycleWith (scanOf p (f .nodes) (f .batches) (f .ops)) p f q stack registers cells t

@@ -1,9 +1,8 @@
 -- The lent forest. A slot is six numbers of `nodes` (what it holds, two children, and of a block its total of groups, the record of its
 -- first batch and how many batches it has) and four cells of `digests`. What a slot holds: 1 a digest alone, 2 Block, 3 Join, 4 Split,
 -- 5 Loop, 6 Call, 7 Syscall, 8 Dyn, 9 Dyncall, 10 External; 0 and every other number: absent.
-use mathlib.Core.Bool.{Bool, true, false, _&&_, _||_}
+use mathlib.Core.Bool.{Bool, _&&_}
 use mathlib.Core.List.{List}
-use mathlib.Core.Path.{_≡_}
 use Prim.Native.Nat.{ℕ, _+_, _*_}
 use lib.Dec.{leb, ltb, eqb}
 use lib.ListN.{length, getD}
@@ -37,10 +36,6 @@ forest nodes digests batches groups ops =
 unfoldable pub isSlot : (nodes digests : List ℕ) → ℕ → Bool
 isSlot nodes digests id = leb (6 * id + 6) (length nodes) && leb (4 * id + 4) (length digests)
 
--- what slot id holds, 0 where it is not whole
-unfoldable pub kindAt : (nodes digests : List ℕ) → ℕ → ℕ
-kindAt nodes digests id = pick (isSlot nodes digests id) (getD nodes (6 * id) 0) 0
-
 abbrev pub nodeId : ℕ → MastNodeId
 nodeId n = record { 0 = n }
 
@@ -60,10 +55,6 @@ nodeOf kind first second block digest =
     (pick (eqb kind 9) (nodeEntry MastNode.Dyncall digest)
     (pick (eqb kind 10) (nodeEntry MastNode.External digest)
     (refused noSuchNode)))))))))
-
--- a node is the one of its kind, whatever its digest
-abbrev pub IsNodeOf : MastNode → (kind first second : ℕ) → BasicBlockNode → Type 0
-IsNodeOf node kind first second block = (digest : Word) → nodeEntry node digest ≡ nodeOf kind first second block digest
 
 -- the block of slot id, where it is one
 abbrev pub slotBlock : (nodes : List ℕ) → ℕ → BasicBlockNode

@@ -9,7 +9,6 @@ use Rattle.groups.specs.Constants.{badLength}
 use Rattle.rows.specs.declared.records.profile.Profile.{Profile}
 use Rattle.rows.specs.declared.records.address_state.DecoderState.{DecoderState}
 use Rattle.rows.specs.declared.records.address_state.Positions.{Positions}
-use Rattle.rows.specs.declared.records.continuation.StoredValues.{StoredValues}
 use Rattle.rows.specs.declared.cycles.scan.Scan.{Scan}
 use Rattle.rows.specs.declared.cycles.tracer.CoreTraceGenerationTracer.{CoreTraceGenerationTracer}
 use Rattle.rows.specs.declared.replay.directory.DirectoryEntry.{DirectoryEntry}
@@ -40,10 +39,6 @@ directoryEntry directory k =
 -- `count` records of a width from record `first` on, as far as they are in the slice
 unfoldable pub window : (width first count : ℕ) → List ℕ → List ℕ
 window width first count xs = take (width * count) (drop (width * first) xs)
-
--- the smaller of the two
-unfoldable pub clipped : (limit n : ℕ) → ℕ
-clipped limit n = pick (ltb limit n) limit n
 
 -- the forest that lies there
 unfoldable pub forestIn : Forest → DirectoryEntry → Forest
@@ -82,11 +77,6 @@ forestOf s k = forestIn (s .forests) (directoryEntry (s .directory) k)
 -- a record that encodes nothing is refused like a call
 unfoldable pub refusing : ℕ → CoreTraceGenerationTracer → CoreTraceGenerationTracer
 refusing n t = pick (eqb (t .refusal) 0) (keeping n t) t
-
--- the tracer after a storing
-unfoldable pub storingDone : CoreTraceGenerationTracer → Answer StoredValues → CoreTraceGenerationTracer
-storingDone t (refused n) = refusing n t
-storingDone t (accepted values) = storedIn t values
 
 -- the tracer after a call
 unfoldable pub callDone : Setting → CoreTraceGenerationTracer → Answer RecordedCall → CoreTraceGenerationTracer

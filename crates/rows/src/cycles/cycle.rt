@@ -30,7 +30,8 @@ ghost use Rattle.groups.specs.Constants.{rowWidth};
 ghost use Rattle.rows.specs.records.Lent.{lentForest, lentQueues};
 ghost use Rattle.rows.specs.cycles.Made.{toldMade};
 ghost use Rattle.rows.specs.records.Cells.{rowCells, putRow};
-ghost use Rattle.rows.specs.cycles.Cycles.{cycleWith, HasRoom, cycle, leftAfter, keeping, tracerAfter, lastSystem, lastStack, fragmentAfter};
+ghost use Rattle.rows.specs.cycles.Cycles.{cycleWith, cycle, leftAfter, keeping, tracerAfter, lastSystem, lastStack, fragmentAfter};
+ghost use Rattle.rows.specs.ways.Inner.{HasRoom};
 
 // What a finish answers: 0 or the refusal's number, and the tracer.
 pub struct Finished {

@@ -8,7 +8,8 @@ use groups::word::Word;
 use groups::word::word_at;
 ghost use mathlib.Core.Path.{_≡_};
 ghost use Prim.Native.Nat.{_+_, _*_, _≤_, _<_};
-ghost use Rattle.rows.specs.records.Forests.{isSlot, kindAt, slotBlock, IsNodeOf, nodeAt, digestAt, opcodeAt, blockOf, toldNode, toldDigest, toldOpcode, toldBlock};
+ghost use Rattle.rows.specs.records.Forests.{isSlot, slotBlock, nodeAt, digestAt, opcodeAt, blockOf, toldNode, toldDigest, toldOpcode, toldBlock};
+ghost use Rattle.rows.specs.ways.Inner.{kindAt, IsNodeOf};
 
 pub enum MastNode {
     Block(BasicBlockNode),

@@ -30,7 +30,8 @@ ghost use mathlib.Core.Path.{_≡_};
 ghost use Prim.Native.Nat.{_/_};
 ghost use lib.ListN.{length};
 ghost use Rattle.groups.specs.Answer.{refusal, accepted, pick};
-ghost use Rattle.rows.specs.replay.Calls.{lentSetting, lentScanned, refusing, storingDone, callDone, callWritten, through, written, ending, nextState, nextPositions, told, replayed, replayedFragment};
+ghost use Rattle.rows.specs.replay.Calls.{lentSetting, lentScanned, refusing, callDone, callWritten, through, written, ending, nextState, nextPositions, told, replayed, replayedFragment};
+ghost use Rattle.rows.specs.ways.Inner.{storingDone};
 ghost use Rattle.rows.specs.records.CallRecords.{storedInRecord, toldStored, finishIn, finishes, callIn};
 
 // What a replay answers: 0 or the refusal's number, and on 0 how many rows are written, the cells built last (clk, ctx, fn_hash 4; top

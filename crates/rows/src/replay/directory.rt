@@ -3,7 +3,8 @@
 use groups::number::number;
 ghost use mathlib.Core.Path.{_≡_};
 ghost use Prim.Native.Nat.{_+_, _-_, _≤_};
-ghost use Rattle.rows.specs.replay.Calls.{directoryEntry, clipped, window};
+ghost use Rattle.rows.specs.replay.Calls.{directoryEntry, window};
+ghost use Rattle.rows.specs.ways.Inner.{clipped};
 
 // Where a forest lies, in slots, batch records and opcodes.
 pub struct DirectoryEntry {

@@ -9,7 +9,7 @@ use lib.ListN.{length, getD, drop, replicate}
 use Rattle.field.specs.Modulus.{P}
 use Rattle.groups.specs.Answer.{pick}
 use Rattle.groups.specs.Constants.{rowWidth}
-use Rattle.theory_dumps.specs.Numerals.{spelled}
+use Rattle.theory_dumps.specs.ways.Spelled.{spelled}
 use Rattle.theory_dumps.specs.Dumps.{identifier, header, timeLine, valueLine}
 
 -- what follows a text that stands in front, or none

@@ -9,7 +9,7 @@ use borrow.Author.Tests.{not-true, not-false}
 use lib.ListN.{getD, drop, take, length-drop}
 use lib.Seq.{getD-drop, drop-drop}
 use denote.Ref.{now}
-use Rattle.theory_dumps.specs.Numerals.{plain}
+use Rattle.theory_dumps.specs.ways.Spelled.{plain}
 use Rattle.dump.proofs.InPlace.{value-there, value-not-there}
 use Rattle.dump.proofs.ReadLaws.{no-true}
 use Rattle.dump.proofs.read.after_value.Statement.{statement}

@@ -1,7 +1,7 @@
 -- `forest::kind_at` meets its contract.
 use borrow.Author.Needs.{needs}
 use borrow.Author.Tests.{not-true, not-false}
-use Rattle.rows.specs.records.Forests.{kindAt}
+use Rattle.rows.specs.ways.Inner.{kindAt}
 use Rattle.rows.proofs.records.forest.kind_at.Statement.{statement}
 use Rattle.rows.proofs.records.forest.kind_at.Tie as tie
 

@@ -1,5 +1,5 @@
 -- `calls::store` meets its contract.
-use Rattle.rows.specs.replay.Calls.{storingDone}
+use Rattle.rows.specs.ways.Inner.{storingDone}
 use borrow.Author.Needs.{needs}
 use Rattle.rows.proofs.replay.calls.store.Statement.{statement}
 use Rattle.rows.proofs.replay.calls.store.Tie as tie

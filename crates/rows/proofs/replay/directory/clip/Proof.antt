@@ -1,6 +1,6 @@
 -- `directory::clip` meets its contract.
 use borrow.Author.Tests.{lt-ltb, le-ltb}
-use Rattle.rows.specs.replay.Calls.{clipped}
+use Rattle.rows.specs.ways.Inner.{clipped}
 use native.Mathlib.Omega.{arith}
 use Rattle.rows.proofs.replay.directory.clip.Statement.{statement}
 use Rattle.rows.proofs.replay.directory.clip.Tie as tie
