@@ -14,7 +14,7 @@ use Rattle.field.proofs.CellLaws.{cell-drop}
 use Rattle.groups.specs.Answer.{pick}
 use Rattle.rows.specs.declared.records.profile.Profile.{Profile}
 use Rattle.rows.specs.records.Profiles.{isOneOf}
-use Rattle.rows.specs.records.Buffers.{rowAt as rowIn, opcodeOf}
+use Rattle.rows.specs.records.Buffers.{bufferRow as rowIn, opcodeOf}
 use Rattle.rows.proofs.passes.RowCells.{row-cell, opcode-cells}
 use Rattle.theory_readings.specs.Tokens.{Kind, Token, start, repeat, end, halt, nothing, controls, tokenBeside, controlToken, controlOpcodes, isOpOpcode, opToken, inSpanOf, opBitsOf, allBits, tokenOf}
 use Rattle.theory_readings.specs.Readings.{rowAt, allRows}
