@@ -1,6 +1,6 @@
 #!/usr/bin/env python3
 """Writes the lists of data/ and the file stdout beside this file. The expected numbers come from a model of the finishing passes, written
-from document 01 and apart from the Rattle code; random choices from a fixed seed, so that the lists come out the same each time. The rows
+from documents 01 and 02 and apart from the Rattle code; random choices from a fixed seed, so that the lists come out the same each time. The rows
 of the loop of two passes come from the model of a cycle, ../vectors_rows/make.py. src/list.rt says how a list is laid out."""
 import importlib.util
 import itertools
@@ -23,7 +23,7 @@ for part, size, has_length in SIZES:
 OPCODES = ["SPAN", "RESPAN", "JOIN", "SPLIT", "LOOP", "REPEAT", "CALL", "SYSCALL", "DYN", "DYNCALL", "PUSH", "END", "HALT"]
 CALLS = ["fixup", "multiplicities", "helpers", "halt", "padding", "finish"]
 # Columns.
-ADDR, BITS, H, IN_SPAN, COUNT, INDEX, STACK, HELPER = 6, 7, 14, 22, 23, 24, 30, 48
+ADDR, BITS, H, IN_SPAN, COUNT, INDEX, STACK, DEPTH, HELPER = 6, 7, 14, 22, 23, 24, 30, 46, 48
 
 
 class Refused(Exception):
@@ -105,10 +105,13 @@ def write_multiplicities(x, rows):
         x.put(row, COUNT, [count])
 
 
+def inverse(cell):
+    return pow(cell, -1, P) if cell % P else 0
+
+
 def write_inverses(x, rows):
     for row in range(rows):
-        helper = x.cell(row, HELPER)
-        x.put(row, HELPER, [pow(helper, -1, P) if helper else 0])
+        x.put(row, HELPER, [inverse(x.cell(row, HELPER))])
 
 
 def halt_row(x, system, h, stack):
@@ -124,7 +127,7 @@ def first_h(x, row):
 
 
 def write_halt(x, rows, last):
-    x.put(rows, 0, halt_row(x, last[0:6], first_h(x, rows - 1) if rows else [0] * 4, last[6:25]))
+    x.put(rows, 0, halt_row(x, last[0:6], first_h(x, rows - 1) if rows else [0] * 4, last[6:24] + [inverse(last[24])]))
 
 
 def write_padding(x, rows, height):
@@ -346,6 +349,10 @@ class List:
             List.files.append((name, len(text)))
 
 
+# Depths of the stack at the end of a run.
+DEPTHS = [("sixteen", 16), ("seventeen", 17), ("eighteen", 18), ("the last inverse of the table", 1039), ("the first past it", 1040), ("full width", 2**32 - 1)]
+
+
 def passes():
     """Each pass on what it takes."""
     out = List("passes")
@@ -421,7 +428,12 @@ def passes():
         out.add("HALT, other cells before", name, rows(count), *[cells(count - 1, 0, [P - 1 - k for k in range(49)])] if count else [], number=0)
     for halt in (96, 97, 111, 126, 127):
         out.add("HALT of another opcode", name, profile(12, halt), number=0)
-    out.add("depth of eighteen", name, put("last", [18, 0, 2], 22), number=0)
+    for words, depth in DEPTHS:
+        after = out.add("depth of " + words, name, put("last", [depth, 0, depth - 16], 22), number=0)
+        assert after[49 * 9 + HELPER] * (depth - 16) % P == int(depth > 16)
+    # the helper cell goes by itself, whatever depth stands beside it
+    out.add("helper of another depth", name, put("last", [16, 0, 2], 22), number=0)
+    out.add("no helper at a depth", name, put("last", [18, 0, 0], 22), number=0)
     out.add("built cells zero", name, put("last", [0] * 25), number=0)
     out.add("built cells largest", name, put("last", [P - 1] * 25), number=0)
     out.add("HALT over cells beyond", name, rows(9), cells(9, 0, [BIG] * 49), cells(10, 0, [P] * 3), number=0)
@@ -512,6 +524,9 @@ def unreduced():
     for k in (0, 1, 5, 6, 21, 22, 24):
         out.add("built cell", name, put("last", [P + k], k), number=0)
         out.add("built cell, no rows", name, rows(0), put("last", [BIG], k), number=0)
+    for words, helper, wanted in (("p", P, 0), ("p and one more", P + 1, 1), ("p and two more", P + 2, (P + 1) // 2)):
+        after = out.add("helper of " + words, name, put("last", [18, 0, helper], 22), number=0)
+        assert after[49 * 9 + HELPER] == wanted
     out.add("row before", name, cells(8, 0, [P + 3 * k for k in range(49)]), number=0)
     out.add("row before the last", name, cells(7, 0, [P] * 49), number=0)
     # pass 5
@@ -669,8 +684,8 @@ def cycle_model():
     return module
 
 
-def loop_run(model, size, depth):
-    """C10's run in fragments of a size: the rows, the counts, and the built cells of each fragment. The stack's depth is the same in all cycles."""
+def loop_run(model, size, depths):
+    """C10's run in fragments of a size: the rows, the counts, and the built cells of each fragment. The stack's depth is given for each cycle."""
     m = model
     v = list(m.BASE)
 
@@ -692,7 +707,7 @@ def loop_run(model, size, depth):
             v = m.call("new", v)[2]
             counts.append(0)
             lasts.append(None)
-        change({m.at("system"): clk, m.at("stack", clk % 16): 600 + clk, m.at("stack", 16): depth})
+        change({m.at("system"): clk, m.at("stack", clk % 16): 600 + clk, m.at("stack", 16): depths[clk]})
         change(numbers("values", [m.STORED.index(name), node, 0, 0, body, condition] + [0] * 8))
         v = m.call("store", v)[2]
         number, out, v = m.call("finish", v)
@@ -712,16 +727,21 @@ def finished():
     """Runs finished: C10's, and random ones."""
     out = List("finished")
     model = cycle_model()
-    for size, top, depth in ((9, 10, 16), (9, 10, 18), (20, 12, 17), (2, 10, 18), (3, 10, 16), (3, 12, 18), (4, 11, 2**32 - 1), (8, 10, 1040)):
-        made, counts, lasts = loop_run(model, size, depth)
+    same = [(size, top, [depth] * 9) for size, top, depth in
+            ((9, 10, 16), (9, 10, 18), (20, 12, 17), (2, 10, 18), (3, 10, 16), (3, 12, 18), (4, 11, 2**32 - 1), (8, 10, 1040))]
+    ending = [(size, 12, [1038 - 127 * k for k in range(8)] + [depth]) for size, (_, depth) in zip((9, 2, 3, 4, 5, 8), DEPTHS)]
+    for size, top, depths in same + ending:
+        made, counts, lasts = loop_run(model, size, depths)
         after = out.add("the loop of two passes", "finish", fragments(size, *counts), *[cells(k, 0, cols) for k, cols in enumerate(made)],
                         put("built", [c for last in lasts for c in last]), put("last", lasts[-1]), height(top), number=0)
-        trace = [after[49 * k:49 * k + 49] for k in range(10)]
-        listing = [(sum(cols[BITS + b] << b for b in range(7)), cols[ADDR], cols[COUNT]) for cols in trace]
+        trace = [after[49 * k:49 * k + 49] for k in range(top)]
+        listing = [(sum(cols[BITS + b] << b for b in range(7)), cols[ADDR], cols[COUNT]) for cols in trace[:10]]
         assert listing == [(NAMED[name], addr, count) for name, addr, count in LISTING], listing
         # a row's system and stack cells are those built at the row before, across fragments too
-        assert [cols[0] for cols in trace] == list(range(10)) and all(cols[46] == depth for cols in trace[1:])
-        assert trace[9][48] == depth - 16 and all(cols[48] * (depth - 16) % P == int(depth > 16) for cols in trace[1:9])
+        assert [cols[0] for cols in trace] == list(range(top))
+        assert [cols[DEPTH] for cols in trace] == [16] + depths + [depths[-1]] * (top - 10)
+        # the overflow rule on every row
+        assert all(cols[HELPER] * (cols[DEPTH] - 16) % P == int(cols[DEPTH] > 16) and (cols[DEPTH] > 16 or cols[HELPER] == 0) for cols in trace)
     random_finishes(out, random.Random(2027), False, 30)
     return out
 

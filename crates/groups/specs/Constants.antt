@@ -45,6 +45,10 @@ countColumn = 23
 abbrev pub stackColumn : ℕ
 stackColumn = 30
 
+-- b0: the depth
+abbrev pub depthColumn : ℕ
+depthColumn = 46
+
 -- the helper, behind b0 and b1
 abbrev pub helperColumn : ℕ
 helperColumn = 48

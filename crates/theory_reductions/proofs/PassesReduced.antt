@@ -181,7 +181,7 @@ halt-before p built before = simp (reduced-append, decoder-reduced)
 
 halt-read : (p : Profile) (built before : List ℕ) → haltRow p (reduced built) before ≡ haltRow p built before
 unfolding haltRow haltStack
-halt-read p built before = simp (reduced-append, reduced-take, reduced-drop, reduced-twice)
+halt-read p built before = simp (reduced-append, reduced-take, reduced-drop, reduced-twice, cell-reduced)
 
 halted-reduced : (p : Profile) (built : List ℕ) (rows : List (List ℕ)) → map reduced (halted p built rows) ≡ halted p built (map reduced rows)
 unfolding halted

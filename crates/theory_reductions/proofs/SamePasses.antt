@@ -10,6 +10,9 @@ use lib.Dec.{ltb, eqb}
 use lib.ListN.{length, take, drop, getD}
 use Rattle.field.specs.Modulus.{P}
 use Rattle.field.specs.Bounds.{anyFrom}
+use Rattle.field.specs.Cells.{cellAt}
+use Rattle.field.specs.Inverse.{inverseOf}
+use Rattle.field.proofs.InverseLaws.{inverse-below}
 use Rattle.rows.specs.declared.records.profile.Profile.{Profile}
 use Rattle.rows.specs.records.Profiles.{profileWrong}
 use Rattle.rows.specs.records.DecoderRows.{zeroWord, wordCells, controlFlow}
@@ -97,12 +100,12 @@ below-halt p before h =
 
 -- the HALT row
 pub same-haltRow : (p : Profile) (built before : List ℕ) → Below built → Below before → haltRow p built before ≡ take 6 built ++ haltDecoder p before ++ haltStack built
-unfolding haltRow haltStack
+unfolding haltRow haltStack Below
 same-haltRow p built before h k =
     same-reduced (take 6 built ++ haltDecoder p before ++ haltStack built)
-    (below-app (take 6 built ++ haltDecoder p before) (take 19 (drop 6 built))
+    (below-app (take 6 built ++ haltDecoder p before) (haltStack built)
     (below-app (take 6 built) (haltDecoder p before) (below-take 6 built h) (below-halt p before k))
-    (below-take 19 (drop 6 built) (below-drop 6 built h)))
+    (below-app (take 18 (drop 6 built)) (inverseOf (cellAt built 24) ∷ []) (below-take 18 (drop 6 built) (below-drop 6 built h)) (inverse-below (cellAt built 24), tt)))
 
 -- a padding row
 pub same-paddingRow : (p : Profile) (number : ℕ) (before : List ℕ)

@@ -95,7 +95,7 @@ shown-met p all (row ∷ rows) n h =
 
 -- THE LAST ROW
 
-last-snoc : (rows : List (List ℕ)) (x : List ℕ) → lastRow (rows ++ (x ∷ [])) ≡ x
+pub last-snoc : (rows : List (List ℕ)) (x : List ℕ) → lastRow (rows ++ (x ∷ [])) ≡ x
 unfolding lastRow
 last-snoc [] x = refl
 last-snoc (row ∷ []) x = refl

@@ -18,6 +18,8 @@ pub mod Unfragmented
 pub mod ExampleLoop
 pub mod ExampleKinds
 pub mod InOne
+pub mod OverflowRows
+pub mod OverflowTheorems
 pub mod ReadRun
 pub mod ExampleEqualAddresses
 pub mod BodiesEnd

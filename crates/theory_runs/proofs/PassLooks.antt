@@ -278,7 +278,7 @@ halting-row p right system before stack e f = record {
 pub halting-halt : (p : Profile) → profileWrong p ≡ false → (built before : List ℕ) → length built ≡ 25 → Halting p (haltRow p built before)
 unfolding haltRow haltStack
 halting-halt p right built before e =
-    halting-row p right (take 6 built) before (take 19 (drop 6 built)) (length-take 6 built ∙ omega arith) (simp (length-take, length-drop) (omega arith))
+    halting-row p right (take 6 built) before (haltStack built) (length-take 6 built ∙ omega arith) (simp (length-append, length-take, length-drop) (omega arith))
 
 halting-padding : (p : Profile) → profileWrong p ≡ false → (number : ℕ) (before : List ℕ) → length before ≡ 49 → Halting p (paddingRow p number before)
 unfolding paddingRow

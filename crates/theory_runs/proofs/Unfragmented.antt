@@ -77,7 +77,7 @@ joined : (s s′ : SystemCols) (k k′ : StackCols) (row : DecoderRow) → withS
 unfolding withSides reduced rowCells systemCells decoderCells stackCells
 joined s s′ k k′ row = refl
 
-later-none : (rows : List (List ℕ)) (size left : ℕ) → laterRows size left [] rows ≡ rows
+pub later-none : (rows : List (List ℕ)) (size left : ℕ) → laterRows size left [] rows ≡ rows
 unfolding laterRows
 later-none [] size left = refl
 later-none (row ∷ rows) size zero = ap (λ y. row ∷ y) (later-none rows size zero)
@@ -94,7 +94,7 @@ unfoldable rowsEach : List (List Item) → List (List ℕ)
 rowsEach [] = []
 rowsEach (l ∷ ls) = sided noSystem noStack l ++ rowsEach ls
 
-unfoldable together : List (List Item) → List Item
+unfoldable pub together : List (List Item) → List Item
 together [] = []
 together (l ∷ ls) = l ++ together ls
 
@@ -308,7 +308,7 @@ module _ (p : Profile) (q : Queues) where
 
   -- THE FRAGMENTS
 
-  unfoldable itemsEach : List Fragment → Cursor → List (List Item)
+  unfoldable pub itemsEach : List Fragment → Cursor → List (List Item)
   itemsEach [] here = []
   itemsEach (fragment ∷ fragments) here = itemsIn (fragment .calls) (opened p q here fragment) ∷ itemsEach fragments (cursorOf p q (closed p q here fragment))
 
@@ -332,7 +332,7 @@ module _ (p : Profile) (q : Queues) where
       items-app (fragment .calls) (allCalls fragments) w ∙ ap₂ (λ c d. c ++ d) (sym (x .rows-alike)) y
 
   -- the built cells that the first pass is given
-  final-cells : (here : Cursor) (fragment : Fragment) → Accepted p q (fragment .calls) (opened p q here fragment) →
+  pub final-cells : (here : Cursor) (fragment : Fragment) → Accepted p q (fragment .calls) (opened p q here fragment) →
       (finalState (closed p q here fragment .tracer) .«last_system_cols» ≡ readSystem (lastS noSystem (itemsIn (fragment .calls) (opened p q here fragment))))
       × (finalState (closed p q here fragment .tracer) .«last_stack_cols» ≡ readStack (lastK noStack (itemsIn (fragment .calls) (opened p q here fragment))))
   unfolding finalState fresh lastSystem lastStack
@@ -342,11 +342,11 @@ module _ (p : Profile) (q : Queues) where
       (rw (eq-eqb (closed p q here fragment .tracer .refusal) 0 k) (ap readSystem g), rw (eq-eqb (closed p q here fragment .tracer .refusal) 0 k) (ap readStack h))
 
   -- built cells that are read are the reduced built cells
-  read-cells : (s : SystemCols) (k : StackCols) → cells25 (readSystem s) (readStack k) ≡ reduced (cells25 s k)
+  pub read-cells : (s : SystemCols) (k : StackCols) → cells25 (readSystem s) (readStack k) ≡ reduced (cells25 s k)
   unfolding readSystem readStack systemCells stackCells reduced cellAt
   read-cells s k = refl
 
-  chunk : (s : SystemCols) (k : StackCols) (rest : List ℕ) → (take 25 (cells25 s k ++ rest) ≡ cells25 s k) × (drop 25 (cells25 s k ++ rest) ≡ rest)
+  pub chunk : (s : SystemCols) (k : StackCols) (rest : List ℕ) → (take 25 (cells25 s k ++ rest) ≡ cells25 s k) × (drop 25 (cells25 s k ++ rest) ≡ rest)
   unfolding systemCells stackCells
   chunk s k rest = (refl, refl)
 
@@ -365,7 +365,7 @@ module _ (p : Profile) (q : Queues) where
       ∙ ap₂ (λ x y. reduced (reduced (cells25 s k)) ∷ builtOf (length fragments) (cells25 x y ++ more)) e f
       ∙ ap₂ (λ x y. x ∷ y) (reduced-twice (cells25 s k)) (built-lasts fragments there (lastS noSystem l) (lastK noStack l) (a .1))
 
-  counts-length : (fragments : List Fragment) (here : Cursor) → length (countsOf (finalStates p q fragments here)) ≡ length fragments
+  pub counts-length : (fragments : List Fragment) (here : Cursor) → length (countsOf (finalStates p q fragments here)) ≡ length fragments
   unfolding countsOf finalStates
   counts-length [] here = refl
   counts-length (fragment ∷ fragments) here = ap suc (counts-length fragments (cursorOf p q (closed p q here fragment)))
@@ -383,16 +383,21 @@ module _ (p : Profile) (q : Queues) where
       ∙ ap₂ (λ x y. builtOf (length fragments) (cells25 x y ++ builtCells (finalStates p q fragments there))) e f
       ∙ built-lasts fragments there (lastS noSystem l) (lastK noStack l) (a .1)
 
+  -- as many items as the fragment's count says
+  pub count-items : (here : Cursor) (fragment : Fragment) → Accepted p q (fragment .calls) (opened p q here fragment) →
+      forPasses (finalState (closed p q here fragment .tracer)) .count ≡ length (itemsIn (fragment .calls) (opened p q here fragment))
+  count-items here fragment a =
+      let z : Held = opened p q here fragment in
+      count-rows p q here fragment a ∙ ap (λ (x : List (List ℕ)). length x) (rows-items (fragment .calls) z a)
+      ∙ sided-length (itemsIn (fragment .calls) z) (lastSystem (z .tracer)) (lastStack (z .tracer))
+
   full-items : (size : ℕ) (fragments : List Fragment) (here : Cursor) → AllAccepted p q fragments here → OneSize size fragments (countsOf (finalStates p q fragments here)) → Full size (itemsEach fragments here)
   unfolding AllAccepted countsOf finalStates OneSize Full itemsEach
   full-items size [] here a o = tt
   full-items size (fragment ∷ []) here a o = tt
   full-items size (fragment ∷ next ∷ fragments) here a o =
-      let z : Held = opened p q here fragment in
       let there : Cursor = cursorOf p q (closed p q here fragment) in
-      let e = count-rows p q here fragment (a .0) in
-      let f : length (rowsIn p q (fragment .calls) z) ≡ length (itemsIn (fragment .calls) z) = ap (λ (x : List (List ℕ)). length x) (rows-items (fragment .calls) z (a .0)) ∙ sided-length (itemsIn (fragment .calls) z) (lastSystem (z .tracer)) (lastStack (z .tracer)) in
-      (sym f ∙ sym e ∙ o .1, full-items size (next ∷ fragments) there (a .1) (o .2))
+      (sym (count-items here fragment (a .0)) ∙ o .1, full-items size (next ∷ fragments) there (a .1) (o .2))
 
   whole-rows : (fragments : List Fragment) (here : Cursor) (cells : List ℕ) → AllAccepted p q fragments here → AllAccepted p q (inOne fragments cells) here → rowsRun p q (inOne fragments cells) here ≡ sided noSystem noStack (together (itemsEach fragments here))
   unfolding AllAccepted rowsRun fresh lastSystem lastStack
@@ -405,11 +410,18 @@ module _ (p : Profile) (q : Queues) where
   unfolding countsOf finalStates builtOf
   one-last fragment here = refl
 
-  -- after the first pass, whatever the first stack top, the rows of the fragments are those of the same calls in one fragment
+  -- after the first pass the rows have the sides that the cycle before left, across fragments too
+  pub fixed-items : (size size′ : ℕ) (fragments : List Fragment) (here : Cursor) (top : List ℕ) → 0 < size → AllAccepted p q fragments here → OneSize size fragments (countsOf (finalStates p q fragments here)) →
+      fixedUp size top (builtOf (length (countsOf (finalStates p q fragments here)) - 1) (builtCells (finalStates p q fragments here))) (rowsRun p q fragments here)
+      ≡ fixedUp size′ top [] (sided noSystem noStack (together (itemsEach fragments here)))
+  fixed-items size size′ fragments here top some a o =
+      ap₂ (λ x y. fixedUp size top x y) (lasts-given fragments here a) (rows-each fragments here a)
+      ∙ fixed-joined (itemsEach fragments here) size size′ top some (full-items size fragments here a o)
+
+  -- so, whatever the first stack top, the rows of the fragments are those of the same calls in one fragment
   pub unfragmented : (size size′ : ℕ) (fragments : List Fragment) (here : Cursor) (top cells : List ℕ) → 0 < size → AllAccepted p q fragments here → OneSize size fragments (countsOf (finalStates p q fragments here)) → AllAccepted p q (inOne fragments cells) here →
       fixedUp size top (builtOf (length (countsOf (finalStates p q fragments here)) - 1) (builtCells (finalStates p q fragments here))) (rowsRun p q fragments here)
       ≡ fixedUp size′ top (builtOf (length (countsOf (finalStates p q (inOne fragments cells) here)) - 1) (builtCells (finalStates p q (inOne fragments cells) here))) (rowsRun p q (inOne fragments cells) here)
   unfragmented size size′ fragments here top cells some a o b =
-      ap₂ (λ x y. fixedUp size top x y) (lasts-given fragments here a) (rows-each fragments here a)
-      ∙ fixed-joined (itemsEach fragments here) size size′ top some (full-items size fragments here a o)
+      fixed-items size size′ fragments here top some a o
       ∙ ap₂ (λ x y. fixedUp size′ top x y) (sym (one-last (record { calls = allCalls fragments; cells = cells }) here)) (sym (whole-rows fragments here cells a b))

@@ -4,3 +4,4 @@ pub mod ProperRuns
 pub mod Written
 pub mod SameCalls
 pub mod Finished
+pub mod Overflow

@@ -32,5 +32,6 @@ fn main() {
     vectors(b"finished_a");
     vectors(b"finished_b");
     vectors(b"finished_c");
+    vectors(b"finished_d");
     large_vector(b"large");
 }

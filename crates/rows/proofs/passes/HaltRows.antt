@@ -1,11 +1,14 @@
 -- Laws of the HALT rows: what the row before gives them, the one behind the program, and the padding row by row.
-use mathlib.Core.Path.{_≡_, _∙_, refl, sym, ap}
+use mathlib.Core.Path.{_≡_, _∙_, refl, sym, ap, ap₂}
 use mathlib.Core.List.{List, [], _∷_, _++_, append-assoc, append-nil}
 use Prim.Native.Nat.{ℕ, zero, suc, _+_, _-_, _*_, _≤_, _<_}
 use native.Mathlib.Omega.{arith}
 use lib.ListN.{length, take, drop, length-append, length-take, length-drop}
-use lib.Seq.{drop-drop}
-use Rattle.field.proofs.CellLaws.{length-reduced}
+use lib.Seq.{take-take, drop-drop}
+use Rattle.field.specs.Cells.{cellAt}
+use Rattle.field.specs.Inverse.{inverseOf}
+use Rattle.field.proofs.CellLaws.{length-reduced, cell-drop, cell-take}
+use Rattle.field.proofs.InverseLaws.{inverse-reduced}
 use Rattle.rows.specs.declared.records.profile.Profile.{Profile}
 use Rattle.rows.specs.declared.records.decoder_row.DecoderRow.{DecoderRow}
 use Rattle.rows.specs.declared.records.state.SystemCols.{SystemCols}
@@ -40,9 +43,19 @@ pub length-row : (system : SystemCols) (d : DecoderRow) (stack : StackCols) → 
 unfolding rowCells systemCells decoderCells stackCells
 length-row system d stack = length-reduced (systemCells system ++ decoderCells d ++ stackCells stack)
 
+-- the stack cells of the HALT row are the built ones with the inverse of the helper
+pub halt-stack : (built : List ℕ) (stack : StackCols) → stackCells stack ≡ take 19 (drop 6 built) →
+    stackCells (record { top = stack .top; b0 = stack .b0; b1 = stack .b1; h0 = inverseOf (stack .h0) }) ≡ haltStack built
+unfolding stackCells haltStack
+halt-stack built stack e =
+    let first : take 18 (stackCells stack) ≡ take 18 (drop 6 built) = ap (take 18) e ∙ take-take 18 19 (drop 6 built) (omega arith) in
+    let helper : cellAt (stackCells stack) 18 ≡ cellAt built 24 = ap (λ (l : List ℕ). cellAt l 18) e ∙ cell-take 19 (drop 6 built) 18 (omega arith) ∙ cell-drop 6 built 18 in
+    let inverse : inverseOf (stack .h0) ≡ inverseOf (cellAt built 24) = sym (inverse-reduced (stack .h0) (cellAt built 24) (sym helper ∙ unfold cellAt in refl)) in
+    ap₂ (λ (l : List ℕ) (x : ℕ). l ++ (x ∷ [])) first inverse
+
 module _ (p : Profile) (before : List ℕ) (system : SystemCols) (d : DecoderRow) (stack : StackCols) (is : d ≡ controlFlow (p .halt) (firstHalf before) zeroWord 0) where
-  pub halt-row : (built : List ℕ) → systemCells system ≡ take 6 built → stackCells stack ≡ take 19 (drop 6 built) → rowCells system d stack ≡ haltRow p built before
-  unfolding rowCells haltRow haltDecoder haltStack
+  pub halt-row : (built : List ℕ) → systemCells system ≡ take 6 built → stackCells stack ≡ haltStack built → rowCells system d stack ≡ haltRow p built before
+  unfolding rowCells haltRow haltDecoder
   halt-row built s k = rw (is, s, k)
 
   pub padding-row : (number : ℕ) → systemCells system ≡ number ∷ 0 ∷ 0 ∷ 0 ∷ 0 ∷ 0 ∷ [] → stackCells stack ≡ take 19 (drop 30 before) → rowCells system d stack ≡ paddingRow p number before

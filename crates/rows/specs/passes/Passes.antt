@@ -4,7 +4,7 @@ use mathlib.Core.List.{List, [], _∷_, _++_}
 use Prim.Native.Nat.{ℕ, zero, suc, pred, _+_, _-_, _*_}
 use lib.Dec.{leb, ltb, eqb}
 use lib.ListN.{length, take, drop, getD, set}
-use Rattle.field.specs.Cells.{reduced}
+use Rattle.field.specs.Cells.{cellAt, reduced}
 use Rattle.field.specs.Inverse.{inverseOf}
 use Rattle.groups.specs.Answer.{pick, firstOf}
 use Rattle.groups.specs.Constants.{addrColumn, hasherColumn, countColumn, helperColumn, badProfile, badLength, noBodyEnd, fragmentNotFull, noFragments, stackColumn}
@@ -95,9 +95,10 @@ firstHalf row = wordFrom row hasherColumn
 unfoldable pub haltDecoder : Profile → (before : List ℕ) → List ℕ
 haltDecoder p before = decoderCells (controlFlow (p .halt) (firstHalf before) zeroWord 0)
 
--- the stack cells of the HALT row: the last built ones, "helper not inverted"
+-- the stack cells of the HALT row: the last built ones, but "the inverse of the last built helper, depth − 16, 0 for depth 16" (N4). The helper
+-- is the last of the 25 built cells, read as a cell; the depth cell beside it is not looked at
 unfoldable pub haltStack : (built : List ℕ) → List ℕ
-haltStack built = take 19 (drop 6 built)
+haltStack built = take 18 (drop 6 built) ++ (inverseOf (cellAt built 24) ∷ [])
 
 -- "One HALT row: last built system and stack cells"; "Every cell that a call writes is reduced"
 unfoldable pub haltRow : Profile → (built before : List ℕ) → List ℕ
@@ -108,7 +109,7 @@ halted p built rows = rows ++ (haltRow p built (lastRow rows) ∷ [])
 
 -- PASS 5
 
--- "HALT rows with h0 to h3 and stack of the last, clk the row's number, ctx and fn_hash 0"
+-- "HALT rows with h0 to h3 and stack of the last, clk the row's number, ctx and fn_hash 0"; the helper too: "padding repeats it" (N4)
 unfoldable pub paddingRow : Profile → (number : ℕ) → (before : List ℕ) → List ℕ
 paddingRow p number before = reduced ((number ∷ 0 ∷ 0 ∷ 0 ∷ 0 ∷ 0 ∷ []) ++ haltDecoder p before ++ take 19 (drop stackColumn before))
 

@@ -9,6 +9,7 @@ use crate::records::state::StackCols;
 use crate::records::state::SystemCols;
 use field::cell::number_at;
 use field::felt::Felt;
+use field::inverse::inverse;
 use groups::constants::Refusal;
 use groups::constants::Row;
 use groups::word::Word;
@@ -20,7 +21,7 @@ ghost use Rattle.groups.specs.Constants.{rowWidth};
 ghost use Rattle.rows.specs.records.DecoderRows.{zeroWord, controlFlow};
 ghost use Rattle.rows.specs.records.Built.{systemCells, stackCells};
 ghost use Rattle.rows.specs.records.Buffers.{rowsOf, onRows, lastRow};
-ghost use Rattle.rows.specs.passes.Passes.{wordFrom, firstHalf, halted, padded, refusal4, refusal5, unlessRefused};
+ghost use Rattle.rows.specs.passes.Passes.{wordFrom, firstHalf, haltStack, halted, padded, refusal4, refusal5, unlessRefused};
 
 // The four numbers from `at` on, as they stand.
 fn word_in(cells: &[u64], at: usize) -> Word
@@ -73,6 +74,22 @@ fn stack_of(cells: &[u64]) -> StackCols
     }
 }
 
+// The stack cells of the HALT row: those of the 25 built cells, the helper inverted.
+fn halt_stack(built: &[u64]) -> StackCols
+    requires { ⌜ 25 ≤ length (now built) ⌝ }
+    ensures { λ r. ⌜ stackCells r ≡ haltStack (now (built .entry)) ⌝ }
+{
+    let stack = stack_of(&built[6..]);
+    let top = stack.top;
+    let h0 = inverse(stack.h0);
+    StackCols {
+        top,
+        b0: stack.b0,
+        b1: stack.b1,
+        h0,
+    }
+}
+
 // h0 to h3 of the last of the first `rows` rows, 0 where there is none.
 fn last_half(buffer: &[u64], rows: usize) -> Word
     requires { ⌜ rowWidth * rows ≤ length (now buffer) ⌝ }
@@ -114,7 +131,7 @@ pub(crate) fn push_halt(profile: Profile, buffer: &mut [u64], rows: usize, built
 {
     let decoder = halt_decoder(profile, buffer, rows);
     let system = system_of(built);
-    let stack = stack_of(&built[6..]);
+    let stack = halt_stack(built);
     write_row(buffer, rows, system, decoder, stack);
 }
 

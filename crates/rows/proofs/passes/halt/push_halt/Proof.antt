@@ -1,11 +1,9 @@
 -- `halt::push_halt` meets its contract.
 use mathlib.Core.Path.{_∙_}
 use mathlib.Core.List.{List}
-use Prim.Native.Nat.{ℕ, _-_}
+use Prim.Native.Nat.{ℕ}
 use native.Mathlib.Omega.{arith}
 use borrow.Author.Needs.{needs}
-use lib.ListN.{length, drop}
-use lib.Seq.{take-take}
 use Rattle.rows.proofs.records.Rooms.{row-fits}
 use Rattle.rows.specs.records.Buffers.{rowsOf, lastRow}
 use Rattle.rows.proofs.passes.HaltRows.{halt-row, put-halt}
@@ -16,7 +14,7 @@ returns : tie.Need-returns
 returns c =
     let w = c .before .before in
     let k = w .before .before in
-    let y = k .before .before in
+    let y = k .before in
     let d = y .before in
     let s = d .before .before .before .before in
     let b : List ℕ = s .args .buffer .now in
@@ -25,20 +23,9 @@ returns c =
     w .write-row .ensures
     ∙ row-fits b n _ (s .pre .0)
     ∙ put-halt (s .args .profile) built b n (omega arith)
-    (halt-row (s .args .profile) (lastRow (rowsOf n b)) (y .system-of .result) (d .halt-decoder .result) (k .stack-of .result) (d .halt-decoder .ensures) built
+    (halt-row (s .args .profile) (lastRow (rowsOf n b)) (y .system-of .result) (d .halt-decoder .result) (k .halt-stack .result) (d .halt-decoder .ensures) built
     (y .system-of .ensures)
-    (k .stack-of .ensures ∙ take-take 19 (length built - 6) (drop 6 built) (omega (arith, s .pre .1))))
+    (k .halt-stack .ensures))
 
 pub push-halt-spec : {M : Type 1} → statement M
-push-halt-spec =
-    tie.close
-    (tie.spec
-    (λ c κs. search needs)
-    (λ c κs. search needs)
-    (λ c. search needs)
-    (λ c. search needs)
-    (λ c. search needs)
-    (λ c κs. search needs)
-    (λ c κs. search needs)
-    (λ c. search needs)
-    returns)
+push-halt-spec = tie.close (tie.spec (λ c κs. search needs) (λ c κs. search needs) (λ c κs. search needs) (λ c κs. search needs) (λ c. search needs) returns)
