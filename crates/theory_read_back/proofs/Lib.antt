@@ -4,5 +4,6 @@ pub mod LoopRows
 pub mod ReadTraceCall
 pub mod RecordsAreCalls
 pub mod ReplayedCalls
+pub mod RecordedDepths
 pub mod Replays
 pub mod SameReadBack

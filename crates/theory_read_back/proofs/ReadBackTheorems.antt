@@ -3,12 +3,13 @@
 use mathlib.Core.Path.{_≡_, ap}
 use mathlib.Core.List.{List}
 use mathlib.Core.Logic.{_↔_}
-use Prim.Native.Nat.{ℕ, _/_, _≤_}
+use Prim.Native.Nat.{ℕ, _/_, _≤_, _<_}
 use denote.Ref.{now}
 use lib.ListN.{length}
 use Rattle.rows.specs.declared.records.profile.Profile.{Profile}
 use Rattle.rows.specs.records.Forests.{Forest}
 use Rattle.rows.specs.records.Addresses.{Queues}
+use Rattle.rows.specs.records.Buffers.{bufferRow}
 use Rattle.rows.specs.cycles.Made.{Cursor}
 use Rattle.theory_readings.specs.Readings.{Block, programRows, Trace}
 use Rattle.theory_readings.specs.Answers.{ReaderAnswer, accepted, Right}
@@ -17,18 +18,20 @@ use Rattle.reader.specs.Reads.{ReadsTrace}
 use Rattle.reader.specs.declared.trace.TraceRead.{TraceRead}
 use Rattle.reader.proofs.trace.read_trace.Reads as read_trace
 use Rattle.reader.proofs.ReaderExact.{one-read, some-read, is-right-answer, reads-tree, reads-as, reads-exactly}
-use Rattle.theory_runs.specs.Calls.{Fragment, AllAccepted, finalStates, cellsOf, countsOf, builtCells}
+use Rattle.theory_runs.specs.Calls.{Fragment, AllAccepted, finalStates, cellsOf, countsOf, builtCells, OneSize}
 use Rattle.theory_runs.specs.Happened.{cyclesOf}
 use Rattle.theory_runs.specs.Finished.{Runs, nesting, writtenByFive, writtenByFinisher, FivePass, FinisherPasses}
+use Rattle.theory_runs.specs.Overflow.{OverflowRule, Is32, AllDepths, DepthInRange}
 use Rattle.theory_runs.proofs.TraceOfRun.{finisher-trace, five-trace}
 use Rattle.theory_runs.proofs.ReadRun as runs
+use Rattle.theory_runs.proofs.OverflowTheorems.{finisher-overflow, five-overflow, finisher-depths, five-depths}
 use Rattle.theory_runs.proofs.OneNesting.{one-tree-ran}
 use Rattle.theory_read_back.specs.ReadBack.{ReadAs, CountsPasses, ReadBack}
 use Rattle.theory_read_back.specs.ReplayedRuns.{Lent, fragmentsOf, AllReplayed, countsReplayed, builtReplayed, cellsReplayed, ReplayedRuns, recordsNesting, finishedReplay, ReplayFinishes, fivePassedReplay, ReplayFivePass}
 use Rattle.theory_read_back.proofs.ReadTraceCall.{learns}
 use Rattle.theory_read_back.proofs.LoopRows.{counts-passes}
 use Rattle.theory_read_back.proofs.ReplayedCalls.{replayed-accepted, replayed-counts, replayed-built, replayed-cells}
-use Rattle.theory_read_back.proofs.Replays.{run-of-records, replay-finisher-trace, replay-five-trace}
+use Rattle.theory_read_back.proofs.Replays.{run-of-records, replay-finisher-trace, replay-five-trace, replay-finisher-overflow, replay-five-overflow}
 
 -- EVERY BUFFER
 
@@ -149,3 +152,38 @@ module _ (p : Profile) (f : Forest) (directory : List ℕ) (q : Queues) (size : 
   -- the nesting is taken from the records alone
   pub replay-one-nesting : (run′ : ReplayedRuns p f directory q size lents here) → recordsNesting p f directory q run ≡ recordsNesting p f directory q run′
   replay-one-nesting run′ = one-tree-ran p 0 (run .proper) (run′ .proper)
+
+-- THE OVERFLOW RULE
+
+-- N4: "A customer checked the overflow rule of the operand stack chapter on every row". Of all fragments on fresh tracers, full but for the last,
+-- with no call and no pass refused (no proper run is asked for), in each of the first height rows: helper × (b0 − 16) is 1 modulo p where b0 is
+-- above 16, and the helper is 0 where it is 16
+module _ (p : Profile) (q : Queues) (size : ℕ) (fragments : List Fragment) (here : Cursor) (accepted : AllAccepted p q fragments here) (one-size : OneSize size fragments (countsOf (finalStates p q fragments here))) where
+  -- after the finisher
+  pub written-overflow : (others top : List ℕ) (height : ℕ) → FinisherPasses p q size fragments here others top height →
+      (i : ℕ) → i < height → OverflowRule (bufferRow i (writtenByFinisher p q size fragments here others top height))
+  written-overflow = finisher-overflow p q size fragments here accepted one-size
+
+  -- after the five calls, one after another
+  pub written-by-five-overflow : (others top : List ℕ) (height : ℕ) → FivePass p q size fragments here others top height →
+      (i : ℕ) → i < height → OverflowRule (bufferRow i (writtenByFive p q size fragments here others top height))
+  written-by-five-overflow = five-overflow p q size fragments here accepted one-size
+
+  -- and no row is left out by it: b0 is 16 or more, and of 32 bits as the depths of the cycles are
+  pub written-depths : AllDepths Is32 fragments → (others top : List ℕ) (height : ℕ) → FinisherPasses p q size fragments here others top height →
+      (i : ℕ) → i < height → DepthInRange (bufferRow i (writtenByFinisher p q size fragments here others top height))
+  written-depths depths others top height = finisher-depths p q size fragments here accepted one-size others top height depths
+
+  pub written-by-five-depths : AllDepths Is32 fragments → (others top : List ℕ) (height : ℕ) → FivePass p q size fragments here others top height →
+      (i : ℕ) → i < height → DepthInRange (bufferRow i (writtenByFive p q size fragments here others top height))
+  written-by-five-depths depths others top height = five-depths p q size fragments here accepted one-size others top height depths
+
+-- over replay, where a record's depth is of 32 bits or refused
+module _ (p : Profile) (f : Forest) (directory : List ℕ) (q : Queues) (size : ℕ) (lents : List Lent) (here : Cursor) (replays : AllReplayed p f directory q lents here) (one-size : OneSize size (fragmentsOf f directory lents) (countsReplayed p f directory q lents here)) where
+  pub replay-overflow : (others top : List ℕ) (height : ℕ) → ReplayFinishes p f directory q size lents here others top height →
+      (i : ℕ) → i < height → OverflowRule (bufferRow i (finishedReplay p f directory q size lents here others top height)) × DepthInRange (bufferRow i (finishedReplay p f directory q size lents here others top height))
+  replay-overflow = replay-finisher-overflow p f directory q size lents here replays one-size
+
+  pub replay-by-five-overflow : (others top : List ℕ) (height : ℕ) → ReplayFivePass p f directory q size lents here others top height →
+      (i : ℕ) → i < height → OverflowRule (bufferRow i (fivePassedReplay p f directory q size lents here others top height)) × DepthInRange (bufferRow i (fivePassedReplay p f directory q size lents here others top height))
+  replay-by-five-overflow = replay-five-overflow p f directory q size lents here replays one-size

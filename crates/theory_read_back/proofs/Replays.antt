@@ -1,15 +1,20 @@
--- What is finished over replayed fragments is a trace, and its reading is the nesting of the records.
+-- What is finished over replayed fragments is a trace, and its reading is the nesting of the records; every row keeps the overflow rule.
 use mathlib.Core.List.{List}
-use Prim.Native.Nat.{ℕ}
+use Prim.Native.Nat.{ℕ, _<_}
 use Rattle.rows.specs.declared.records.profile.Profile.{Profile}
 use Rattle.rows.specs.records.Forests.{Forest}
 use Rattle.rows.specs.records.Addresses.{Queues}
+use Rattle.rows.specs.records.Buffers.{bufferRow}
 use Rattle.rows.specs.cycles.Made.{Cursor}
 use Rattle.theory_readings.specs.Readings.{Trace}
+use Rattle.theory_runs.specs.Calls.{AllAccepted, finalStates, countsOf, OneSize}
 use Rattle.theory_runs.specs.Finished.{Runs}
+use Rattle.theory_runs.specs.Overflow.{OverflowRule, DepthInRange}
 use Rattle.theory_runs.proofs.TraceOfRun.{finisher-trace, five-trace}
-use Rattle.theory_read_back.specs.ReplayedRuns.{Lent, fragmentsOf, ReplayedRuns, recordsNesting, finishedReplay, ReplayFinishes, fivePassedReplay, ReplayFivePass}
+use Rattle.theory_runs.proofs.OverflowTheorems.{finisher-overflow, five-overflow, finisher-depths, five-depths}
+use Rattle.theory_read_back.specs.ReplayedRuns.{Lent, fragmentsOf, AllReplayed, countsReplayed, ReplayedRuns, recordsNesting, finishedReplay, ReplayFinishes, fivePassedReplay, ReplayFivePass}
 use Rattle.theory_read_back.proofs.ReplayedCalls.{replayed-accepted, replayed-counts, replayed-built, replayed-cells}
+use Rattle.theory_read_back.proofs.RecordedDepths.{recorded-depths}
 
 module _ (p : Profile) (f : Forest) (directory : List ℕ) (q : Queues) (size : ℕ) (lents : List Lent) (here : Cursor) (runs : ReplayedRuns p f directory q size lents here) where
   -- a replayed run is a run of the calls of its records
@@ -39,3 +44,29 @@ module _ (p : Profile) (f : Forest) (directory : List ℕ) (q : Queues) (size : 
     replay-five-trace =
         rw (replayed-counts p f directory q lents here (runs .replays), replayed-built p f directory q lents here (runs .replays), replayed-cells p f directory q lents here (runs .replays))
         (five-trace p q size (fragmentsOf f directory lents) here run-of-records others top height)
+
+-- the overflow rule and the depths, of replays that need not be of a proper run
+module _ (p : Profile) (f : Forest) (directory : List ℕ) (q : Queues) (size : ℕ) (lents : List Lent) (here : Cursor) (replays : AllReplayed p f directory q lents here) (one-size : OneSize size (fragmentsOf f directory lents) (countsReplayed p f directory q lents here)) (others top : List ℕ) (height : ℕ) where
+  accepted : AllAccepted p q (fragmentsOf f directory lents) here
+  accepted = replayed-accepted p f directory q lents here replays
+
+  sized : OneSize size (fragmentsOf f directory lents) (countsOf (finalStates p q (fragmentsOf f directory lents) here))
+  sized = rw (replayed-counts p f directory q lents here replays) at one-size
+
+  pub replay-finisher-overflow : ReplayFinishes p f directory q size lents here others top height → (i : ℕ) → i < height →
+      OverflowRule (bufferRow i (finishedReplay p f directory q size lents here others top height)) × DepthInRange (bufferRow i (finishedReplay p f directory q size lents here others top height))
+  replay-finisher-overflow =
+      rw (replayed-counts p f directory q lents here replays, replayed-built p f directory q lents here replays, replayed-cells p f directory q lents here replays)
+      (λ e i low. (
+        finisher-overflow p q size (fragmentsOf f directory lents) here accepted sized others top height e i low,
+        finisher-depths p q size (fragmentsOf f directory lents) here accepted sized others top height (recorded-depths f directory lents) e i low,
+      ))
+
+  pub replay-five-overflow : ReplayFivePass p f directory q size lents here others top height → (i : ℕ) → i < height →
+      OverflowRule (bufferRow i (fivePassedReplay p f directory q size lents here others top height)) × DepthInRange (bufferRow i (fivePassedReplay p f directory q size lents here others top height))
+  replay-five-overflow =
+      rw (replayed-counts p f directory q lents here replays, replayed-built p f directory q lents here replays, replayed-cells p f directory q lents here replays)
+      (λ e i low. (
+        five-overflow p q size (fragmentsOf f directory lents) here accepted sized others top height e i low,
+        five-depths p q size (fragmentsOf f directory lents) here accepted sized others top height (recorded-depths f directory lents) e i low,
+      ))
