@@ -1,6 +1,7 @@
 //! The comparison: the same calls and passes by the listed Rust and by the proved library, field by field. The listed Rust is given reduced
 //! cells; the library is given the same or, in every second run, numbers from p on for some of them. What the library writes and answers is
-//! compared as it stands.
+//! compared as it stands. Left out is the helper cell of HALT rows from depth 18 up and no other: it is held to the documentation's overflow
+//! rule alone, as every row of a finished trace is.
 
 use std::collections::BTreeMap;
 use std::panic::{AssertUnwindSafe, catch_unwind};
@@ -16,13 +17,13 @@ use crate::listed::stand_ins::air::{StackCols, SystemCols};
 use crate::listed::stand_ins::core_crate::mast::SparseMastForest;
 use crate::listed::stand_ins::field::Felt;
 use crate::listed::whole::{self, Start, refusal};
+use crate::overflow::{DEPTH, HELPER, is_deep_halt, is_inverse, overflow_rule};
 use crate::profile::EXAMPLE;
-use crate::random::{Rng, Run, raised, raised_run, raised_state};
+use crate::random::{DEPTHS, Rng, Run, raised, raised_run, raised_state};
 
 const P: u64 = 18446744069414584321;
 const GROUP_COUNT: usize = 23;
 const STACK: usize = 30;
-const HELPER: usize = 48;
 
 /// The names of the 49 columns.
 pub fn column(i: usize) -> String {
@@ -59,6 +60,12 @@ pub struct Tally {
     pub calls: u64,
     pub rows: u64,
     pub cells: u64,
+    /// Cells that were left out: helpers of HALT rows from depth 18 up.
+    pub left_out: u64,
+    /// Rows of finished traces that were held to the overflow rule, each as the five calls and as the finisher leave it.
+    pub rule_rows: u64,
+    /// How often a finished run ended at which depth.
+    pub depths: BTreeMap<u64, u64>,
     pub differences: u64,
     /// The first differences, in words.
     pub told: Vec<String>,
@@ -78,6 +85,22 @@ impl Tally {
             self.differ(format!("{what}: {ours:?}, the listed Rust {listed:?}"));
         }
     }
+    /// The helper cell of a HALT row from depth 18 up: depth − 16 in the listed Rust, its inverse here.
+    fn leave_out(&mut self, place: &str, ours: u64, listed: &[u64]) {
+        self.left_out += 1;
+        let above = listed[DEPTH] - 16;
+        self.same(&format!("{place}: depth − 16"), above, listed[HELPER]);
+        if !is_inverse(ours, above) {
+            self.differ(format!("{place}: {ours} is not the inverse of {above}"));
+        }
+    }
+    /// Every row of a finished trace keeps the overflow rule.
+    fn hold_to_rule(&mut self, stage: &str, cells: &[u64]) {
+        match overflow_rule(cells) {
+            Ok(rows) => self.rule_rows += rows as u64,
+            Err(text) => self.differ(format!("{stage}: {text}")),
+        }
+    }
     /// The first `rows` rows of both, field by field. A cell that the stage writes must be the listed Rust's; the others must be as they were
     /// before, and the listed Rust's modulo p.
     fn same_rows(
@@ -91,21 +114,31 @@ impl Tally {
     ) {
         for row in 0..rows {
             let a = &ours[row * WIDTH..][..WIDTH];
-            let b = &listed[row * CORE_STORAGE_WIDTH..][..CORE_STORAGE_WIDTH];
+            let b: [u64; CORE_STORAGE_WIDTH] = core::array::from_fn(|i| listed[row * CORE_STORAGE_WIDTH + i].as_canonical_u64());
+            let is_deep_halt = is_deep_halt(&b);
             for i in 0..WIDTH {
                 let is_written = writes(row, i);
                 let cell = if is_written { a[i] } else { a[i] % P };
-                if cell != b[i].as_canonical_u64() {
+                if is_deep_halt && i == HELPER {
+                    self.leave_out(&format!("{stage}, row {row}, {}", column(i)), cell, &b);
+                } else if cell != b[i] {
                     self.differ(format!("{stage}, row {row}, {}: {}, the listed Rust {}", column(i), a[i], b[i]));
                 }
                 if !is_written && a[i] != before[row * WIDTH + i] {
                     self.differ(format!("{stage}, row {row}, {}: {} was {}", column(i), a[i], before[row * WIDTH + i]));
                 }
             }
-            self.same("the two cells behind a row", &[0, 0][..], &b[WIDTH..].iter().map(Felt::as_canonical_u64).collect::<Vec<_>>());
+            self.same("the two cells behind a row", &[0, 0][..], &b[WIDTH..]);
+            self.cells += (WIDTH - usize::from(is_deep_halt)) as u64;
         }
         self.rows += rows as u64;
-        self.cells += (rows * WIDTH) as u64;
+    }
+    /// How many finished runs ended at which depth, in words.
+    pub fn ends(&self) -> String {
+        let at = |depth: u32| self.depths.get(&depth.into()).copied().unwrap_or(0);
+        let deep: u64 = self.depths.range(18..).map(|(_, runs)| runs).sum();
+        let named = DEPTHS.map(|depth| format!("{depth}: {}", at(depth))).join(", ");
+        format!("{named}, others: {}; 18 and up: {deep}", self.finished - DEPTHS.map(at).iter().sum::<u64>())
     }
     fn refused(&mut self, ours: u32, listed: &str) {
         *self.refusals.entry((ours, listed.into())).or_default() += 1;
@@ -246,6 +279,7 @@ struct Made<'a> {
 fn compare_passes(made: Made<'_>, mut buffer: Vec<u64>, mut data: Vec<Felt>, tally: &mut Tally) -> Option<Vec<u64>> {
     let Made { run, top, forests, rows, height, counts, built, stack_rows, system_rows, contexts } = made;
     let size = run.fragment_size;
+    let left_out = tally.left_out;
     let replayed = buffer.clone();
     // What each pass writes.
     let is_loop = |row: usize| (0..7).all(|bit| replayed[row * WIDTH + 7 + bit] % P == u64::from(EXAMPLE.loop_op >> bit & 1));
@@ -255,6 +289,9 @@ fn compare_passes(made: Made<'_>, mut buffer: Vec<u64>, mut data: Vec<Felt>, tal
     let any = |row: usize, i: usize| row >= rows || fixes(row, i) || counts_at(row, i) || inverts(row, i);
     let mut finished = buffer.clone();
     let all = exports::finish(EXAMPLE, &mut finished, size, &counts, &built, &top, height);
+    if all.is_ok() {
+        tally.hold_to_rule("finish", &finished[..height * WIDTH]);
+    }
     let generated = refusal(catch_unwind(AssertUnwindSafe(|| passes::generate(contexts, size, &forests))));
 
     // Pass 1.
@@ -293,6 +330,7 @@ fn compare_passes(made: Made<'_>, mut buffer: Vec<u64>, mut data: Vec<Felt>, tal
     tally.same("pass 5", exports::pad_core_row_major(EXAMPLE, &mut buffer, rows + 1, height), Ok(()));
     passes::pad(&mut data, height);
     tally.same_rows("pass 5", height, &before, &buffer, &data, |row, _| row > rows);
+    tally.hold_to_rule("the five passes", &buffer[..height * WIDTH]);
     // All at once.
     let mut generated = generated.expect("no pass was refused");
     passes::pad(&mut generated, height);
@@ -300,6 +338,13 @@ fn compare_passes(made: Made<'_>, mut buffer: Vec<u64>, mut data: Vec<Felt>, tal
     if finished != buffer || finished[height * WIDTH..] != replayed[height * WIDTH..] {
         tally.differ("the finisher and the five passes leave different buffers".into());
     }
+    // Nothing else was left out: the HALT row of pass 4, and HALT with its padding behind pass 5 and the finisher.
+    let depth = stack_rows.last().unwrap().b0.as_canonical_u64();
+    let halts = if depth < 18 { 0 } else { 1 + 2 * (height - rows) };
+    if tally.left_out - left_out != halts as u64 {
+        tally.differ(format!("{} cells left out for {halts} HALT rows from depth 18 up", tally.left_out - left_out));
+    }
+    *tally.depths.entry(depth).or_default() += 1;
     tally.finished += 1;
     finished.truncate(height * WIDTH);
     Some(finished)

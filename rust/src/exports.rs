@@ -266,12 +266,12 @@ pub fn invert_helper_column(buffer: &mut [u64], rows: usize) -> Result<(), Refus
     accepted(unsafe { foreign::core_invert_helper_column(buffer.as_mut_ptr(), buffer.len(), rows) })
 }
 
-/// Pass 4: a HALT row behind the first `rows` rows, with the cells built last.
+/// Pass 4: a HALT row behind the first `rows` rows, with the cells built last, their helper inverted.
 pub fn push_halt_opcode_row(profile: Profile, buffer: &mut [u64], rows: usize, built: &[u64; BUILT]) -> Result<(), Refusal> {
     accepted(unsafe { foreign::core_push_halt(profile, buffer.as_mut_ptr(), buffer.len(), rows, built) })
 }
 
-/// Pass 5: HALT rows from row `rows` to the height.
+/// Pass 5: HALT rows from row `rows` to the height, with the stack cells of the row before, the helper as it is there.
 pub fn pad_core_row_major(profile: Profile, buffer: &mut [u64], rows: usize, height: usize) -> Result<(), Refusal> {
     accepted(unsafe { foreign::core_pad(profile, buffer.as_mut_ptr(), buffer.len(), rows, height) })
 }

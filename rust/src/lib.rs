@@ -15,6 +15,7 @@ pub mod forest;
 #[cfg(listed)]
 pub mod listed;
 pub mod listing;
+pub mod overflow;
 pub mod profile;
 pub mod random;
 #[cfg(all(listed, archive))]

@@ -5,6 +5,8 @@ use crate::calls::{
 };
 use crate::forest::{MastNode, OpBatch, Queues, Slot};
 #[cfg(archive)]
+use crate::overflow::overflow_rule;
+#[cfg(archive)]
 use crate::profile::EXAMPLE;
 use crate::profile::Profile;
 use crate::random::Run;
@@ -75,6 +77,7 @@ pub fn trace() -> Vec<u64> {
     let rows = &mut buffer[..(HEIGHT - 1) * WIDTH];
     let left = replay_calls(&lent, &run.queues, EXAMPLE, run.state, Default::default(), &calls, rows).expect("the calls are right");
     finish(EXAMPLE, &mut buffer, HEIGHT - 1, &[left.rows as u32], &left.built, &run.first_stack_top, HEIGHT).expect("the rows are right");
+    overflow_rule(&buffer).expect("every row keeps the rule");
     buffer
 }
 

@@ -80,6 +80,16 @@ pub struct Run {
     pub nesting: Option<Vec<u32>>,
 }
 
+impl Run {
+    /// The cycles, the last one first.
+    pub fn cycles_from_last(&mut self) -> impl Iterator<Item = &mut Cycle> {
+        self.fragments.iter_mut().rev().flat_map(|calls| calls.iter_mut().rev()).filter_map(|call| match call {
+            Call::Cycle(cycle) => Some(cycle),
+            Call::Store(_) => None,
+        })
+    }
+}
+
 /// A storing and its cycle.
 pub type Pair = (StoredValues, Cycle);
 
@@ -732,6 +742,23 @@ pub fn any_calls(rng: &Rng, limit: usize) -> Run {
     let state = DecoderState { current_addr: rng.cell(), parent_addr: rng.cell() };
     let first_stack_top = stack_top(rng);
     Run { forests, queues, state, first_stack_top, fragment_size: size, fragments, nesting: None }
+}
+
+// DEPTHS
+// ------------------------------------------------------------------------------------------------
+
+/// Depths whose helpers, 16 less, are 0 and 1 (each its own inverse), 2, 1023 (the last that is looked up), 1024 and the largest.
+pub const DEPTHS: [u32; 6] = [16, 17, 18, 1039, 1040, u32::MAX];
+
+/// The run with such a depth in one of four cycles, and three times of four in the last, whose depth HALT has. A depth below 16 stays.
+pub fn with_depths(rng: &Rng, mut run: Run) -> Run {
+    for (behind, cycle) in run.cycles_from_last().enumerate() {
+        let is_other = rng.one_in(4) != (behind == 0);
+        if is_other && cycle.stack.stack_depth >= 16 {
+            cycle.stack.stack_depth = rng.pick(&DEPTHS);
+        }
+    }
+    run
 }
 
 // CELLS FROM P ON

@@ -2,10 +2,14 @@
 #![cfg(archive)]
 
 use core_trace::exports::*;
+use core_trace::overflow::{is_inverse, overflow_rule};
 use core_trace::profile::{EXAMPLE, Profile};
+use core_trace::random::Rng;
 
 const P: u64 = 18446744069414584321;
 const NONE: [u64; 16] = [0; 16];
+/// The inverse of 2.
+const HALF: u64 = 9223372034707292161;
 
 /// A row of zeros with an opcode and an address.
 fn row(opcode: u8, addr: u64) -> [u64; WIDTH] {
@@ -129,18 +133,18 @@ fn multiplicities() {
 fn helper_column() {
     let mut buffer = vec![2; 2 * WIDTH];
     assert_eq!(invert_helper_column(&mut buffer, 1), Ok(()));
-    assert_eq!(buffer[48], 9223372034707292161);
+    assert_eq!(buffer[48], HALF);
     assert_eq!(buffer[97], 2);
     refused(invert_helper_column(&mut buffer, 3), 11);
     let mut above = [P + 2; WIDTH];
     assert_eq!(invert_helper_column(&mut above, 1), Ok(()));
-    assert_eq!((above[47], above[48]), (P + 2, 9223372034707292161));
+    assert_eq!((above[47], above[48]), (P + 2, HALF));
     let mut zero = [P; WIDTH];
     assert_eq!(invert_helper_column(&mut zero, 1), Ok(()));
     assert_eq!(zero[48], 0);
 }
 
-/// The HALT row has the cells built last, its helper as it is, and padding repeats it.
+/// The HALT row has the cells built last, the helper inverted, and padding repeats it.
 #[test]
 fn halts() {
     let mut buffer = vec![9; 4 * WIDTH];
@@ -149,7 +153,8 @@ fn halts() {
     assert_eq!(pad_core_row_major(EXAMPLE, &mut buffer, 2, 3), Ok(()));
     let (halt, padding) = (&buffer[49..98], &buffer[98..147]);
     assert_eq!(halt[..6], built[..6]);
-    assert_eq!(halt[30..], built[6..]);
+    assert_eq!(halt[30..48], built[6..24]);
+    assert!(is_inverse(halt[48], built[24]));
     assert_eq!(halt[6..14], row(EXAMPLE.halt, 0)[6..14]);
     assert_eq!(halt[14..22], [9, 9, 9, 9, 0, 0, 0, 0]);
     assert_eq!(halt[22..30], [0, 0, 0, 0, 0, 0, 0, 1]);
@@ -170,14 +175,40 @@ fn halts_from_p_on() {
     assert_eq!(push_halt_opcode_row(EXAMPLE, &mut buffer, 1, &built), Ok(()));
     assert_eq!(buffer[..49], [P + 9; 49]);
     assert!(buffer[49..55].iter().copied().eq(50..56));
-    assert!(buffer[79..98].iter().copied().eq(56..75));
+    assert!(buffer[79..97].iter().copied().eq(56..74));
+    assert!(is_inverse(buffer[97], 74));
     assert_eq!(buffer[63..71], [9, 9, 9, 9, 0, 0, 0, 0]);
+    // p more than the inverse is over 64 bits; 3 stands for it.
+    buffer[97] = 3;
     buffer[49..98].iter_mut().for_each(|cell| *cell += P);
     let halt = buffer[49..98].to_vec();
     assert_eq!(pad_core_row_major(EXAMPLE, &mut buffer, 2, 3), Ok(()));
     assert_eq!(buffer[49..98], halt);
     assert!(buffer[98 + 6..147].iter().copied().eq(halt[6..].iter().map(|cell| cell - P)));
     assert_eq!(buffer[98..104], [2, 0, 0, 0, 0, 0]);
+}
+
+/// N4: the helper of HALT is the inverse of the built one, which may be from p on, whatever the depth beside it; padding repeats it.
+#[test]
+fn halt_helpers() {
+    let halted = |helper: u64| {
+        let mut buffer = vec![9; 3 * WIDTH];
+        let mut built = [5; BUILT];
+        built[24] = helper;
+        assert_eq!(push_halt_opcode_row(EXAMPLE, &mut buffer, 1, &built), Ok(()));
+        assert_eq!(pad_core_row_major(EXAMPLE, &mut buffer, 2, 3), Ok(()));
+        assert_eq!((buffer[WIDTH + 46], buffer[2 * WIDTH + 46]), (5, 5));
+        assert_eq!(buffer[2 * WIDTH + 48], buffer[WIDTH + 48]);
+        buffer[WIDTH + 48]
+    };
+    for (helper, wanted) in [(0, 0), (1, 1), (2, HALF), (P - 1, P - 1), (P, 0), (P + 1, 1), (P + 2, HALF)] {
+        assert_eq!(halted(helper), wanted);
+        assert!(is_inverse(wanted, helper));
+    }
+    let rng = Rng::new(9);
+    for helper in (0..1000).map(|_| rng.next()).chain([1023, 1024, P + 1023, P + 1024, 4294967279, P - 2, u64::MAX]) {
+        assert!(is_inverse(halted(helper), helper), "{helper}");
+    }
 }
 
 /// The finisher is the five passes; each of its refusals leaves the buffer.
@@ -195,6 +226,8 @@ fn finisher() {
     assert_eq!(push_halt_opcode_row(EXAMPLE, &mut steps, 6, &[5; BUILT]), Ok(()));
     assert_eq!(pad_core_row_major(EXAMPLE, &mut steps, 7, 8), Ok(()));
     assert_eq!(whole, steps);
+    // Built cells of anybody: their helper, not the depth, is inverted.
+    assert!([6, 7].iter().all(|row| whole[row * WIDTH + 46] == 5 && is_inverse(whole[row * WIDTH + 48], 5)));
     let before = whole.clone();
     refused(finish(EXAMPLE, &mut whole, 4, &counts, &built, &NONE, 6), 11);
     refused(finish(EXAMPLE, &mut whole, 4, &counts, &built, &NONE, 10), 11);
@@ -208,7 +241,6 @@ fn finisher() {
 mod read {
     use core_trace::checker::check;
     use core_trace::exports::row;
-    use core_trace::random::Rng;
     use core_trace::words::{self, word};
 
     use super::*;
@@ -516,29 +548,79 @@ mod replayed {
     use core_trace::calls::{DecoderState, Positions, RECORD, records};
     use core_trace::forest::Forests;
     use core_trace::listing;
-    use core_trace::random::{Rng, Run, raised, raised_run};
+    use core_trace::random::{Run, raised, raised_run};
 
     use super::*;
+
+    /// What replay leaves of a run: the rows in a buffer of the height, the rows of each fragment and the built cells.
+    struct Rows {
+        buffer: Vec<u64>,
+        counts: Vec<u32>,
+        built: Vec<u64>,
+    }
+
+    fn rows(run: &Run, height: usize) -> Rows {
+        let lent = Forests::new(&run.forests);
+        let mut buffer = vec![P; height * WIDTH];
+        let (mut state, mut at, mut counts, mut built) = (run.state, Positions::default(), Vec::new(), Vec::new());
+        for (k, calls) in run.fragments.iter().enumerate() {
+            let end = ((k + 1) * run.fragment_size).min(height);
+            let part = &mut buffer[k * run.fragment_size * WIDTH..end * WIDTH];
+            let left = replay_calls(&lent, &run.queues, EXAMPLE, state, at, &records(calls), part).unwrap();
+            counts.push(left.rows as u32);
+            built.extend(left.built);
+            (state, at) = (left.state, left.at);
+        }
+        Rows { buffer, counts, built }
+    }
+
+    /// The trace of a run, finished at once.
+    fn finished(run: &Run, height: usize) -> Vec<u64> {
+        let Rows { mut buffer, counts, built } = rows(run, height);
+        finish(EXAMPLE, &mut buffer, run.fragment_size, &counts, &built, &run.first_stack_top, height).unwrap();
+        buffer
+    }
+
+    /// The trace of a run, finished pass by pass.
+    fn finished_by_passes(run: &Run, height: usize) -> Vec<u64> {
+        let Rows { mut buffer, counts, built } = rows(run, height);
+        let rows = counts.iter().sum::<u32>() as usize;
+        fixup_stack_and_system_rows(&mut buffer, run.fragment_size, &counts, &built, &run.first_stack_top).unwrap();
+        set_loop_body_multiplicities(EXAMPLE, &mut buffer, rows).unwrap();
+        invert_helper_column(&mut buffer, rows).unwrap();
+        push_halt_opcode_row(EXAMPLE, &mut buffer, rows, built.last_chunk().unwrap()).unwrap();
+        pad_core_row_major(EXAMPLE, &mut buffer, rows + 1, height).unwrap();
+        buffer
+    }
 
     /// C10, for each fragment size.
     #[test]
     fn listing_in_fragments() {
         for size in 1..=10 {
-            let run = listing::run(size);
-            let lent = Forests::new(&run.forests);
-            let mut buffer = vec![P; listing::HEIGHT * WIDTH];
-            let (mut state, mut at, mut counts, mut built) = (run.state, Positions::default(), Vec::new(), Vec::new());
-            for (k, calls) in run.fragments.iter().enumerate() {
-                let end = ((k + 1) * size).min(listing::HEIGHT);
-                let part = &mut buffer[k * size * WIDTH..end * WIDTH];
-                let left = replay_calls(&lent, &run.queues, EXAMPLE, state, at, &records(calls), part).unwrap();
-                counts.push(left.rows as u32);
-                built.extend(left.built);
-                (state, at) = (left.state, left.at);
-            }
-            finish(EXAMPLE, &mut buffer, size, &counts, &built, &run.first_stack_top, listing::HEIGHT).unwrap();
+            let buffer = finished(&listing::run(size), listing::HEIGHT);
+            assert_eq!(overflow_rule(&buffer), Ok(listing::HEIGHT));
             let rows = buffer.chunks(WIDTH).map(|row| row.try_into().unwrap());
             assert_eq!(listing::table(&EXAMPLE, rows), listing::TABLE);
+        }
+    }
+
+    /// N4: C10 ending at a depth. HALT and its padding have the inverse of depth − 16.
+    #[test]
+    fn ends_at_a_depth() {
+        // By Python's pow(depth - 16, -1, p).
+        let helpers =
+            [(16, 0), (17, 1), (18, HALF), (1039, 4255553861565827859), (1040, 18428729670909296641), (4294967295, 540563928758321272)];
+        for (depth, helper) in helpers {
+            for size in 1..=10 {
+                let mut run = listing::run(size);
+                run.cycles_from_last().next().unwrap().stack.stack_depth = depth;
+                let trace = finished(&run, 12);
+                assert_eq!(finished_by_passes(&run, 12), trace);
+                assert_eq!(overflow_rule(&trace), Ok(12));
+                for halt in trace.chunks(WIDTH).skip(9) {
+                    assert_eq!((halt[46], halt[48]), (depth.into(), helper));
+                }
+            }
         }
     }
 
@@ -556,6 +638,7 @@ mod replayed {
             Ok(buffer)
         };
         let wanted = trace(&plain, &Forests::new(&plain.forests));
+        assert_eq!(overflow_rule(wanted.as_ref().unwrap()), Ok(listing::HEIGHT));
         for _ in 0..20 {
             let run = raised_run(&rng, &plain);
             assert_eq!(trace(&run, &Forests::new(&run.forests)), wanted);

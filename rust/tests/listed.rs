@@ -4,8 +4,9 @@
 use core_trace::listed::convert;
 use core_trace::listed::stand_ins::field::{Felt, P};
 use core_trace::listed::whole;
+use core_trace::overflow::{invert_deep_halts, overflow_rule};
 use core_trace::profile::EXAMPLE;
-use core_trace::random::Rng;
+use core_trace::random::{DEPTHS, Rng};
 use core_trace::{calls, listing};
 
 /// C10: the listing of document 01.
@@ -33,6 +34,27 @@ fn field() {
         assert_eq!(convert::felt(a) * convert::felt(a).inverse(), convert::felt(1));
     }
     assert_eq!(convert::felt(2).inverse(), convert::felt(9223372034707292161));
+}
+
+/// N4: from depth 18 up the HALT rows of the listed Rust break the overflow rule; with their helpers inverted they keep it.
+#[test]
+fn halts_break_the_overflow_rule() {
+    for depth in DEPTHS {
+        let mut run = listing::run(9);
+        run.cycles_from_last().next().unwrap().stack.stack_depth = depth;
+        let listed: Vec<u64> = whole::rows(&whole::trace(&run, 12).unwrap()).flatten().collect();
+        let mut documented = listed.clone();
+        invert_deep_halts(&mut documented);
+        assert_eq!(overflow_rule(&documented), Ok(12));
+        let changed: Vec<usize> = (0..listed.len()).filter(|&at| listed[at] != documented[at]).collect();
+        let helpers = [9, 10, 11].map(|row| row * 49 + 48);
+        assert!(helpers.iter().all(|&at| listed[at] == u64::from(depth) - 16));
+        if depth < 18 {
+            assert!(overflow_rule(&listed).is_ok() && changed.is_empty());
+        } else {
+            assert!(overflow_rule(&listed).is_err_and(|text| text.starts_with("row 9 ")) && changed == helpers);
+        }
+    }
 }
 
 /// C2 and C3.

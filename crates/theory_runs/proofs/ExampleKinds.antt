@@ -42,6 +42,7 @@ use Rattle.theory_readings.proofs.Examples.{profile}
 use Rattle.theory_runs.specs.Calls.{Call, store, finish, Fragment, after, callRefusal, afterAll, Accepted, AllAccepted, finalStates, cellsOf, countsOf, builtCells, OneSize}
 use Rattle.theory_runs.specs.Happened.{nothingStored, startOf, operationAt, finishOf, didBy, didStored, usedBy, positionsAfter, stored, leftBy, inForceAfter, inForceAfterAll, cyclesIn, cyclesOf}
 use Rattle.theory_runs.specs.ProperRuns.{Holds, HasOperations, HasOpcode, Child, withLoop, loopStarts, endingOf, InBlock, Run, RunPasses, opsFrom, treeFrom}
+use Rattle.theory_runs.specs.Overflow.{b0Cell, helperCell}
 use Rattle.theory_runs.specs.Finished.{Runs, nesting, finisherBuffer, writtenByFinisher, FinisherPasses}
 use Rattle.theory_runs.proofs.TraceOfRun.{finisher-trace}
 
@@ -246,3 +247,12 @@ listing : fields (allRows (writtenByFinisher profile queued 5 fragments begin []
     ∷ (112, 11, 0) ∷ (112, 1, 0) ∷ (124, 0, 0) ∷ (124, 0, 0) ∷ []
 unfolding forestA forestB queued begin storeOf cycleOf part1 part2 part3 part4 part5 part6 part7 fragments AllAccepted Accepted callRefusal after afterAll finalState cycle cycleWith scanOf anyBigOpcode forestTooLarge anyLongBlock anyLargeBatch readRegisters helpersOfCells systemCells stackCells anyFrom profileWrong opcodes twoEqual isOneOf lacksBits fragmentWrong made startNode startKind startBlock startTwo startOne startDyn startDyncall madeEnd madeRepeat finishLoop bodyOf callKind dynKind blockKind entryKind operationMade resumed madeRespan respanStep nodeAt nodeOf isSlot digestAt opcodeAt blockOf startedAt entryAt endAt batchAt isBatch startsAt batchFlags flagsUpTo8 contextAtOp contextAtBatchStart lentBatches groupOf falling groupFrom placeIn contextInGroup consumed counts doubled roundUp groupsOf sumGroups anyAbove8 groupSum pushes opContext tooLarge helpersAnswer allBelow u32Values helpersOf tracerAfter leftAfter storedIn fragmentAfter putRow rowCells decoderCells fresh builtSystem builtStack noSystem noStack lastSystem lastStack controlFlow basicBlockBatch operation wordAt finalStates countsOf forPasses builtCells cellsOf refusalAll firstOf sumOf fragmentsWrong bufferWrong fewerRows anyAbove heightWrong notFull loopWithoutBody anyWithoutBody bodyEnds rowsOf opcodeOf lowBits flaggedEnd finisherBuffer allPasses onRows flat fixedUp firstRow withSides laterRows builtOf multiplied withCounts inverted inverseOf euclid lastBuilt halted lastRow haltRow haltDecoder haltStack padded paddingRows paddingRow allRows fields cellAt reduced readSystem readStack readState readCaptured
 listing = refl
+
+-- depth and helper of each row: 16 and 0 in row 0, then 18 and the inverse of 2, in the HALT rows as in the others (N4)
+unfoldable stacks : List (List ℕ) → List (ℕ × ℕ)
+stacks [] = []
+stacks (row ∷ rows) = (b0Cell row, helperCell row) ∷ stacks rows
+
+helpers : stacks (allRows (writtenByFinisher profile queued 5 fragments begin [] (replicate 16 0) 34)) ≡ (16, 0) ∷ replicate 33 (18, 9223372034707292161)
+unfolding forestA forestB queued begin storeOf cycleOf part1 part2 part3 part4 part5 part6 part7 fragments AllAccepted Accepted callRefusal after afterAll finalState cycle cycleWith scanOf anyBigOpcode forestTooLarge anyLongBlock anyLargeBatch readRegisters helpersOfCells systemCells stackCells anyFrom profileWrong opcodes twoEqual isOneOf lacksBits fragmentWrong made startNode startKind startBlock startTwo startOne startDyn startDyncall madeEnd madeRepeat finishLoop bodyOf callKind dynKind blockKind entryKind operationMade resumed madeRespan respanStep nodeAt nodeOf isSlot digestAt opcodeAt blockOf startedAt entryAt endAt batchAt isBatch startsAt batchFlags flagsUpTo8 contextAtOp contextAtBatchStart lentBatches groupOf falling groupFrom placeIn contextInGroup consumed counts doubled roundUp groupsOf sumGroups anyAbove8 groupSum pushes opContext tooLarge helpersAnswer allBelow u32Values helpersOf tracerAfter leftAfter storedIn fragmentAfter putRow rowCells decoderCells fresh builtSystem builtStack noSystem noStack lastSystem lastStack controlFlow basicBlockBatch operation wordAt finalStates countsOf forPasses builtCells cellsOf refusalAll firstOf sumOf fragmentsWrong bufferWrong fewerRows anyAbove heightWrong notFull loopWithoutBody anyWithoutBody bodyEnds rowsOf opcodeOf lowBits flaggedEnd finisherBuffer allPasses onRows flat fixedUp firstRow withSides laterRows builtOf multiplied withCounts inverted inverseOf euclid lastBuilt halted lastRow haltRow haltDecoder haltStack padded paddingRows paddingRow allRows stacks cellAt reduced readSystem readStack readState readCaptured
+helpers = refl

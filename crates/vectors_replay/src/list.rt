@@ -1,7 +1,8 @@
 // A list: how many runs it has, and for each: profile (14), fragment size, height, first stack top (16), address state (2); nodes, digests,
 // batches, groups, opcodes, directory, addresses, parents and ends, each with its length before it (parts 0 to 8 of the run); how many
 // fragments, and for each its records with their length before them, then the rows, built cells (25), address state (2) and queue positions
-// (3) that it leaves; the cells of the finished trace with their number before them. What is expected was made by the listed Rust.
+// (3) that it leaves; the cells of the finished trace with their number before them. What is expected was made by the listed Rust, but for
+// the helper of HALT rows from depth 18 up, which is the documentation's.
 use crate::given::before_first;
 use crate::parts::end_of;
 use crate::parts::fill_u8;

@@ -49,6 +49,7 @@ mod measure {
     use core_trace::listed::parallel::passes;
     use core_trace::listed::processor::Call;
     use core_trace::listed::whole::{self, Start};
+    use core_trace::overflow::{invert_deep_halts, overflow_rule};
     use core_trace::profile::EXAMPLE;
     use core_trace::random::{Rng, Run, long_run};
     use core_trace::words::long_word;
@@ -124,7 +125,12 @@ mod measure {
             let (t, buffer) = time(|| black_box(proved(&fragments, &lent, &run, height)));
             best[0] = best[0].min(t);
             if turn == 0 {
-                assert!(buffer.chunks(WIDTH).eq(whole::rows(&data)), "the two differ");
+                let documented = |mut row: [u64; WIDTH]| {
+                    invert_deep_halts(&mut row);
+                    row
+                };
+                assert!(buffer.chunks(WIDTH).eq(whole::rows(&data).map(documented)), "the two differ");
+                overflow_rule(&buffer).unwrap();
             }
             drop(data);
             let (t, _) = time(|| {
@@ -162,7 +168,9 @@ mod measure {
         let run = long_run(&Rng::new(7), 10, rows - 1, rows);
         let lent = Forests::new(&run.forests);
         let (records, queues) = (records(&run.fragments[0]), run.queues.clone());
-        proved(&[Fragment { records, queues, state: run.state }], &lent, &run, rows)
+        let cells = proved(&[Fragment { records, queues, state: run.state }], &lent, &run, rows);
+        overflow_rule(&cells).unwrap();
+        cells
     }
 
     pub fn dumps(rows: usize) {

@@ -1,6 +1,6 @@
 //! `compare [SEED [RUNS]]`: random runs by the listed Rust and by the proved library, which in every second of them is given some cells with
-//! p added, and the finished traces read by the proved library and by the checker, as they are and changed. Writes what was compared, the
-//! differences, and how often which side refused. Exits with 1 where there is a difference.
+//! p added, and the finished traces read by the proved library and by the checker, as they are and changed. Writes what was compared and left
+//! out, the differences, and how often which side refused. Exits with 1 where there is a difference.
 
 #[cfg(not(all(listed, archive)))]
 fn main() {
@@ -10,7 +10,7 @@ fn main() {
 #[cfg(all(listed, archive))]
 fn main() {
     use core_trace::compare::{Tally, compare_run};
-    use core_trace::random::{Rng, any_calls, changed_run, proper_run};
+    use core_trace::random::{Rng, any_calls, changed_run, proper_run, with_depths};
     use core_trace::reading;
     use core_trace::words::word;
 
@@ -30,15 +30,21 @@ fn main() {
         let mut tally = Tally::default();
         for _ in 0..runs {
             let limit = rng.pick(&[20, 100, 400, 1500]);
-            let run = kind(&rng, limit);
+            let run = with_depths(&rng, kind(&rng, limit));
             if let Some(trace) = compare_run(&run, &rng, &mut tally) {
                 reads.all(&reader_rng, trace, run.nesting.as_deref());
             }
         }
         println!(
-            "{name}: {} runs, {} of them finished, {} calls, {} rows, {} cells compared, {} differences",
-            tally.runs, tally.finished, tally.calls, tally.rows, tally.cells, tally.differences
+            "{name}: {} runs, {} of them finished, {} calls, {} rows, {} cells compared, {} helper cells of HALT rows from depth 18 up left \
+             out, {} differences",
+            tally.runs, tally.finished, tally.calls, tally.rows, tally.cells, tally.left_out, tally.differences
         );
+        println!(
+            "  overflow rule: {} rows of the {} finished traces, as the five calls and as the finisher leave them",
+            tally.rule_rows, tally.finished
+        );
+        println!("  finished at depth {}", tally.ends());
         println!(
             "  {} of the {} runs with cells from p on: {} in the run, {} in the rows and built cells handed to the passes",
             tally.raised, tally.runs, tally.run_cells, tally.row_cells
