@@ -350,7 +350,7 @@ class List:
 
 
 # Depths of the stack at the end of a run.
-DEPTHS = [("sixteen", 16), ("seventeen", 17), ("eighteen", 18), ("the last inverse of the table", 1039), ("the first past it", 1040), ("full width", 2**32 - 1)]
+DEPTHS = [("sixteen", 16), ("seventeen", 17), ("eighteen", 18), ("a thousand and thirty-nine", 1039), ("a thousand and forty", 1040), ("full width", 2**32 - 1)]
 
 
 def passes():

@@ -747,7 +747,7 @@ pub fn any_calls(rng: &Rng, limit: usize) -> Run {
 // DEPTHS
 // ------------------------------------------------------------------------------------------------
 
-/// Depths whose helpers, 16 less, are 0 and 1 (each its own inverse), 2, 1023 (the last that is looked up), 1024 and the largest.
+/// Depths whose helpers, 16 less, are 0 and 1 (each its own inverse), 2, 1023, 1024 and the largest.
 pub const DEPTHS: [u32; 6] = [16, 17, 18, 1039, 1040, u32::MAX];
 
 /// The run with such a depth in one of four cycles, and three times of four in the last, whose depth HALT has. A depth below 16 stays.
