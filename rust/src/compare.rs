@@ -102,7 +102,7 @@ impl Tally {
         }
     }
     /// The first `rows` rows of both, field by field. A cell that the stage writes must be the listed Rust's; the others must be as they were
-    /// before, and the listed Rust's modulo p.
+    /// before, and the listed Rust's modulo p. The helper of HALT rows from depth 18 up is left out.
     fn same_rows(
         &mut self,
         stage: &str,
@@ -133,8 +133,18 @@ impl Tally {
         }
         self.rows += rows as u64;
     }
+    /// A run is finished. Nothing was left out but the helper of HALT: in its row behind pass 4, and there and in the padding behind pass 5 and
+    /// the finisher.
+    fn finish(&mut self, left_out: u64, depth: u64, halts: usize) {
+        let wanted = if depth < 18 { 0 } else { 1 + 2 * halts as u64 };
+        if left_out != wanted {
+            self.differ(format!("{left_out} cells left out, not {wanted}, at depth {depth}"));
+        }
+        *self.depths.entry(depth).or_default() += 1;
+        self.finished += 1;
+    }
     /// How many finished runs ended at which depth, in words.
-    pub fn ends(&self) -> String {
+    fn ends(&self) -> String {
         let at = |depth: u32| self.depths.get(&depth.into()).copied().unwrap_or(0);
         let deep: u64 = self.depths.range(18..).map(|(_, runs)| runs).sum();
         let named = DEPTHS.map(|depth| format!("{depth}: {}", at(depth))).join(", ");
@@ -142,6 +152,27 @@ impl Tally {
     }
     fn refused(&mut self, ours: u32, listed: &str) {
         *self.refusals.entry((ours, listed.into())).or_default() += 1;
+    }
+}
+
+impl core::fmt::Display for Tally {
+    fn fmt(&self, f: &mut core::fmt::Formatter<'_>) -> core::fmt::Result {
+        let Self { runs, finished, calls, rows, cells, left_out, rule_rows, differences, .. } = self;
+        let Self { raised, run_cells, row_cells, told, refusals, .. } = self;
+        write!(f, "{runs} runs, {finished} of them finished, {calls} calls, {rows} rows, {cells} cells compared, ")?;
+        write!(f, "{left_out} helper cells of HALT rows from depth 18 up left out, {differences} differences")?;
+        write!(
+            f,
+            "\n  overflow rule: {rule_rows} rows of the {finished} finished traces, as the five calls and as the finisher leave them"
+        )?;
+        write!(f, "\n  finished at depth {}", self.ends())?;
+        write!(
+            f,
+            "\n  {raised} of the {runs} runs with cells from p on: {run_cells} in the run, {row_cells} in the rows and built cells "
+        )?;
+        write!(f, "handed to the passes")?;
+        told.iter().try_for_each(|text| write!(f, "\n  {text}"))?;
+        refusals.iter().try_for_each(|((number, text), times)| write!(f, "\n  {times:6} times: number {number:2}, the listed Rust: {text}"))
     }
 }
 
@@ -289,9 +320,6 @@ fn compare_passes(made: Made<'_>, mut buffer: Vec<u64>, mut data: Vec<Felt>, tal
     let any = |row: usize, i: usize| row >= rows || fixes(row, i) || counts_at(row, i) || inverts(row, i);
     let mut finished = buffer.clone();
     let all = exports::finish(EXAMPLE, &mut finished, size, &counts, &built, &top, height);
-    if all.is_ok() {
-        tally.hold_to_rule("finish", &finished[..height * WIDTH]);
-    }
     let generated = refusal(catch_unwind(AssertUnwindSafe(|| passes::generate(contexts, size, &forests))));
 
     // Pass 1.
@@ -330,7 +358,6 @@ fn compare_passes(made: Made<'_>, mut buffer: Vec<u64>, mut data: Vec<Felt>, tal
     tally.same("pass 5", exports::pad_core_row_major(EXAMPLE, &mut buffer, rows + 1, height), Ok(()));
     passes::pad(&mut data, height);
     tally.same_rows("pass 5", height, &before, &buffer, &data, |row, _| row > rows);
-    tally.hold_to_rule("the five passes", &buffer[..height * WIDTH]);
     // All at once.
     let mut generated = generated.expect("no pass was refused");
     passes::pad(&mut generated, height);
@@ -338,14 +365,9 @@ fn compare_passes(made: Made<'_>, mut buffer: Vec<u64>, mut data: Vec<Felt>, tal
     if finished != buffer || finished[height * WIDTH..] != replayed[height * WIDTH..] {
         tally.differ("the finisher and the five passes leave different buffers".into());
     }
-    // Nothing else was left out: the HALT row of pass 4, and HALT with its padding behind pass 5 and the finisher.
-    let depth = stack_rows.last().unwrap().b0.as_canonical_u64();
-    let halts = if depth < 18 { 0 } else { 1 + 2 * (height - rows) };
-    if tally.left_out - left_out != halts as u64 {
-        tally.differ(format!("{} cells left out for {halts} HALT rows from depth 18 up", tally.left_out - left_out));
-    }
-    *tally.depths.entry(depth).or_default() += 1;
-    tally.finished += 1;
+    tally.hold_to_rule("the five passes", &buffer[..height * WIDTH]);
+    tally.hold_to_rule("finish", &finished[..height * WIDTH]);
+    tally.finish(tally.left_out - left_out, stack_rows.last().unwrap().b0.as_canonical_u64(), height - rows);
     finished.truncate(height * WIDTH);
     Some(finished)
 }

@@ -46,8 +46,8 @@ abbrev pub stackColumn : ℕ
 stackColumn = 30
 
 -- b0: the depth
-abbrev pub depthColumn : ℕ
-depthColumn = 46
+abbrev pub b0Column : ℕ
+b0Column = 46
 
 -- the helper, behind b0 and b1
 abbrev pub helperColumn : ℕ

@@ -1,4 +1,4 @@
--- Demand 3, in one place. `ReadsTrace` is the contract of `read_trace`: what it may tell of a buffer and leave in the lent depth numbers, by
+-- Demand 3, in one place, and the overflow rule of every row written. `ReadsTrace` is the contract of `read_trace`: what it may tell of a buffer and leave in the lent depth numbers, by
 -- `Right`, which says of an answer that it is right, by document 01.
 use mathlib.Core.Path.{_≡_, ap}
 use mathlib.Core.List.{List}
@@ -21,7 +21,7 @@ use Rattle.reader.proofs.ReaderExact.{one-read, some-read, is-right-answer, rea
 use Rattle.theory_runs.specs.Calls.{Fragment, AllAccepted, finalStates, cellsOf, countsOf, builtCells, OneSize}
 use Rattle.theory_runs.specs.Happened.{cyclesOf}
 use Rattle.theory_runs.specs.Finished.{Runs, nesting, writtenByFive, writtenByFinisher, FivePass, FinisherPasses}
-use Rattle.theory_runs.specs.Overflow.{OverflowRule, Is32, AllDepths, DepthInRange}
+use Rattle.theory_runs.specs.Overflow.{OverflowRule, DepthInRange, AllDepths32}
 use Rattle.theory_runs.proofs.TraceOfRun.{finisher-trace, five-trace}
 use Rattle.theory_runs.proofs.ReadRun as runs
 use Rattle.theory_runs.proofs.OverflowTheorems.{finisher-overflow, five-overflow, finisher-depths, five-depths}
@@ -158,25 +158,25 @@ module _ (p : Profile) (f : Forest) (directory : List ℕ) (q : Queues) (size : 
 -- N4: "A customer checked the overflow rule of the operand stack chapter on every row". Of all fragments on fresh tracers, full but for the last,
 -- with no call and no pass refused (no proper run is asked for), in each of the first height rows: helper × (b0 − 16) is 1 modulo p where b0 is
 -- above 16, and the helper is 0 where it is 16
-module _ (p : Profile) (q : Queues) (size : ℕ) (fragments : List Fragment) (here : Cursor) (accepted : AllAccepted p q fragments here) (one-size : OneSize size fragments (countsOf (finalStates p q fragments here))) where
+module _ (p : Profile) (q : Queues) (size : ℕ) (fragments : List Fragment) (here : Cursor) (none-refused : AllAccepted p q fragments here) (one-size : OneSize size fragments (countsOf (finalStates p q fragments here))) where
   -- after the finisher
   pub written-overflow : (others top : List ℕ) (height : ℕ) → FinisherPasses p q size fragments here others top height →
       (i : ℕ) → i < height → OverflowRule (bufferRow i (writtenByFinisher p q size fragments here others top height))
-  written-overflow = finisher-overflow p q size fragments here accepted one-size
+  written-overflow = finisher-overflow p q size fragments here none-refused one-size
 
   -- after the five calls, one after another
   pub written-by-five-overflow : (others top : List ℕ) (height : ℕ) → FivePass p q size fragments here others top height →
       (i : ℕ) → i < height → OverflowRule (bufferRow i (writtenByFive p q size fragments here others top height))
-  written-by-five-overflow = five-overflow p q size fragments here accepted one-size
+  written-by-five-overflow = five-overflow p q size fragments here none-refused one-size
 
   -- and no row is left out by it: b0 is 16 or more, and of 32 bits as the depths of the cycles are
-  pub written-depths : AllDepths Is32 fragments → (others top : List ℕ) (height : ℕ) → FinisherPasses p q size fragments here others top height →
+  pub written-depths : AllDepths32 fragments → (others top : List ℕ) (height : ℕ) → FinisherPasses p q size fragments here others top height →
       (i : ℕ) → i < height → DepthInRange (bufferRow i (writtenByFinisher p q size fragments here others top height))
-  written-depths depths others top height = finisher-depths p q size fragments here accepted one-size others top height depths
+  written-depths depths others top height = finisher-depths p q size fragments here none-refused one-size others top height depths
 
-  pub written-by-five-depths : AllDepths Is32 fragments → (others top : List ℕ) (height : ℕ) → FivePass p q size fragments here others top height →
+  pub written-by-five-depths : AllDepths32 fragments → (others top : List ℕ) (height : ℕ) → FivePass p q size fragments here others top height →
       (i : ℕ) → i < height → DepthInRange (bufferRow i (writtenByFive p q size fragments here others top height))
-  written-by-five-depths depths others top height = five-depths p q size fragments here accepted one-size others top height depths
+  written-by-five-depths depths others top height = five-depths p q size fragments here none-refused one-size others top height depths
 
 -- over replay, where a record's depth is of 32 bits or refused
 module _ (p : Profile) (f : Forest) (directory : List ℕ) (q : Queues) (size : ℕ) (lents : List Lent) (here : Cursor) (replays : AllReplayed p f directory q lents here) (one-size : OneSize size (fragmentsOf f directory lents) (countsReplayed p f directory q lents here)) where

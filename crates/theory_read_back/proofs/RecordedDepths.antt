@@ -2,7 +2,7 @@
 use mathlib.Core.Path.{_≡_, refl}
 use mathlib.Core.Bool.{Bool, true, false}
 use mathlib.Core.List.{List, [], _∷_, _++_}
-use Prim.Native.Nat.{ℕ, zero, suc, _/_, _<_}
+use Prim.Native.Nat.{ℕ, zero, suc, _/_}
 use borrow.Author.Tests.{ltb-true}
 use lib.Dec.{ltb, eqb}
 use lib.ListN.{length, getD}
@@ -10,8 +10,8 @@ use Rattle.groups.specs.Answer.{Answer, accepted, refused, andThen, pick}
 use Rattle.rows.specs.records.Forests.{Forest}
 use Rattle.rows.specs.records.CallRecords as records
 use Rattle.rows.specs.records.CallRecords.{of32, storedInRecord, systemIn, stackIn, registersIn, stores, finishes, finishIn, callIn, recordAt}
-use Rattle.theory_runs.specs.Calls.{Call, store, finish, Fragment}
-use Rattle.theory_runs.specs.Overflow.{Is32, EachDepth, AllDepths}
+use Rattle.theory_runs.specs.Calls.{Call, store, finish}
+use Rattle.theory_runs.specs.Overflow.{Is32, Depths32, AllDepths32}
 use Rattle.theory_runs.proofs.Answers.{pick-accepted}
 use Rattle.theory_read_back.specs.ReplayedRuns.{Lent, callOf, callsOf, fragmentsOf}
 
@@ -48,26 +48,26 @@ call-32 : (r : List ℕ) → DepthIs32 (callIn r)
 unfolding callIn DepthIs32
 call-32 r = pick-32 (eqb (getD r 0 0) 0) _ _ (then-32 (storedInRecord r) _ (λ values e. tt)) (finish-32 r)
 
-depths-app : (l m : List Call) → EachDepth Is32 l → EachDepth Is32 m → EachDepth Is32 (l ++ m)
-unfolding EachDepth
+depths-app : (l m : List Call) → Depths32 l → Depths32 m → Depths32 (l ++ m)
+unfolding Depths32
 depths-app [] m h k = k
 depths-app (store values ∷ l) m h k = depths-app l m h k
 depths-app (finish i ∷ l) m h k = (h .0, depths-app l m (h .1) k)
 
 module _ (f : Forest) (directory : List ℕ) where
-  call-depth : (a : Answer records.RecordedCall) → DepthIs32 a → EachDepth Is32 (callOf f directory a)
-  unfolding DepthIs32 callOf EachDepth
+  call-depth : (a : Answer records.RecordedCall) → DepthIs32 a → Depths32 (callOf f directory a)
+  unfolding DepthIs32 callOf Depths32
   call-depth (refused n) h = tt
   call-depth (accepted (stores values)) h = tt
   call-depth (accepted (finishes k system stack registers)) h = (h, tt)
 
-  calls-depths : (numbers : List ℕ) (n : ℕ) → EachDepth Is32 (callsOf f directory numbers n)
-  unfolding callsOf EachDepth
+  calls-depths : (numbers : List ℕ) (n : ℕ) → Depths32 (callsOf f directory numbers n)
+  unfolding callsOf Depths32
   calls-depths numbers zero = tt
   calls-depths numbers (suc k) =
       depths-app (callsOf f directory numbers k) (callOf f directory (callIn (recordAt numbers k))) (calls-depths numbers k) (call-depth (callIn (recordAt numbers k)) (call-32 (recordAt numbers k)))
 
-  pub recorded-depths : (lents : List Lent) → AllDepths Is32 (fragmentsOf f directory lents)
-  unfolding fragmentsOf AllDepths
+  pub recorded-depths : (lents : List Lent) → AllDepths32 (fragmentsOf f directory lents)
+  unfolding fragmentsOf AllDepths32
   recorded-depths [] = tt
   recorded-depths (l ∷ lents) = (calls-depths (l .numbers) (length (l .numbers) / 32), recorded-depths lents)

@@ -47,19 +47,19 @@ module _ (p : Profile) (f : Forest) (directory : List ℕ) (q : Queues) (size : 
 
 -- the overflow rule and the depths, of replays that need not be of a proper run
 module _ (p : Profile) (f : Forest) (directory : List ℕ) (q : Queues) (size : ℕ) (lents : List Lent) (here : Cursor) (replays : AllReplayed p f directory q lents here) (one-size : OneSize size (fragmentsOf f directory lents) (countsReplayed p f directory q lents here)) (others top : List ℕ) (height : ℕ) where
-  accepted : AllAccepted p q (fragmentsOf f directory lents) here
-  accepted = replayed-accepted p f directory q lents here replays
+  calls-accepted : AllAccepted p q (fragmentsOf f directory lents) here
+  calls-accepted = replayed-accepted p f directory q lents here replays
 
-  sized : OneSize size (fragmentsOf f directory lents) (countsOf (finalStates p q (fragmentsOf f directory lents) here))
-  sized = rw (replayed-counts p f directory q lents here replays) at one-size
+  calls-sized : OneSize size (fragmentsOf f directory lents) (countsOf (finalStates p q (fragmentsOf f directory lents) here))
+  calls-sized = rw (replayed-counts p f directory q lents here replays) at one-size
 
   pub replay-finisher-overflow : ReplayFinishes p f directory q size lents here others top height → (i : ℕ) → i < height →
       OverflowRule (bufferRow i (finishedReplay p f directory q size lents here others top height)) × DepthInRange (bufferRow i (finishedReplay p f directory q size lents here others top height))
   replay-finisher-overflow =
       rw (replayed-counts p f directory q lents here replays, replayed-built p f directory q lents here replays, replayed-cells p f directory q lents here replays)
       (λ e i low. (
-        finisher-overflow p q size (fragmentsOf f directory lents) here accepted sized others top height e i low,
-        finisher-depths p q size (fragmentsOf f directory lents) here accepted sized others top height (recorded-depths f directory lents) e i low,
+        finisher-overflow p q size (fragmentsOf f directory lents) here calls-accepted calls-sized others top height e i low,
+        finisher-depths p q size (fragmentsOf f directory lents) here calls-accepted calls-sized others top height (recorded-depths f directory lents) e i low,
       ))
 
   pub replay-five-overflow : ReplayFivePass p f directory q size lents here others top height → (i : ℕ) → i < height →
@@ -67,6 +67,6 @@ module _ (p : Profile) (f : Forest) (directory : List ℕ) (q : Queues) (size : 
   replay-five-overflow =
       rw (replayed-counts p f directory q lents here replays, replayed-built p f directory q lents here replays, replayed-cells p f directory q lents here replays)
       (λ e i low. (
-        five-overflow p q size (fragmentsOf f directory lents) here accepted sized others top height e i low,
-        five-depths p q size (fragmentsOf f directory lents) here accepted sized others top height (recorded-depths f directory lents) e i low,
+        five-overflow p q size (fragmentsOf f directory lents) here calls-accepted calls-sized others top height e i low,
+        five-depths p q size (fragmentsOf f directory lents) here calls-accepted calls-sized others top height (recorded-depths f directory lents) e i low,
       ))

@@ -1,5 +1,6 @@
 -- "Inputs that were answered get the same cells as before." (N2) The finishing passes: where the cells that it reads are below p, each definition that
--- N2 changed is the one from before, clause by clause. What it cites is meant as it stands now, since what N2 changed there has a theorem of its own.
+-- N2 changed is the one from before, clause by clause. What it cites is meant as it stands now, since what N2 changed there has a theorem of its own;
+-- `haltStack` is N4's, which has the inverse of the helper.
 use mathlib.Core.Path.{_≡_, refl}
 use mathlib.Core.Bool.{Bool, false, _||_}
 use mathlib.Core.List.{List, [], _∷_, _++_}

@@ -240,19 +240,21 @@ unfoldable fields : List (List ℕ) → List (ℕ × ℕ × ℕ)
 fields [] = []
 fields (row ∷ rows) = (opcodeOf row, addrOf row, countOf row) ∷ fields rows
 
-listing : fields (allRows (writtenByFinisher profile queued 5 fragments begin [] (replicate 16 0) 34)) ≡
-    (87, 0, 0) ∷ (84, 1, 0) ∷ (108, 3, 0) ∷ (86, 5, 9) ∷ (5, 7, 8) ∷ (120, 7, 1) ∷ (6, 9, 0) ∷ (112, 9, 0) ∷ (112, 5, 0) ∷ (112, 3, 0)
-    ∷ (85, 1, 2) ∷ (104, 11, 0) ∷ (88, 13, 0) ∷ (92, 15, 0) ∷ (86, 17, 2) ∷ (91, 19, 1) ∷ (112, 19, 0) ∷ (112, 17, 0) ∷ (112, 15, 0) ∷ (112, 13, 0)
-    ∷ (116, 11, 0) ∷ (104, 11, 0) ∷ (88, 21, 0) ∷ (92, 23, 0) ∷ (86, 25, 2) ∷ (91, 27, 1) ∷ (112, 27, 0) ∷ (112, 25, 0) ∷ (112, 23, 0) ∷ (112, 21, 0)
-    ∷ (112, 11, 0) ∷ (112, 1, 0) ∷ (124, 0, 0) ∷ (124, 0, 0) ∷ []
-unfolding forestA forestB queued begin storeOf cycleOf part1 part2 part3 part4 part5 part6 part7 fragments AllAccepted Accepted callRefusal after afterAll finalState cycle cycleWith scanOf anyBigOpcode forestTooLarge anyLongBlock anyLargeBatch readRegisters helpersOfCells systemCells stackCells anyFrom profileWrong opcodes twoEqual isOneOf lacksBits fragmentWrong made startNode startKind startBlock startTwo startOne startDyn startDyncall madeEnd madeRepeat finishLoop bodyOf callKind dynKind blockKind entryKind operationMade resumed madeRespan respanStep nodeAt nodeOf isSlot digestAt opcodeAt blockOf startedAt entryAt endAt batchAt isBatch startsAt batchFlags flagsUpTo8 contextAtOp contextAtBatchStart lentBatches groupOf falling groupFrom placeIn contextInGroup consumed counts doubled roundUp groupsOf sumGroups anyAbove8 groupSum pushes opContext tooLarge helpersAnswer allBelow u32Values helpersOf tracerAfter leftAfter storedIn fragmentAfter putRow rowCells decoderCells fresh builtSystem builtStack noSystem noStack lastSystem lastStack controlFlow basicBlockBatch operation wordAt finalStates countsOf forPasses builtCells cellsOf refusalAll firstOf sumOf fragmentsWrong bufferWrong fewerRows anyAbove heightWrong notFull loopWithoutBody anyWithoutBody bodyEnds rowsOf opcodeOf lowBits flaggedEnd finisherBuffer allPasses onRows flat fixedUp firstRow withSides laterRows builtOf multiplied withCounts inverted inverseOf euclid lastBuilt halted lastRow haltRow haltDecoder haltStack padded paddingRows paddingRow allRows fields cellAt reduced readSystem readStack readState readCaptured
-listing = refl
-
--- depth and helper of each row: 16 and 0 in row 0, then 18 and the inverse of 2, in the HALT rows as in the others (N4)
+-- depth and helper of each row
 unfoldable stacks : List (List ℕ) → List (ℕ × ℕ)
 stacks [] = []
 stacks (row ∷ rows) = (b0Cell row, helperCell row) ∷ stacks rows
 
-helpers : stacks (allRows (writtenByFinisher profile queued 5 fragments begin [] (replicate 16 0) 34)) ≡ (16, 0) ∷ replicate 33 (18, 9223372034707292161)
-unfolding forestA forestB queued begin storeOf cycleOf part1 part2 part3 part4 part5 part6 part7 fragments AllAccepted Accepted callRefusal after afterAll finalState cycle cycleWith scanOf anyBigOpcode forestTooLarge anyLongBlock anyLargeBatch readRegisters helpersOfCells systemCells stackCells anyFrom profileWrong opcodes twoEqual isOneOf lacksBits fragmentWrong made startNode startKind startBlock startTwo startOne startDyn startDyncall madeEnd madeRepeat finishLoop bodyOf callKind dynKind blockKind entryKind operationMade resumed madeRespan respanStep nodeAt nodeOf isSlot digestAt opcodeAt blockOf startedAt entryAt endAt batchAt isBatch startsAt batchFlags flagsUpTo8 contextAtOp contextAtBatchStart lentBatches groupOf falling groupFrom placeIn contextInGroup consumed counts doubled roundUp groupsOf sumGroups anyAbove8 groupSum pushes opContext tooLarge helpersAnswer allBelow u32Values helpersOf tracerAfter leftAfter storedIn fragmentAfter putRow rowCells decoderCells fresh builtSystem builtStack noSystem noStack lastSystem lastStack controlFlow basicBlockBatch operation wordAt finalStates countsOf forPasses builtCells cellsOf refusalAll firstOf sumOf fragmentsWrong bufferWrong fewerRows anyAbove heightWrong notFull loopWithoutBody anyWithoutBody bodyEnds rowsOf opcodeOf lowBits flaggedEnd finisherBuffer allPasses onRows flat fixedUp firstRow withSides laterRows builtOf multiplied withCounts inverted inverseOf euclid lastBuilt halted lastRow haltRow haltDecoder haltStack padded paddingRows paddingRow allRows stacks cellAt reduced readSystem readStack readState readCaptured
-helpers = refl
+abbrev written : List (List ℕ)
+written = allRows (writtenByFinisher profile queued 5 fragments begin [] (replicate 16 0) 34)
+
+-- depth and helper are 16 and 0 in row 0, then 18 and the inverse of 2, in the HALT rows as in the others (N4)
+listing : _≡_ {A = List (ℕ × ℕ × ℕ) × List (ℕ × ℕ)} (fields written, stacks written) (
+  (87, 0, 0) ∷ (84, 1, 0) ∷ (108, 3, 0) ∷ (86, 5, 9) ∷ (5, 7, 8) ∷ (120, 7, 1) ∷ (6, 9, 0) ∷ (112, 9, 0) ∷ (112, 5, 0) ∷ (112, 3, 0)
+      ∷ (85, 1, 2) ∷ (104, 11, 0) ∷ (88, 13, 0) ∷ (92, 15, 0) ∷ (86, 17, 2) ∷ (91, 19, 1) ∷ (112, 19, 0) ∷ (112, 17, 0) ∷ (112, 15, 0) ∷ (112, 13, 0)
+      ∷ (116, 11, 0) ∷ (104, 11, 0) ∷ (88, 21, 0) ∷ (92, 23, 0) ∷ (86, 25, 2) ∷ (91, 27, 1) ∷ (112, 27, 0) ∷ (112, 25, 0) ∷ (112, 23, 0) ∷ (112, 21, 0)
+      ∷ (112, 11, 0) ∷ (112, 1, 0) ∷ (124, 0, 0) ∷ (124, 0, 0) ∷ [],
+  (16, 0) ∷ replicate 33 (18, 9223372034707292161),
+)
+unfolding forestA forestB queued begin storeOf cycleOf part1 part2 part3 part4 part5 part6 part7 fragments AllAccepted Accepted callRefusal after afterAll finalState cycle cycleWith scanOf anyBigOpcode forestTooLarge anyLongBlock anyLargeBatch readRegisters helpersOfCells systemCells stackCells anyFrom profileWrong opcodes twoEqual isOneOf lacksBits fragmentWrong made startNode startKind startBlock startTwo startOne startDyn startDyncall madeEnd madeRepeat finishLoop bodyOf callKind dynKind blockKind entryKind operationMade resumed madeRespan respanStep nodeAt nodeOf isSlot digestAt opcodeAt blockOf startedAt entryAt endAt batchAt isBatch startsAt batchFlags flagsUpTo8 contextAtOp contextAtBatchStart lentBatches groupOf falling groupFrom placeIn contextInGroup consumed counts doubled roundUp groupsOf sumGroups anyAbove8 groupSum pushes opContext tooLarge helpersAnswer allBelow u32Values helpersOf tracerAfter leftAfter storedIn fragmentAfter putRow rowCells decoderCells fresh builtSystem builtStack noSystem noStack lastSystem lastStack controlFlow basicBlockBatch operation wordAt finalStates countsOf forPasses builtCells cellsOf refusalAll firstOf sumOf fragmentsWrong bufferWrong fewerRows anyAbove heightWrong notFull loopWithoutBody anyWithoutBody bodyEnds rowsOf opcodeOf lowBits flaggedEnd finisherBuffer allPasses onRows flat fixedUp firstRow withSides laterRows builtOf multiplied withCounts inverted inverseOf euclid lastBuilt halted lastRow haltRow haltDecoder haltStack padded paddingRows paddingRow allRows fields stacks cellAt reduced readSystem readStack readState readCaptured
+listing = refl

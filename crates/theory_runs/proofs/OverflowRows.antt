@@ -1,7 +1,7 @@
 -- In each row that is written of a run b0 is a depth, that of a cycle or 16, and the helper is the inverse of it less 16. The run need not be proper.
 use mathlib.Core.Path.{_≡_, _∙_, refl, sym, ap, subst}
 use mathlib.Core.Bool.{Bool, true, false}
-use mathlib.Core.List.{List, [], _∷_, _++_, append-assoc, append-nil}
+use mathlib.Core.List.{List, [], _∷_, _++_}
 use Prim.Native.Nat.{ℕ, zero, suc, pred, _+_, _-_, _*_, _%_, _≤_, _<_}
 use native.Mathlib.Omega.{arith}
 use borrow.Author.Tests.{eqb-false, ltb-false}
@@ -30,8 +30,8 @@ use Rattle.rows.specs.cycles.Cycles.{finalState, forPasses}
 use Rattle.rows.specs.passes.Passes.{withSides, firstRow, fixedUp, bodyEnds, withCounts, multiplied, inverted, haltDecoder, haltStack, haltRow, halted, paddingRow, paddingRows, padded, notFull, lastBuilt}
 use Rattle.rows.proofs.passes.Checks.{neither}
 use Rattle.rows.proofs.passes.RowLists.{Wide}
-use Rattle.theory_runs.specs.Calls.{Call, store, finish, Fragment, Held, answered, after, callRefusal, Accepted, opened, closed, cursorOf, AllAccepted, finalStates, countsOf, builtCells}
-use Rattle.theory_runs.specs.Overflow.{b0Cell, helperCell, EachDepth, AllDepths}
+use Rattle.theory_runs.specs.Calls.{Call, store, finish, Fragment, Held, answered, after, Accepted, opened, closed, cursorOf, AllAccepted, finalStates, countsOf, builtCells}
+use Rattle.theory_runs.specs.Overflow.{b0Cell, helperCell}
 use Rattle.theory_runs.proofs.Folded.{stepped}
 use Rattle.theory_runs.proofs.FinishedRows.{last-snoc}
 use Rattle.theory_runs.proofs.Unfragmented.{Item, sided, lastS, lastK, itemMade, itemsIn, itemsEach, together, cells25, later-none, final-cells, read-cells, chunk, count-items}
@@ -54,13 +54,23 @@ every-at Q (row ∷ rows) zero h k = h .0
 every-at Q (row ∷ rows) (suc i) h k = every-at Q rows i (h .1) (omega arith)
 
 -- what else is known of the depths
-module _ (Holds : ℕ → Type 0) where
+module _ (Known : ℕ → Type 0) where
+  -- of those that cycles are handed
+  unfoldable pub EachDepth : List Call → Type 0
+  EachDepth [] = Unit {0}
+  EachDepth (store values ∷ calls) = EachDepth calls
+  EachDepth (finish i ∷ calls) = Known (i .stack .«stack_depth») × EachDepth calls
+
+  unfoldable pub AllDepths : List Fragment → Type 0
+  AllDepths [] = Unit {0}
+  AllDepths (fragment ∷ fragments) = EachDepth (fragment .calls) × AllDepths fragments
+
   -- DEPTHS
 
   -- of a cycle that is accepted
   pub record Deep (depth : ℕ) : Type 0 where
     pub least : 16 ≤ depth
-    pub holds : Holds depth
+    pub known : Known depth
 
   -- b0 and the helper as they are built
   pub record Built (b h : ℕ) : Type 0 where
@@ -100,10 +110,10 @@ module _ (Holds : ℕ → Type 0) where
   unfolding builtStack
   state-built stack deep = record { depth = stack .«stack_depth»; deep = deep; b0-is = refl; helper-is = refl }
 
-  last-stack : (l : List Item) (k : StackCols) → BuiltStack k → EachItem l → BuiltStack (lastK k l)
+  last-cols : (l : List Item) (k : StackCols) → BuiltStack k → EachItem l → BuiltStack (lastK k l)
   unfolding lastK EachItem
-  last-stack [] k h e = h
-  last-stack (x ∷ l) k h e = last-stack l (builtStack (x .0 .stack)) (state-built (x .0 .stack) (e .0)) (e .1)
+  last-cols [] k h e = h
+  last-cols (x ∷ l) k h e = last-cols l (builtStack (x .0 .stack)) (state-built (x .0 .stack) (e .0)) (e .1)
 
   row-built : (s : SystemCols) (d : DecoderRow) (k : StackCols) → BuiltStack k → BuiltRow (rowCells s d k)
   unfolding rowCells systemCells decoderCells stackCells reduced
@@ -116,17 +126,17 @@ module _ (Holds : ℕ → Type 0) where
       (row-built s (x .1) k h, sided-built l (builtSystem (x .0 .system)) (builtStack (x .0 .stack)) (state-built (x .0 .stack) (e .0)) (e .1))
 
   module _ (p : Profile) (q : Queues) where
-    calls-deep : (calls : List Call) (z : Held) → Accepted p q calls z → EachDepth Holds calls → EachItem (itemsIn p q calls z)
+    calls-deep : (calls : List Call) (z : Held) → Accepted p q calls z → EachDepth calls → EachItem (itemsIn p q calls z)
     unfolding Accepted EachDepth itemsIn EachItem
     calls-deep [] z a h = tt
     calls-deep (store values ∷ calls) z a h = calls-deep calls (after p q z (store values)) (a .1) h
     calls-deep (finish i ∷ calls) z a h =
         let s = stepped p q z i (a .0) in
-        let deep : Deep (i .stack .«stack_depth») = record { least = ltb-false (i .stack .«stack_depth») 16 (s .came-from .deep); holds = h .0 } in
+        let deep : Deep (i .stack .«stack_depth») = record { least = ltb-false (i .stack .«stack_depth») 16 (s .came-from .deep); known = h .0 } in
         let one : EachItem (itemMade i (answered p q z i)) = unfold itemMade in rw (s .answer) (deep, tt) in
         items-app (itemMade i (answered p q z i)) (itemsIn p q calls (after p q z (finish i))) one (calls-deep calls (after p q z (finish i)) (a .1) (h .1))
 
-    pub run-deep : (fragments : List Fragment) (here : Cursor) → AllAccepted p q fragments here → AllDepths Holds fragments → EachItem (together (itemsEach p q fragments here))
+    pub run-deep : (fragments : List Fragment) (here : Cursor) → AllAccepted p q fragments here → AllDepths fragments → EachItem (together (itemsEach p q fragments here))
     unfolding AllAccepted AllDepths itemsEach together EachItem
     run-deep [] here a h = tt
     run-deep (fragment ∷ fragments) here a h =
@@ -139,16 +149,16 @@ module _ (Holds : ℕ → Type 0) where
     last-item : (l : List Item) → EachItem l → 0 < length l → BuiltStack (lastK noStack l)
     unfolding lastK EachItem
     last-item [] e some = absurd (omega arith)
-    last-item (x ∷ l) e some = last-stack l (builtStack (x .0 .stack)) (state-built (x .0 .stack) (e .0)) (e .1)
+    last-item (x ∷ l) e some = last-cols l (builtStack (x .0 .stack)) (state-built (x .0 .stack) (e .0)) (e .1)
 
-    pub record LastBuilt (cells : List ℕ) : Type 0 where
+    pub record BuiltByCycle (cells : List ℕ) : Type 0 where
       pub system : SystemCols
       pub stack : StackCols
       pub cells-are : cells ≡ reduced (cells25 system stack)
       pub is-built : BuiltStack stack
 
-    one-built : (here : Cursor) (fragment : Fragment) (rest : List ℕ) → Accepted p q (fragment .calls) (opened p q here fragment) → EachDepth Holds (fragment .calls) →
-        eqb (forPasses (finalState (closed p q here fragment .tracer)) .count) 0 ≡ false → LastBuilt (take 25 (forPasses (finalState (closed p q here fragment .tracer)) .built ++ rest))
+    one-built : (here : Cursor) (fragment : Fragment) (rest : List ℕ) → Accepted p q (fragment .calls) (opened p q here fragment) → EachDepth (fragment .calls) →
+        eqb (forPasses (finalState (closed p q here fragment .tracer)) .count) 0 ≡ false → BuiltByCycle (take 25 (forPasses (finalState (closed p q here fragment .tracer)) .built ++ rest))
     unfolding forPasses
     one-built here fragment rest a h some =
         let l : List Item = itemsIn p q (fragment .calls) (opened p q here fragment) in
@@ -176,26 +186,26 @@ module _ (Holds : ℕ → Type 0) where
     unfolding lastBuilt
     last-one count cells = refl
 
-    pub run-last : (size : ℕ) (fragments : List Fragment) (here : Cursor) → AllAccepted p q fragments here → AllDepths Holds fragments → 0 < length fragments → notFull size (countsOf (finalStates p q fragments here)) ≡ false →
-        LastBuilt (lastBuilt (countsOf (finalStates p q fragments here)) (builtCells (finalStates p q fragments here)))
+    pub run-last : (size : ℕ) (fragments : List Fragment) (here : Cursor) → AllAccepted p q fragments here → AllDepths fragments → 0 < length fragments → notFull size (countsOf (finalStates p q fragments here)) ≡ false →
+        BuiltByCycle (lastBuilt (countsOf (finalStates p q fragments here)) (builtCells (finalStates p q fragments here)))
     unfolding AllAccepted AllDepths finalStates countsOf builtCells notFull
     run-last size [] here a h some full = absurd (omega arith)
-    run-last size (fragment ∷ []) here a h some full = subst (λ (l : List ℕ). LastBuilt l) (sym (last-one _ _)) (one-built here fragment [] (a .0) (h .0) full)
+    run-last size (fragment ∷ []) here a h some full = subst (λ (l : List ℕ). BuiltByCycle l) (sym (last-one _ _)) (one-built here fragment [] (a .0) (h .0) full)
     run-last size (fragment ∷ next ∷ fragments) here a h some full =
         let there : Cursor = cursorOf p q (closed p q here fragment) in
         let final : TracerFinalState = finalState (closed p q here fragment .tracer) in
         let more : List ℕ = countsOf (finalStates p q (next ∷ fragments) there) in
         let full′ : notFull size more ≡ false = neither (ltb (forPasses final .count) size) (notFull size more) full .1 in
-        subst (λ (l : List ℕ). LastBuilt l) (sym (last-skip (forPasses final .count) more final (builtCells (finalStates p q (next ∷ fragments) there)) (omega arith)))
+        subst (λ (l : List ℕ). BuiltByCycle l) (sym (last-skip (forPasses final .count) more final (builtCells (finalStates p q (next ∷ fragments) there)) (omega arith)))
         (run-last size (next ∷ fragments) there (a .1) (h .1) (omega arith) full′)
 
   -- THE PASSES
 
-  first-built : (top : List ℕ) (s : SystemCols) (d : DecoderRow) (k : StackCols) → Holds 16 → BuiltRow (firstRow top (rowCells s d k))
+  first-built : (top : List ℕ) (s : SystemCols) (d : DecoderRow) (k : StackCols) → Known 16 → BuiltRow (firstRow top (rowCells s d k))
   unfolding firstRow withSides rowCells systemCells decoderCells stackCells reduced
-  first-built top s d k h = record { depth = 16; deep = record { least = omega arith; holds = h }; b0-is = refl; helper-is = refl }
+  first-built top s d k h = record { depth = 16; deep = record { least = omega arith; known = h }; b0-is = refl; helper-is = refl }
 
-  pub fixed-built : (size : ℕ) (top : List ℕ) (l : List Item) → Holds 16 → EachItem l → Every BuiltRow (fixedUp size top [] (sided noSystem noStack l))
+  pub fixed-built : (size : ℕ) (top : List ℕ) (l : List Item) → Known 16 → EachItem l → Every BuiltRow (fixedUp size top [] (sided noSystem noStack l))
   unfolding fixedUp sided Every EachItem
   fixed-built size top [] h e = tt
   fixed-built size top (x ∷ l) h e =

@@ -4,7 +4,7 @@ use mathlib.Core.Bool.{Bool, false, _||_}
 use mathlib.Core.List.{List, [], _∷_, _++_, append-assoc, append-nil}
 use Prim.Native.Nat.{ℕ, zero, suc, _+_, _-_, _*_, _/_, _%_, _≤_, _<_}
 use native.Mathlib.Omega.{arith}
-use borrow.Author.Tests.{ltb-false, leb-false, le-ltb}
+use borrow.Author.Tests.{eqb-false, ltb-false, leb-false, le-ltb}
 use lib.Dec.{leb, ltb, eqb}
 use lib.ListN.{length, take, drop, length-take, length-drop}
 use lib.Seq.{take-at}
@@ -16,13 +16,13 @@ use Rattle.field.proofs.CellLaws.{length-reduced}
 use Rattle.rows.specs.records.Profiles.{profileWrong}
 use Rattle.rows.specs.cycles.Made.{Cursor}
 use Rattle.rows.specs.records.Buffers.{rowsOf, flat, onRows, bufferWrong, fewerRows}
-use Rattle.rows.specs.passes.Passes.{fixedUp, builtOf, multiplied, inverted, halted, padded, sumOf, anyAbove, noFragment, fragmentsWrong, heightWrong, lastBuilt, refusal1, refusal2, refusal5, unlessRefused, refusalAll, allPasses}
+use Rattle.rows.specs.passes.Passes.{fixedUp, builtOf, multiplied, inverted, halted, padded, sumOf, anyAbove, noFragment, notFull, fragmentsWrong, heightWrong, lastBuilt, refusal1, refusal2, refusal5, unlessRefused, refusalAll, allPasses}
 use Rattle.groups.specs.Answer.{firstOf}
 use Rattle.rows.proofs.passes.Checks.{neither, none-first}
 use Rattle.rows.proofs.passes.RowLists.{Wide, length-flat, rows-flat}
 use Rattle.rows.proofs.passes.FirstRows.{Cells25}
 use Rattle.theory_readings.specs.Readings.{bufferRefusal, allRows, Trace}
-use Rattle.theory_runs.specs.Calls.{Fragment}
+use Rattle.theory_runs.specs.Calls.{Fragment, AllAccepted, finalStates, countsOf, OneSize}
 use Rattle.theory_runs.specs.Happened.{Cycle, cyclesOf}
 use Rattle.theory_runs.specs.ProperRuns.{InBlock, Run, RunPasses}
 use Rattle.theory_runs.specs.Written.{rowsRun}
@@ -158,12 +158,14 @@ module _ (p : Profile) (size : ℕ) (counts built top : List ℕ) (height : ℕ)
 -- WHAT THE PASSES REFUSE
 
 -- what is known where none of the checks holds
-pub record Checked (p : Profile) (counts built top : List ℕ) (height : ℕ) (buffer : List ℕ) : Type 0 where
+pub record Checked (p : Profile) (size : ℕ) (counts built top : List ℕ) (height : ℕ) (buffer : List ℕ) : Type 0 where
   pub right : profileWrong p ≡ false
   pub some : 0 < length counts
   pub in-built : 25 * length counts ≤ length built
   pub room : sumOf counts < height
   pub few : height ≤ 16777216
+  pub some-size : 0 < size
+  pub full : notFull size counts ≡ false
 
 some-counts : (counts : List ℕ) → noFragment counts ≡ false → 0 < length counts
 some-counts [] e = let z : _≡_ {A = ℕ} 0 1 = cc in absurd (omega arith)
@@ -173,14 +175,14 @@ few-rows : (cells : ℕ) → bufferWrong cells ≡ false → cells / 49 ≤ 1677
 unfolding bufferWrong
 few-rows cells e = ltb-false 16777216 (cells / 49) (neither (ltb 0 (cells % 49)) (ltb 16777216 (cells / 49)) e .1)
 
-built-fits : (cells size : ℕ) (counts built : List ℕ) → fragmentsWrong cells size counts built ≡ false → (bufferWrong cells ≡ false) × (25 * length counts ≤ length built)
+built-fits : (cells size : ℕ) (counts built : List ℕ) → fragmentsWrong cells size counts built ≡ false → (bufferWrong cells ≡ false) × (25 * length counts ≤ length built) × (0 < size)
 unfolding fragmentsWrong
 built-fits cells size counts built e =
     let (a, b) = neither (bufferWrong cells) _ e in
     let c = neither (fewerRows cells (sumOf counts)) _ b .1 in
-    let d = neither (eqb size 0) _ c .1 in
+    let (some, d) = neither (eqb size 0) _ c in
     let f = neither (anyAbove size counts) (ltb (length built) (25 * length counts)) d .1 in
-    (a, ltb-false (length built) (25 * length counts) f)
+    (a, ltb-false (length built) (25 * length counts) f, omega (arith, eqb-false size 0 some))
 
 height-fits : (cells rows height : ℕ) → heightWrong cells rows height ≡ false → (rows < height) × (height ≤ cells / 49)
 unfolding heightWrong fewerRows
@@ -188,16 +190,16 @@ height-fits cells rows height e =
     let (a, b) = neither (leb height rows) (ltb (cells / 49) height) e in
     (leb-false height rows a, ltb-false (cells / 49) height b)
 
-pub checked-finisher : (p : Profile) (size : ℕ) (counts built top : List ℕ) (height : ℕ) (buffer : List ℕ) → refusalAll p buffer size counts built height ≡ 0 → Checked p counts built top height buffer
+pub checked-finisher : (p : Profile) (size : ℕ) (counts built top : List ℕ) (height : ℕ) (buffer : List ℕ) → refusalAll p buffer size counts built height ≡ 0 → Checked p size counts built top height buffer
 unfolding refusalAll
 checked-finisher p size counts built top height buffer e =
     let (c, d) = none-first _ _ _ e in
     let (f, g) = none-first _ _ _ d in
     let (h, i) = none-first _ _ _ g in
     let (j, k) = neither (fragmentsWrong (length buffer) size counts built) (heightWrong (length buffer) (sumOf counts) height) f in
-    let (o, r) = built-fits (length buffer) size counts built j in
+    let (o, r, n) = built-fits (length buffer) size counts built j in
     let (s, t) = height-fits (length buffer) (sumOf counts) height k in
-    record { right = c; some = some-counts counts h; in-built = r; room = s; few = omega (arith, few-rows (length buffer) o) }
+    record { right = c; some = some-counts counts h; in-built = r; room = s; few = omega (arith, few-rows (length buffer) o); some-size = n; full = none-first _ _ _ i .0 }
 
 height-fits-5 : (cells rows height : ℕ) → (bufferWrong cells || (eqb (rows + 1) 0 || (ltb height (rows + 1) || fewerRows cells height))) ≡ false → (rows < height) × (height ≤ 16777216)
 unfolding fewerRows
@@ -211,16 +213,16 @@ not-refused : (number : ℕ) (before after : List ℕ) → number ≡ 0 → unle
 not-refused number before after e = rw e
 
 module _ (p : Profile) (size : ℕ) (counts built top : List ℕ) (height : ℕ) (buffer : List ℕ) (five : FiveAccepted p size counts built top height buffer) where
-  pub checked-five : Checked p counts built top height buffer
+  pub checked-five : Checked p size counts built top height buffer
   unfolding refusal1 refusal2 refusal5
   checked-five =
       let (c, d) = none-first _ _ _ (five .first) in
       let (f, g) = none-first _ _ _ d in
-      let (o, r) = built-fits (length buffer) size counts built c in
+      let (o, r, n) = built-fits (length buffer) size counts built c in
       let right = none-first _ _ _ (five .second) .0 in
       let cells = none-first _ _ _ (none-first _ _ _ (five .fifth) .1) .0 in
       let (s, t) = height-fits-5 (length (buffer4 p size counts built top height buffer)) (sumOf counts) height cells in
-      record { right = right; some = some-counts counts f; in-built = r; room = s; few = t }
+      record { right = right; some = some-counts counts f; in-built = r; room = s; few = t; some-size = n; full = none-first _ _ _ g .0 }
 
   -- the five calls do what the finisher does
   pub five-all : buffer5 p size counts built top height buffer ≡ allPasses p size counts built top height buffer
@@ -234,9 +236,10 @@ module _ (p : Profile) (size : ℕ) (counts built top : List ℕ) (height : ℕ)
       let e5 : buffer5 p size counts built top height buffer ≡ onRows (rows + 1) (padded p height) (buffer4 p size counts built top height buffer) = not-refused _ _ _ (five .fifth) in
       e5 ∙ ap (onRows (rows + 1) (padded p height)) (e4 ∙ ap (onRows rows (halted p (lastBuilt counts built))) (e3 ∙ ap (onRows rows inverted) (e2 ∙ ap (onRows rows (multiplied p)) e1)))
 
--- THE THEOREM
+-- THE ROWS OF A RUN
 
-module _ (p : Profile) (q : Queues) (size : ℕ) (fragments : List Fragment) (here : Cursor) (runs : Runs p q size fragments here) (others top : List ℕ) (height : ℕ) where
+-- any list of calls, none refused, all fragments but the last full
+module _ (p : Profile) (q : Queues) (size : ℕ) (fragments : List Fragment) (here : Cursor) (none-refused : AllAccepted p q fragments here) (one-size : OneSize size fragments (countsOf (finalStates p q fragments here))) (others top : List ℕ) (height : ℕ) where
   abbrev counts : List ℕ
   counts = runCounts p q size fragments here others top height
 
@@ -246,31 +249,81 @@ module _ (p : Profile) (q : Queues) (size : ℕ) (fragments : List Fragment) (he
   abbrev buffer : List ℕ
   buffer = runBuffer p q size fragments here others top height
 
-  trace-all : Checked p counts built top height buffer → Trace p (take (49 * height) (allPasses p size counts built top height buffer)) (nesting runs)
-  unfolding Trace AllFine
-  trace-all c =
-      let rows : List (List ℕ) = rowsRun p q fragments here in
-      let wide = rows-wide p q fragments here (runs .accepted) in
-      let sum = sum-rows p q fragments here (runs .accepted) in
-      let (rest, cells) = cells-rows p q size fragments here (runs .accepted) (runs .one-size) in
-      let holds : buffer ≡ flat rows ++ (rest ++ others) = ap (λ y. y ++ others) cells ∙ append-assoc (flat rows) rest others in
-      let room : length rows < height = omega (arith, sum, c .room) in
-      let laid-rows = rows-laid p q fragments here (runs .accepted) (run-fine p q (runs .proper) tt) in
-      let lasts = lasts-25 p size counts built top height buffer (rest ++ others) rows holds sum wide (c .right) (c .in-built) (c .some) room in
-      let last = last-25 p size counts built top height buffer (rest ++ others) rows holds sum wide (c .right) (c .in-built) (c .some) room in
-      let final = all-rows p (c .right) size top (builtOf (length counts - 1) built) (lastBuilt counts built) height rows lasts last wide room in
-      let reading = all-reading p (c .right) size top (builtOf (length counts - 1) built) (lastBuilt counts built) height rows lasts last wide room (cyclesOf q fragments (here .at)) (readState (here .state)) laid-rows (omega (arith, c .few, room)) (runs .proper) (rw (starts-reduced q fragments (here .at)) (runs .loops-apart)) (runs .shallow) in
-      let passes = buffer-passes p size counts built top height buffer (rest ++ others) rows holds sum wide (c .right) (c .in-built) (c .some) room (c .few) in
-      let written = passes-rows p size counts built top height buffer (rest ++ others) rows holds sum wide (c .right) (c .in-built) (c .some) room in
-      let all-wide′ = all-wide p (c .right) size top (builtOf (length counts - 1) built) (lastBuilt counts built) height rows lasts last wide room in
-      rw (written, all-flat final all-wide′) (passes, reading)
+  abbrev rows : List (List ℕ)
+  rows = rowsRun p q fragments here
 
+  -- its rows stand in front
+  rows-first : (rest : List ℕ) × (buffer ≡ flat rows ++ rest)
+  rows-first =
+      let (rest, cells) = cells-rows p q size fragments here none-refused one-size in
+      (rest ++ others, ap (λ y. y ++ others) cells ∙ append-assoc (flat rows) rest others)
+
+  sum : sumOf counts ≡ length rows
+  sum = sum-rows p q fragments here none-refused
+
+  wide : Wide rows
+  wide = rows-wide p q fragments here none-refused
+
+  -- the first height rows after the passes
+  abbrev pub run-rows : List (List ℕ)
+  run-rows = padded p height (halted p (lastBuilt counts built) (inverted (multiplied p (fixedUp size top (builtOf (length counts - 1) built) rows))))
+
+  -- no pass refuses
+  abbrev pub PassesChecked : Type 0
+  PassesChecked = Checked p size counts built top height buffer
+
+  module _ (c : PassesChecked) where
+    room : length rows < height
+    room = omega (arith, sum, c .room)
+
+    pub run-lasts : Cells25 (builtOf (length counts - 1) built)
+    run-lasts = lasts-25 p size counts built top height buffer (rows-first .0) rows (rows-first .1) sum wide (c .right) (c .in-built) (c .some) room
+
+    run-last : length (lastBuilt counts built) ≡ 25
+    run-last = last-25 p size counts built top height buffer (rows-first .0) rows (rows-first .1) sum wide (c .right) (c .in-built) (c .some) room
+
+    run-written : take (49 * height) (allPasses p size counts built top height buffer) ≡ flat run-rows
+    run-written = passes-rows p size counts built top height buffer (rows-first .0) rows (rows-first .1) sum wide (c .right) (c .in-built) (c .some) room
+
+    pub run-wide : Wide run-rows
+    run-wide = all-wide p (c .right) size top (builtOf (length counts - 1) built) (lastBuilt counts built) height rows run-lasts run-last wide room
+
+    pub run-length : length run-rows ≡ height
+    run-length = all-length p (c .right) size top (builtOf (length counts - 1) built) (lastBuilt counts built) height rows run-lasts run-last wide room
+
+    pub rows-below : BelowAll rows → BelowAll run-rows
+    rows-below = finished-below p size counts built top height buffer (rows-first .0) rows (rows-first .1) sum wide (c .right) (c .in-built) (c .some) room (c .few)
+
+    run-passes : bufferRefusal p (flat run-rows) ≡ 0
+    run-passes = buffer-passes p size counts built top height buffer (rows-first .0) rows (rows-first .1) sum wide (c .right) (c .in-built) (c .some) room (c .few)
+
+    -- of a proper run they are a trace
+    run-trace : (runs : Runs p q size fragments here) → Trace p (flat run-rows) (nesting runs)
+    unfolding Trace AllFine
+    run-trace runs =
+        let laid-rows = rows-laid p q fragments here none-refused (run-fine p q (runs .proper) tt) in
+        let reading = all-reading p (c .right) size top (builtOf (length counts - 1) built) (lastBuilt counts built) height rows run-lasts run-last wide room (cyclesOf q fragments (here .at)) (readState (here .state)) laid-rows (omega (arith, c .few, room)) (runs .proper) (rw (starts-reduced q fragments (here .at)) (runs .loops-apart)) (runs .shallow) in
+        rw (all-flat run-rows run-wide) (run-passes, reading)
+
+  -- what holds of their cells holds of what is written: by the finisher, and by the five calls one after another
+  module _ (Q : List ℕ → Type 0) (h : PassesChecked → Q (flat run-rows)) where
+    pub by-finisher : FinisherPasses p q size fragments here others top height → Q (writtenByFinisher p q size fragments here others top height)
+    unfolding finisherBuffer
+    by-finisher e = let c = checked-finisher p size counts built top height buffer e in rw (e, run-written c) (h c)
+
+    pub by-five : FivePass p q size fragments here others top height → Q (writtenByFive p q size fragments here others top height)
+    by-five five = let c = checked-five p size counts built top height buffer five in rw (five-all p size counts built top height buffer five, run-written c) (h c)
+
+-- THE THEOREM
+
+module _ (p : Profile) (q : Queues) (size : ℕ) (fragments : List Fragment) (here : Cursor) (runs : Runs p q size fragments here) (others top : List ℕ) (height : ℕ) where
   -- "what is then written is such a trace, its reading is the nesting of blocks and operations that ran .., and each LOOP row's count is the
   -- number of passes of its body": for the finisher
   pub finisher-trace : FinisherPasses p q size fragments here others top height → Trace p (writtenByFinisher p q size fragments here others top height) (nesting runs)
-  unfolding finisherBuffer
-  finisher-trace e = rw e (trace-all (checked-finisher p size counts built top height buffer e))
+  finisher-trace =
+      by-finisher p q size fragments here (runs .accepted) (runs .one-size) others top height (λ cells. Trace p cells (nesting runs)) (λ c. run-trace p q size fragments here (runs .accepted) (runs .one-size) others top height c runs)
 
   -- and for the five calls, one after another
   pub five-trace : FivePass p q size fragments here others top height → Trace p (writtenByFive p q size fragments here others top height) (nesting runs)
-  five-trace five = rw (five-all p size counts built top height buffer five) (trace-all (checked-five p size counts built top height buffer five))
+  five-trace =
+      by-five p q size fragments here (runs .accepted) (runs .one-size) others top height (λ cells. Trace p cells (nesting runs)) (λ c. run-trace p q size fragments here (runs .accepted) (runs .one-size) others top height c runs)

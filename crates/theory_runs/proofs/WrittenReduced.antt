@@ -1,11 +1,7 @@
 -- "Every cell that a call writes is reduced" (N2), of a whole trace: each cell of the first height rows that are written of a run is below p. The
 -- run need not be proper.
-use mathlib.Core.Path.{_≡_, _∙_, ap}
-use mathlib.Core.List.{List, [], _∷_, _++_, append-assoc}
-use Prim.Native.Nat.{ℕ, _+_, _*_, _<_}
-use native.Mathlib.Omega.{arith}
-use lib.ListN.{length, take}
-use Rattle.field.specs.Cells.{reduced}
+use mathlib.Core.List.{List, [], _∷_}
+use Prim.Native.Nat.{ℕ}
 use Rattle.rows.specs.declared.records.profile.Profile.{Profile}
 use Rattle.rows.specs.declared.cycles.tracer.CoreTraceGenerationTracer.{CoreTraceGenerationTracer}
 use Rattle.rows.specs.declared.cycles.made.MadeRow.{MadeRow}
@@ -14,14 +10,12 @@ use Rattle.rows.specs.records.Addresses.{Queues}
 use Rattle.rows.specs.records.Cells.{rowCells}
 use Rattle.rows.specs.cycles.Made.{Cursor}
 use Rattle.rows.specs.records.Buffers.{flat}
-use Rattle.rows.specs.passes.Passes.{allPasses}
 use Rattle.theory_runs.specs.Calls.{Call, store, finish, Fragment, Held, answered, after, opened, closed, cursorOf, AllAccepted, finalStates, countsOf, OneSize}
 use Rattle.theory_runs.specs.Written.{rowMade, rowsIn, rowsRun}
-use Rattle.theory_runs.specs.Finished.{finisherBuffer, runCounts, runBuilt, runBuffer, writtenByFive, writtenByFinisher, FivePass, FinisherPasses}
-use Rattle.theory_runs.proofs.Folded.{rows-wide, sum-rows, cells-rows}
+use Rattle.theory_runs.specs.Finished.{writtenByFive, writtenByFinisher, FivePass, FinisherPasses}
 use Rattle.theory_reductions.specs.Below.{Below, BelowAll}
 use Rattle.theory_reductions.proofs.CellsBelow.{below-reduced, below-all-app, below-flat}
-use Rattle.theory_runs.proofs.TraceOfRun.{passes-rows, finished-below, Checked, checked-finisher, checked-five, five-all}
+use Rattle.theory_runs.proofs.TraceOfRun.{PassesChecked, run-rows, rows-below, by-finisher, by-five}
 
 -- THE ROWS OF CYCLES
 
@@ -46,31 +40,13 @@ module _ (p : Profile) (q : Queues) where
 
 -- AFTER THE PASSES
 
-module _ (p : Profile) (q : Queues) (size : ℕ) (fragments : List Fragment) (here : Cursor) (accepted : AllAccepted p q fragments here) (one-size : OneSize size fragments (countsOf (finalStates p q fragments here))) (others top : List ℕ) (height : ℕ) where
-  abbrev counts : List ℕ
-  counts = runCounts p q size fragments here others top height
-
-  abbrev built : List ℕ
-  built = runBuilt p q size fragments here others top height
-
-  abbrev buffer : List ℕ
-  buffer = runBuffer p q size fragments here others top height
-
-  passes-below : Checked p counts built top height buffer → Below (take (49 * height) (allPasses p size counts built top height buffer))
-  passes-below c =
-      let rows : List (List ℕ) = rowsRun p q fragments here in
-      let wide = rows-wide p q fragments here accepted in
-      let sum = sum-rows p q fragments here accepted in
-      let (rest, cells) = cells-rows p q size fragments here accepted one-size in
-      let holds : buffer ≡ flat rows ++ (rest ++ others) = ap (λ y. y ++ others) cells ∙ append-assoc (flat rows) rest others in
-      let room : length rows < height = omega (arith, sum, c .room) in
-      rw (passes-rows p size counts built top height buffer (rest ++ others) rows holds sum wide (c .right) (c .in-built) (c .some) room)
-      (below-flat _ (finished-below p size counts built top height buffer (rest ++ others) rows holds sum wide (c .right) (c .in-built) (c .some) room (c .few) (run-below p q fragments here)))
+module _ (p : Profile) (q : Queues) (size : ℕ) (fragments : List Fragment) (here : Cursor) (none-refused : AllAccepted p q fragments here) (one-size : OneSize size fragments (countsOf (finalStates p q fragments here))) (others top : List ℕ) (height : ℕ) where
+  passes-below : (c : PassesChecked p q size fragments here none-refused one-size others top height) → Below (flat (run-rows p q size fragments here none-refused one-size others top height))
+  passes-below c = below-flat _ (rows-below p q size fragments here none-refused one-size others top height c (run-below p q fragments here))
 
   -- by the finisher, and by the five calls one after another
   pub written-below : FinisherPasses p q size fragments here others top height → Below (writtenByFinisher p q size fragments here others top height)
-  unfolding finisherBuffer
-  written-below e = rw e (passes-below (checked-finisher p size counts built top height buffer e))
+  written-below = by-finisher p q size fragments here none-refused one-size others top height Below passes-below
 
   pub written-below-five : FivePass p q size fragments here others top height → Below (writtenByFive p q size fragments here others top height)
-  written-below-five five = rw (five-all p size counts built top height buffer five) (passes-below (checked-five p size counts built top height buffer five))
+  written-below-five = by-five p q size fragments here none-refused one-size others top height Below passes-below

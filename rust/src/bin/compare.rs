@@ -35,26 +35,7 @@ fn main() {
                 reads.all(&reader_rng, trace, run.nesting.as_deref());
             }
         }
-        println!(
-            "{name}: {} runs, {} of them finished, {} calls, {} rows, {} cells compared, {} helper cells of HALT rows from depth 18 up left \
-             out, {} differences",
-            tally.runs, tally.finished, tally.calls, tally.rows, tally.cells, tally.left_out, tally.differences
-        );
-        println!(
-            "  overflow rule: {} rows of the {} finished traces, as the five calls and as the finisher leave them",
-            tally.rule_rows, tally.finished
-        );
-        println!("  finished at depth {}", tally.ends());
-        println!(
-            "  {} of the {} runs with cells from p on: {} in the run, {} in the rows and built cells handed to the passes",
-            tally.raised, tally.runs, tally.run_cells, tally.row_cells
-        );
-        for text in &tally.told {
-            println!("  {text}");
-        }
-        for ((number, text), times) in &tally.refusals {
-            println!("  {times:6} times: number {number:2}, the listed Rust: {text}");
-        }
+        println!("{name}: {tally}");
         bad |= tally.differences > 0;
     }
     // Traces from the grammar, half of them near the deepest that is read.
