@@ -753,8 +753,8 @@ pub const DEPTHS: [u32; 6] = [16, 17, 18, 1039, 1040, u32::MAX];
 /// The run with such a depth in one of four cycles, and three times of four in the last, whose depth HALT has. A depth below 16 stays.
 pub fn with_depths(rng: &Rng, mut run: Run) -> Run {
     for (behind, cycle) in run.cycles_from_last().enumerate() {
-        let is_other = rng.one_in(4) != (behind == 0);
-        if is_other && cycle.stack.stack_depth >= 16 {
+        let is_given = rng.one_in(4) != (behind == 0);
+        if is_given && cycle.stack.stack_depth >= 16 {
             cycle.stack.stack_depth = rng.pick(&DEPTHS);
         }
     }
