@@ -25,18 +25,18 @@ good-entry (suc k) x t h = (
   ltb→lt x P (both-right (eqb ((suc k * x) % P) 1) (ltb x P) t),
 )
 
-pub table-rule : (table : List ℕ) → T (leb 1024 (length table)) → T (every good 0 table) → TableRule table
+pub table-rule : (table : List ℕ) → T (leb 128 (length table)) → T (every good 0 table) → TableRule table
 table-rule table l t =
     record {
       of-zero = eqb→eq (getD table 0 0) 0 (at good table t 0 (le-trans (omega arith) long));
       of-index = λ k h b. good-entry k (getD table k 0) (at good table t k (le-trans b long)) h;
     }
   where
-    long : 1024 ≤ length table
-    long = leb→le 1024 (length table) l
+    long : 128 ≤ length table
+    long = leb→le 128 (length table) l
 
 -- every entry is the inverse of its index
-pub entry-inverse : (table : List ℕ) → TableRule table → (k : ℕ) → k < 1024 → getD table k 0 ≡ inverseOf k
+pub entry-inverse : (table : List ℕ) → TableRule table → (k : ℕ) → k < 128 → getD table k 0 ≡ inverseOf k
 entry-inverse table rule zero h = rule .of-zero ∙ sym inverse-zero
 entry-inverse table rule (suc k) h =
     let w = rule .of-index (suc k) (omega arith) h in

@@ -3,6 +3,7 @@ pub mod Prime
 pub mod Bezout
 pub mod Product
 pub mod InverseLaws
+pub mod KeptLaws
 pub mod Every
 pub mod Entries
 pub mod Columns

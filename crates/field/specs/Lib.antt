@@ -4,3 +4,4 @@ pub mod Bounds
 pub mod Inverse
 pub mod Table
 pub mod Column
+pub mod ways

@@ -1,4 +1,5 @@
-// The inverse modulo p of a number, and of each cell in a column of a buffer. Inverses of 0 to 1,023 are looked up, others computed.
+// The inverse modulo p of a number, and of each cell in a column of a buffer. Inverses of 0 to 127 are looked up, others computed; a column keeps
+// those of numbers below 1,024 that it has computed.
 use crate::felt::Felt;
 use crate::felt::reduce;
 use crate::table::INVERSES;
@@ -7,6 +8,7 @@ ghost use Prim.Native.Nat.{_<_};
 ghost use Rattle.field.specs.Modulus.{P};
 ghost use Rattle.field.specs.Inverse.{inverseOf};
 ghost use Rattle.field.specs.Table.{TableRule};
+ghost use Rattle.field.specs.ways.KeptInverses.{KeptInverses};
 ghost use Rattle.field.specs.Column.{invertColumn};
 
 // The inverse of a number from 1 to p - 1, by Euclid's algorithm without signs: x·s is -u and x·t is v modulo p.
@@ -31,23 +33,10 @@ fn euclid_inverse(x: u64) -> u64
 }
 
 // The table. A constant array is built anew where it is named, so a loop makes it once and lends it.
-fn inverses() -> [u64; 1024]
+fn inverses() -> [u64; 128]
     ensures { λ r. ⌜ TableRule r ⌝ }
 {
     INVERSES
-}
-
-// The inverse of any number, with the table lent.
-fn inverse_in(table: &[u64; 1024], x: u64) -> u64
-    requires { ⌜ TableRule (now table) ⌝ }
-    ensures { λ r. ⌜ r ≡ inverseOf x ⌝ }
-{
-    let y = reduce(x);
-    if y < 1024 {
-        table[y as usize]
-    } else {
-        euclid_inverse(y)
-    }
 }
 
 // The inverse of any number: 0 for a multiple of p.
@@ -55,11 +44,33 @@ pub fn inverse(x: u64) -> u64
     ensures { λ r. ⌜ r ≡ inverseOf x ⌝ }
 {
     let y = reduce(x);
-    if 1024 <= y {
+    if 128 <= y {
         return euclid_inverse(y);
     }
     let table = inverses();
-    inverse_in(&table, y)
+    table[y as usize]
+}
+
+// The inverse of any number in a column: looked up, computed, or kept since it was computed for a number below 1,024.
+fn inverse_kept(table: &[u64; 128], kept: &mut [u64; 1024], x: u64) -> u64
+    requires { ⌜ TableRule (now table) × KeptInverses (now kept) ⌝ }
+    ensures { λ r. ⌜ r ≡ inverseOf x ⌝ }
+    ensures { λ _. ⌜ KeptInverses (now (kept .exit)) ⌝ }
+{
+    let y = reduce(x);
+    if y < 128 {
+        return table[y as usize];
+    }
+    if 1024 <= y {
+        return euclid_inverse(y);
+    }
+    let found = kept[y as usize];
+    if found != 0 {
+        return found;
+    }
+    let made = euclid_inverse(y);
+    kept[y as usize] = made;
+    made
 }
 
 // Replaces by its inverse each cell in the given column of the first `rows` rows of `width` cells. Rows that the buffer does not
@@ -71,13 +82,14 @@ pub fn invert_column(cells: &mut [u64], rows: usize, width: usize, column: usize
         return;
     }
     let table = inverses();
+    let mut kept = [0u64; 1024];
     let mut row = 0;
     let mut at = column;
     while row < rows {
         if cells.len() <= at {
             return;
         }
-        cells[at] = inverse_in(&table, cells[at]);
+        cells[at] = inverse_kept(&table, &mut kept, cells[at]);
         if cells.len() - at <= width {
             return;
         }

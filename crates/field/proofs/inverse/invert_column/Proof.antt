@@ -1,4 +1,4 @@
--- `inverse::invert_column` meets its contract: the loop keeps the buffer with the column of the first `row` rows inverted.
+-- `inverse::invert_column` meets its contract: the loop keeps the buffer with the column of the first `row` rows inverted, and inverses that it met.
 use mathlib.Core.Path.{_≡_, refl, sym, ap, _∙_, subst}
 use mathlib.Core.List.{List}
 use Prim.Native.Nat.{ℕ, _+_, _*_, _-_, _≤_, _<_}
@@ -8,7 +8,9 @@ use denote.Ref.{now}
 use lib.ListN.{length, getD, set, length-set}
 use Rattle.field.specs.Inverse.{inverseOf}
 use Rattle.field.specs.Column.{invertColumn}
+use Rattle.field.specs.ways.KeptInverses.{KeptInverses}
 use Rattle.field.proofs.Columns.{column-length, column-outside, column-none, column-more, column-here, column-past}
+use Rattle.field.proofs.KeptLaws.{kept-none}
 use Rattle.field.proofs.inverse.invert_column.Statement.{statement}
 use Rattle.field.proofs.inverse.invert_column.Tie as tie
 
@@ -18,10 +20,10 @@ pub record Held (l : List ℕ) (n w c : ℕ) (m : List ℕ) (r k : ℕ) : Type 0
   pub place : k ≡ r * w + c
 
 abbrev Inv-loop : tie.InvT-loop
-Inv-loop cells₀ rows width column table row₀ at₀ cells row at = Held cells₀ rows width column cells row at
+Inv-loop cells₀ rows width column table kept₀ row₀ at₀ cells kept row at = Held cells₀ rows width column cells row at × KeptInverses kept
 
 abbrev μ-loop : tie.MeasureT-loop
-μ-loop cells₀ rows width column table row₀ at₀ cells row at = rows - row
+μ-loop cells₀ rows width column table kept₀ row₀ at₀ cells kept row at = rows - row
 
 module _ (l : List ℕ) (n w c : ℕ) (m : List ℕ) (r k : ℕ) (held : Held l n w c m r k) where
   same-size : length m ≡ length l
@@ -55,61 +57,57 @@ inverses-requires c κs = search needs
 loop-holds : tie.Need-loop-holds Inv-loop μ-loop
 loop-holds c =
     let a = c .before .before .before .args in
-    record { done = column-none (now (a .cells)) (a .width) (a .column); in-rows = omega arith; place = omega arith }
+    (record { done = column-none (now (a .cells)) (a .width) (a .column); in-rows = omega arith; place = omega arith }, kept-none 1024)
 
 same-length : tie.Need-same-length Inv-loop μ-loop
 same-length c =
     let l = c .before .before .loop in
     let a = c .before .before .before .before .before .before .args in
-    same-size (now (a .cells)) (a .rows) (a .width) (a .column) (l .cells) (l .row) (l .at) (l .inv)
+    same-size (now (a .cells)) (a .rows) (a .width) (a .column) (l .cells) (l .row) (l .at) (l .inv .0)
 
 returns-2 : tie.Need-returns-2 Inv-loop μ-loop
 returns-2 c =
     let l = c .before .before .loop in
     let a = c .before .before .before .before .before .before .args in
-    stop (now (a .cells)) (a .rows) (a .width) (a .column) (l .cells) (l .row) (l .at) (l .inv) (c .before .before .before .before .if1 .left) (c .if2 .taken)
+    stop (now (a .cells)) (a .rows) (a .width) (a .column) (l .cells) (l .row) (l .at) (l .inv .0) (c .before .before .before .before .if1 .left) (c .if2 .taken)
 
-mul-inverse-in : tie.Need-mul-inverse-in Inv-loop μ-loop
-mul-inverse-in c =
-    let l = c .before .before .before .loop in
-    let a = c .before .before .before .before .before .before .before .args in
-    omega (arith, same-size (now (a .cells)) (a .rows) (a .width) (a .column) (l .cells) (l .row) (l .at) (l .inv))
+mul-inverse-kept : tie.Need-mul-inverse-kept Inv-loop μ-loop
+mul-inverse-kept c =
+    let l = c .before .before .before .before .loop in
+    let a = c .before .before .before .before .before .before .before .before .args in
+    omega (arith, same-size (now (a .cells)) (a .rows) (a .width) (a .column) (l .cells) (l .row) (l .at) (l .inv .0))
 
-slice-read-inverse-in : tie.Need-slice-read-inverse-in Inv-loop μ-loop
-slice-read-inverse-in c = search needs
-
-inverse-in-requires : tie.Need-inverse-in-requires Inv-loop μ-loop
-inverse-in-requires c κs = c .before .before .before .before .before .inverses .ensures
+inverse-kept-requires : tie.Need-inverse-kept-requires Inv-loop μ-loop
+inverse-kept-requires c κs =
+    let l = c .before .before .before .before .before in
+    (l .before .inverses .ensures, l .loop .inv .1)
 
 mul-cells : tie.Need-mul-cells Inv-loop μ-loop
 mul-cells c =
-    let l = c .before .before .before .before .before .loop in
-    let a = c .before .before .before .before .before .before .before .before .before .args in
-    omega (arith, same-size (now (a .cells)) (a .rows) (a .width) (a .column) (l .cells) (l .row) (l .at) (l .inv))
-
-slice-write-cells : tie.Need-slice-write-cells Inv-loop μ-loop
-slice-write-cells c = search needs
+    let l = c .before .before .before .before .before .before .loop in
+    let a = c .before .before .before .before .before .before .before .before .before .before .args in
+    omega (arith, same-size (now (a .cells)) (a .rows) (a .width) (a .column) (l .cells) (l .row) (l .at) (l .inv .0))
 
 sub-if3 : tie.Need-sub-if3 Inv-loop μ-loop
 sub-if3 c = simp length-set (omega arith)
 
 same-length-2 : tie.Need-same-length-2 Inv-loop μ-loop
 same-length-2 c =
-    let l = c .before .before .before .before .before .before .loop in
-    let a = c .before .before .before .before .before .before .before .before .before .before .args in
-    length-set (l .cells) (l .at) (c .before .inverse-in .result) ∙ same-size (now (a .cells)) (a .rows) (a .width) (a .column) (l .cells) (l .row) (l .at) (l .inv)
+    let l = c .before .before .before .before .before .before .before .loop in
+    let a = c .before .before .before .before .before .before .before .before .before .before .before .args in
+    length-set (l .cells) (l .at) (c .before .inverse-kept .result) ∙ same-size (now (a .cells)) (a .rows) (a .width) (a .column) (l .cells) (l .row) (l .at) (l .inv .0)
 
 returns-3 : tie.Need-returns-3 Inv-loop μ-loop
 returns-3 c =
-    let l = c .before .before .before .before .before .before .loop in
-    let a = c .before .before .before .before .before .before .before .before .before .before .args in
-    last-row (now (a .cells)) (a .rows) (a .width) (a .column) (l .cells) (l .row) (l .at) (l .inv) (c .before .before .before .before .before .before .before .before .if1 .left) (c .before .inverse-in .result) (c .before .before .before .before .if2 .left) (c .before .before .before .before .before .loop-test .taken) (c .before .inverse-in .ensures) (simp length-set at (c .if3 .taken))
+    let l = c .before .before .before .before .before .before .before .loop in
+    let a = c .before .before .before .before .before .before .before .before .before .before .before .args in
+    last-row (now (a .cells)) (a .rows) (a .width) (a .column) (l .cells) (l .row) (l .at) (l .inv .0) (c .before .before .before .before .before .before .before .before .before .if1 .left) (c .before .inverse-kept .result) (c .before .before .before .before .before .if2 .left) (c .before .before .before .before .before .before .loop-test .taken) (c .before .inverse-kept .ensures .0) (simp length-set at (c .if3 .taken))
 
 add-at : tie.Need-add-at Inv-loop μ-loop
 add-at c =
-    let l = c .before .before .before .before .before .before .loop in
-    let a = c .before .before .before .before .before .before .before .before .before .before .args in
-    omega (arith, same-size (now (a .cells)) (a .rows) (a .width) (a .column) (l .cells) (l .row) (l .at) (l .inv), length-set (l .cells) (l .at) (c .before .inverse-in .result))
+    let l = c .before .before .before .before .before .before .before .loop in
+    let a = c .before .before .before .before .before .before .before .before .before .before .before .args in
+    omega (arith, same-size (now (a .cells)) (a .rows) (a .width) (a .column) (l .cells) (l .row) (l .at) (l .inv .0), length-set (l .cells) (l .at) (c .before .inverse-kept .result))
 
 add-row : tie.Need-add-row Inv-loop μ-loop
 add-row c = search needs
@@ -119,25 +117,27 @@ loop-less c = search needs
 
 loop-again : tie.Need-loop-again Inv-loop μ-loop
 loop-again c =
-    let l = c .before .before .before .before .before .before .loop in
-    let a = c .before .before .before .before .before .before .before .before .before .before .args in
-    record {
-      done = next (now (a .cells)) (a .rows) (a .width) (a .column) (l .cells) (l .row) (l .at) (l .inv) (c .before .before .before .before .before .before .before .before .if1 .left) (c .before .inverse-in .result) (c .before .before .before .before .if2 .left) (c .before .inverse-in .ensures);
-      in-rows = omega arith;
-      place = omega (arith, l .inv .place);
-    }
+    let l = c .before .before .before .before .before .before .before .loop in
+    let a = c .before .before .before .before .before .before .before .before .before .before .before .args in (
+      record {
+        done = next (now (a .cells)) (a .rows) (a .width) (a .column) (l .cells) (l .row) (l .at) (l .inv .0) (c .before .before .before .before .before .before .before .before .before .if1 .left) (c .before .inverse-kept .result) (c .before .before .before .before .before .if2 .left) (c .before .inverse-kept .ensures .0);
+        in-rows = omega arith;
+        place = omega (arith, l .inv .0 .place);
+      },
+      c .before .inverse-kept .ensures .1,
+    )
 
 same-length-3 : tie.Need-same-length-3 Inv-loop μ-loop
 same-length-3 c =
     let l = c .before .loop in
     let a = c .before .before .before .before .before .args in
-    same-size (now (a .cells)) (a .rows) (a .width) (a .column) (l .cells) (l .row) (l .at) (l .inv)
+    same-size (now (a .cells)) (a .rows) (a .width) (a .column) (l .cells) (l .row) (l .at) (l .inv .0)
 
 returns-4 : tie.Need-returns-4 Inv-loop μ-loop
 returns-4 c =
     let l = c .before .loop in
     let a = c .before .before .before .before .before .args in
-    l .inv .done ∙ ap (λ (n : ℕ). invertColumn (now (a .cells)) n (a .width) (a .column)) (omega (arith, l .inv .in-rows))
+    l .inv .0 .done ∙ ap (λ (n : ℕ). invertColumn (now (a .cells)) n (a .width) (a .column)) (omega (arith, l .inv .0 .in-rows))
 
 pub invert-column-spec : {M : Type 1} → statement M
 invert-column-spec =
@@ -150,11 +150,11 @@ invert-column-spec =
     loop-holds
     same-length
     returns-2
-    mul-inverse-in
-    slice-read-inverse-in
-    inverse-in-requires
+    mul-inverse-kept
+    (λ c. search needs)
+    inverse-kept-requires
     mul-cells
-    slice-write-cells
+    (λ c. search needs)
     sub-if3
     same-length-2
     returns-3
