@@ -14,6 +14,9 @@ static uint64_t random64(void) {
     z = (z ^ (z >> 27)) * 0x94d049bb133111ebu;
     return z ^ (z >> 31);
 }
+static int is_inverse(uint64_t x, uint64_t y) {
+    return x == 0 ? y == 0 : y < P && (unsigned __int128)x * y % P == 1;
+}
 static double now(void) {
     struct timespec t;
     clock_gettime(CLOCK_THREAD_CPUTIME_ID, &t);
@@ -37,8 +40,8 @@ int main(int count, char **words) {
     for (int k = 0; k < 5; k++) {
         for (size_t row = 0; row < rows; row++) start[49 * row + 48] = least[k] + random64() % (limit[k] - least[k]);
         double best = best_of_nine(start, cells, rows);
-        for (size_t at = 48; at < rows * 49; at += 49)
-            if ((unsigned __int128)start[at] * cells[at] % P != (start[at] != 0)) return puts(" wrong"), 1;
+        for (size_t at = 0; at < rows * 49; at++)
+            if (at % 49 == 48 ? !is_inverse(start[at], cells[at]) : cells[at] != start[at]) return puts(" wrong"), 1;
         printf(" %.2f", best);
     }
     puts("");

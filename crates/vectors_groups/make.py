@@ -21,11 +21,12 @@ def field():
     for _ in range(150):
         a, b = rng.randrange(2**64), rng.randrange(2**64)
         lines.append((3, "mul", a, b, a * b % P))
-    small = [3, 7, 255, 256, 1021, 1022, 1023, 1024, 1025, P + 1023, P + 1024]
-    large = [rng.randrange(2**64) for _ in range(150)]
-    # the table's end since N5, and numbers that it had before
-    table_edge = [126, 127, 128, 129, P + 126, P + 127, P + 128, P + 129] + random.Random(128).sample(range(130, 1022), 100)
-    for a in limits + small + large + table_edge:
+    named = [3, 7, 255, 256, 1021, 1022, 1023, 1024, 1025, P + 1023, P + 1024]
+    anywhere = [rng.randrange(2**64) for _ in range(150)]
+    # where the table ends since N5, and a hundred numbers that it had before
+    table_end = [126, 127, 128, 129, P + 126, P + 127, P + 128, P + 129]
+    computed = random.Random(128).sample([k for k in range(130, 1022) if k not in named], 100)
+    for a in limits + named + anywhere + table_end + computed:
         lines.append((4, "inverse", a, 0, inverse(a)))
     return "".join("%d %s %d %d = %d\n" % line for line in lines)
 

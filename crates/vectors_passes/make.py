@@ -413,10 +413,13 @@ def passes():
     # pass 3
     name = "helpers"
     special = [0, 1, 2, 1023, 1024, P - 1, P - 2, 1022, 3, 2**32, 2**32 - 1, 65536]
+    for count in (0, 1, 2, 6, 11, 12):
+        out.add("helpers", name, rows(count), *[row(k, helper=h) for k, h in enumerate(special)], number=0)
+    # about the ends of the table and of what is kept
     again = [300, 300, 1023, 1023, 127, 127, 128, 128, 1024, 1024, 0, 0]
     later = [126, 127, 128, 129, 1022, 1023, 1024, 126, 129, 1023, 128, 1022]
-    for words, count, helpers in [("helpers", count, special) for count in (0, 1, 2, 6, 11, 12)] + [("helpers that recur", 12, again), ("helpers that come back", 12, later)]:
-        out.add(words, name, rows(count), *[row(k, helper=h) for k, h in enumerate(helpers)], number=0)
+    for words, helpers in (("helpers twice running", again), ("helpers again later", later)):
+        out.add(words, name, rows(12), *[row(k, helper=h) for k, h in enumerate(helpers)], number=0)
     out.add("zeros", name, rows(12), *[row(k, helper=0) for k in range(12)], number=0)
     rng = random.Random(7)
     for _ in range(4):

@@ -44,14 +44,14 @@ pub fn inverse(x: u64) -> u64
     ensures { λ r. ⌜ r ≡ inverseOf x ⌝ }
 {
     let y = reduce(x);
-    if 128 <= y {
-        return euclid_inverse(y);
+    if y < 128 {
+        let table = inverses();
+        return table[y as usize];
     }
-    let table = inverses();
-    table[y as usize]
+    euclid_inverse(y)
 }
 
-// The inverse of any number in a column: looked up, computed, or kept since it was computed for a number below 1,024.
+// The inverse of any number in a column: looked up below 128; below 1,024 computed once and kept; else computed.
 fn inverse_kept(table: &[u64; 128], kept: &mut [u64; 1024], x: u64) -> u64
     requires { ⌜ TableRule (now table) × KeptInverses (now kept) ⌝ }
     ensures { λ r. ⌜ r ≡ inverseOf x ⌝ }

@@ -9,12 +9,22 @@ use Rattle.field.proofs.inverse.inverse.Tie as tie
 returns : tie.Need-returns
 returns c =
     let r = c .before .before in
-    c .euclid-inverse .ensures ∙ inverse-reduced (r .before .args .x) (r .reduce .result) (r .reduce .ensures)
+    entry-inverse (c .inverses .result) (c .inverses .ensures) (r .reduce .result) (c .before .if1 .taken)
+    ∙ inverse-reduced (r .before .args .x) (r .reduce .result) (r .reduce .ensures)
 
 returns-2 : tie.Need-returns-2
 returns-2 c =
     let r = c .before .before in
-    entry-inverse (c .inverses .result) (c .inverses .ensures) (r .reduce .result) (c .before .if1 .left) ∙ inverse-reduced (r .before .args .x) (r .reduce .result) (r .reduce .ensures)
+    c .euclid-inverse .ensures ∙ inverse-reduced (r .before .args .x) (r .reduce .result) (r .reduce .ensures)
 
 pub inverse-spec : {M : Type 1} → statement M
-inverse-spec = tie.close (tie.spec (λ c κs. search needs) (λ c κs. search needs) returns (λ c κs. search needs) (λ c. search needs) (λ c. search needs) returns-2)
+inverse-spec =
+    tie.close
+    (tie.spec
+    (λ c κs. search needs)
+    (λ c κs. search needs)
+    (λ c. search needs)
+    (λ c. search needs)
+    returns
+    (λ c κs. search needs)
+    returns-2)

@@ -1,5 +1,6 @@
 -- `inverse::inverse_kept` meets its contract: what is looked up, computed, or kept.
 use mathlib.Core.Path.{_∙_}
+use native.Mathlib.Omega.{arith}
 use borrow.Author.Needs.{needs}
 use denote.Ref.{now}
 use Rattle.field.proofs.Entries.{entry-inverse}
@@ -11,8 +12,11 @@ use Rattle.field.proofs.inverse.inverse_kept.Tie as tie
 returns : tie.Need-returns
 returns c =
     let r = c .before .before in
-    let s = r .before in
-    (entry-inverse (now (s .args .table)) (s .pre .0) (r .reduce .result) (c .before .if1 .taken) ∙ inverse-reduced (s .args .x) (r .reduce .result) (r .reduce .ensures), s .pre .1)
+    let s = r .before in (
+      entry-inverse (now (s .args .table)) (s .pre .0) (r .reduce .result) (c .before .if1 .taken)
+          ∙ inverse-reduced (s .args .x) (r .reduce .result) (r .reduce .ensures),
+      s .pre .1,
+    )
 
 returns-2 : tie.Need-returns-2
 returns-2 c =
@@ -24,7 +28,8 @@ returns-3 : tie.Need-returns-3
 returns-3 c =
     let r = c .before .before .before .before in
     let s = r .before in (
-      kept-found (now (s .args .kept)) (s .pre .1) (r .reduce .result) (c .if3 .taken) ∙ inverse-reduced (s .args .x) (r .reduce .result) (r .reduce .ensures),
+      kept-found (now (s .args .kept)) (s .pre .1) (r .reduce .result) (omega arith) (c .if3 .taken)
+          ∙ inverse-reduced (s .args .x) (r .reduce .result) (r .reduce .ensures),
       s .pre .1,
     )
 

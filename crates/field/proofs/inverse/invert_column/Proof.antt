@@ -1,5 +1,6 @@
--- `inverse::invert_column` meets its contract: the loop keeps the buffer with the column of the first `row` rows inverted, and inverses that it met.
-use mathlib.Core.Path.{_≡_, refl, sym, ap, _∙_, subst}
+-- `inverse::invert_column` meets its contract: the loop keeps the buffer with the column of the first `row` rows inverted, and in its array
+-- at each place 0 or the inverse of the place.
+use mathlib.Core.Path.{_≡_, ap, _∙_}
 use mathlib.Core.List.{List}
 use Prim.Native.Nat.{ℕ, _+_, _*_, _-_, _≤_, _<_}
 use native.Mathlib.Omega.{arith}
@@ -57,7 +58,7 @@ inverses-requires c κs = search needs
 loop-holds : tie.Need-loop-holds Inv-loop μ-loop
 loop-holds c =
     let a = c .before .before .before .args in
-    (record { done = column-none (now (a .cells)) (a .width) (a .column); in-rows = omega arith; place = omega arith }, kept-none 1024)
+    (record { done = column-none (now (a .cells)) (a .width) (a .column); in-rows = omega arith; place = omega arith }, kept-none)
 
 same-length : tie.Need-same-length Inv-loop μ-loop
 same-length c =
