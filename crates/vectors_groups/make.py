@@ -123,7 +123,7 @@ def place_of(starts, ops, op):
         return 6, []
     for g in range(8):
         if starts[g] <= op < starts[g + 1]:
-            return (0, [g, op - starts[g]]) if op - starts[g] <= 8 else (6, [])
+            return (0, [g, op - starts[g], min(starts[g + 1], ops) - op - 1]) if op - starts[g] <= 8 else (6, [])
     return 6, []
 
 
@@ -153,6 +153,10 @@ def places():
     for _ in range(60):
         starts = sorted(rng.randrange(40) for _ in range(9))
         tries.append((starts, rng.randrange(45), rng.randrange(45)))
+    # N7: up to the end of a group, of the batch, of a group whose next start lies past the batch's operations; empty groups before
+    for ops in (9, 12, 13, 20):
+        for op in range(ops):
+            tries.append(([0, 4, 4, 9, 13, 13, 20, 20, 20], ops, op))
     return "".join(line("starts", list(s) + [ops, op], place_of(s, ops, op)) for s, ops, op in tries)
 
 
@@ -184,12 +188,12 @@ def context_at_op(push, block, index, op, batches, groups):
                 (11, count > 4096 or any(batches[12 * (first + b)] > 8 for b in range(index + 1)))]
     if number:
         return lowest(refusals, [])
-    group, i = place
+    group, i, following = place
     cell = cells[group]
     pushes = sum((cell >> (7 * k)) % 128 == push for k in range(i))
     consumed = sum(round_up(batches[12 * (first + b)]) for b in range(index)) + pushes + group + 1
     refusals.append((8, consumed > total))
-    return lowest(refusals, [cell >> (7 * (i + 1)), total - consumed, i, group])
+    return lowest(refusals, [cell >> (7 * (i + 1)), total - consumed, i, group, following])
 
 
 def context_at_batch_start(block, index, batches, groups):

@@ -88,6 +88,8 @@ class Input:
         self.tracer = Tracer(self.tracer)
         self.case = CASES[min(self.registers[0], 17)]
         self.held = self.registers[1:1 + HELD[min(self.registers[0], 17)]]
+        # what a finish answers beside the row, unless it resumes an operation
+        self.following = 0
 
     def slot(self, node):
         """The six numbers and the digest of a slot, None where they do not lie whole in the slices."""
@@ -244,6 +246,7 @@ def operation(x, t, node, index, op):
     consumed = sum(round_up(x.batches[12 * (first + b)]) for b in range(index)) + pushes + group + 1
     refuse_if(consumed > total, 8)
     h = [groups[group] >> 7 * (place + 1), t.parent] + helpers(x.case, x.held)
+    x.following = min(starts[group + 1], ops) - op - 1
     return decoder_row(x.ops[first_op + op], t.current, h, in_span=1, count=total - consumed, index=place)
 
 
@@ -271,7 +274,7 @@ def made_row(x, t):
 
 
 def finish(v):
-    """The number, and on acceptance the row and the tracer after."""
+    """The number, and on acceptance the row, the tracer after, and how many operations follow."""
     x = Input(v)
     t = x.tracer
     try:
@@ -285,14 +288,14 @@ def finish(v):
         decoder = made_row(x, t)
         refuse_if(t.rows == len(x.fragment) // 49, 24)
     except Refused as refusal:
-        return refusal.args[0], None, None
+        return refusal.args[0], None, None, 0
     # what is written is reduced, and so is what the tracer is given anew; captured values and addresses that the row leaves stay as they were
     row = read(last[0:6] + decoder + last[6:25])
     clk, ctx, *fn_hash = x.system
     depth, overflow = x.stack[16:18]
     t.built = read([clk + 1, ctx] + fn_hash + x.stack[15::-1] + [depth, overflow, depth - 16])
     t.rows += 1
-    return 0, row, t.numbers()
+    return 0, row, t.numbers(), x.following
 
 
 def call(name, v):
@@ -315,14 +318,14 @@ def call(name, v):
         v[tracer] = t.numbers()
         return 0, v[tracer], v
     rows = t.rows
-    number, row, after = finish(v)
+    number, row, after, following = finish(v)
     if number:
         t.refusal = number
         v[tracer] = t.numbers()
         return number, [], v
     v[tracer] = after
     v[AT["fragment"] + 49 * rows:AT["fragment"] + 49 * rows + 49] = row
-    return 0, row + after, v
+    return 0, row + after + [following], v
 
 
 # ---- The base input -------------------------------------------------------------------------------------------------------------
@@ -558,6 +561,29 @@ def operations():
     ops.add("RESPAN without the next batch", store("Respan", TWO_BATCHES, 0), lent("batches", 47), number=0)
     ops.add("RESPAN unlike the total", store("Respan", BLOCK, 2), node_at(BLOCK, 3, 3), number=0)
     return ops
+
+
+def following():
+    """How many operations follow in the group, which a finish answers beside the row (N7); the other lists have it too."""
+    out = List("following")
+    for words, op, count, number in (("last of a group", 2, 18, 0), ("last of a group, an empty one behind", 4, 18, 0), ("behind an empty group", 5, 18, 3),
+                                     ("first of a group of nine", 9, 18, 8), ("last of a batch", 17, 18, 0), ("next start past the batch", 9, 12, 2),
+                                     ("next start past the batch", 10, 12, 1), ("next start past the batch, last", 11, 12, 0),
+                                     ("next start at the batch's end", 6, 9, 2), ("operations past the last start", 16, 2**32 - 1, 1)):
+        _, made = out.add(words, store("ResumeBasicBlock", BLOCK, 0, op), batch_at(0, 10, count), number=0)
+        assert made[95:] == [number], words
+    # a group of more than nine is told as it is, from an operation that is found
+    wide = {**batch_at(0, 10, 2**32 - 1), **{at("batches", k): 2**32 - 1 for k in range(6, 10)}}
+    for op in (9, 17):
+        _, made = out.add("a group of any length", store("ResumeBasicBlock", BLOCK, 0, op), wide, number=0)
+        assert made[95:] == [2**32 - 2 - op]
+    # no other continuation has it, nor a refusal
+    for name, node, more in (("StartNode", BLOCK, {}), ("Respan", BLOCK, {}), ("FinishBasicBlock", BLOCK, {}), ("FinishLoop", LOOP, ONE), ("FinishLoop", LOOP, ZERO)):
+        _, made = out.add("none, " + name, store(name, node), more, number=0)
+        assert made[95:] == [0]
+    out.add("refused", store("ResumeBasicBlock", BLOCK, 0, 5), FULL, number=24)
+    out.add("refused", store("ResumeBasicBlock", BLOCK, 0, 5), registers("U32Sub", 2**32), number=9)
+    return out
 
 
 # The numbers of a tracer that are cells: word, next overflow address, the two addresses, what was built last.
@@ -1146,7 +1172,7 @@ def mixed():
 
 if __name__ == "__main__":
     os.makedirs(os.path.join(HERE, "data"), exist_ok=True)
-    for made in (accepted_rows(), operations(), unreduced(), handed_back(), first_refusals(), own_refusals(), orders(), runs(), mixed()):
+    for made in (accepted_rows(), operations(), following(), unreduced(), handed_back(), first_refusals(), own_refusals(), orders(), runs(), mixed()):
         made.write()
         print(made.name, sum(map(len, made.chains)), dict(sorted(made.numbers_of.items())))
     with open(os.path.join(HERE, "stdout"), "w") as file:

@@ -104,6 +104,14 @@ mod foreign {
     }
 
     #[repr(C)]
+    pub struct OperationPlace {
+        pub refusal: u32,
+        pub group: u64,
+        pub index: u64,
+        pub following: u64,
+    }
+
+    #[repr(C)]
     pub struct DumpWritten {
         pub refusal: u32,
         pub bytes: usize,
@@ -174,6 +182,7 @@ mod foreign {
         pub fn core_row(cells: *const u64, cells_len: usize, number: usize) -> RowBounds;
         pub fn core_build_index(profile: Profile, cells: *const u64, cells_len: usize, index: *mut u32, index_len: usize) -> IndexBuilt;
         pub fn core_enclosing_block(index: *const u32, index_len: usize, row: usize) -> EnclosingBlock;
+        pub fn core_op_place(batches: *const u32, batches_len: usize, record: usize, op: u32) -> OperationPlace;
         pub fn core_inverse(x: u64) -> Inverse;
         pub fn core_write_dump(cells: *const u64, cells_len: usize, text: *mut u8, text_len: usize) -> DumpWritten;
         pub fn core_read_dump(text: *const u8, text_len: usize, cells: *mut u64, cells_len: usize) -> DumpRead;
@@ -331,6 +340,25 @@ pub fn build_index(profile: Profile, cells: &[u64], index: &mut [u32]) -> Result
 pub fn enclosing_block(index: &[u32], row: usize) -> Result<Option<usize>, Refusal> {
     let r = unsafe { foreign::core_enclosing_block(index.as_ptr(), index.len(), row) };
     accepted(r.refusal).map(|()| (r.found == 1).then_some(r.place))
+}
+
+/// Where an operation lies in its batch.
+#[derive(Clone, Copy, Debug, PartialEq, Eq)]
+pub struct OpPlace {
+    /// The group, from 0.
+    pub group: u64,
+    /// The operation's index in it, 0 to 8.
+    pub index: u64,
+    /// How many operations follow it there.
+    pub following: u64,
+}
+
+/// The place of an operation of a batch, by the batch records of one forest alone ([`Forests::batches_of`]): the record's number is the block's first
+/// batch record plus the batch's index in the block. Refused by 5 where the record is not whole in `batches`, then by 6 for an operation that is not found, then by 11 for a group
+/// count above 8.
+pub fn op_place(batches: &[u32], record: usize, op: u32) -> Result<OpPlace, Refusal> {
+    let r = unsafe { foreign::core_op_place(batches.as_ptr(), batches.len(), record, op) };
+    accepted(r.refusal).map(|()| OpPlace { group: r.group, index: r.index, following: r.following })
 }
 
 /// Writes a finished trace as a value change dump into the first bytes of `text`, and answers how many they are: [`dump_size`] tells before.

@@ -74,6 +74,13 @@ impl Forests {
         all
     }
 
+    /// The batch records of one forest, by which its blocks count: what [`op_place`](crate::exports::op_place) is lent. Panics where there is no such
+    /// forest.
+    pub fn batches_of(&self, forest: usize) -> &[u32] {
+        let (first, records) = (self.directory[6 * forest + 2] as usize, self.directory[6 * forest + 3] as usize);
+        &self.batches[12 * first..12 * (first + records)]
+    }
+
     fn push(&mut self, forest: &Forest) {
         let (first_slot, first_batch, first_op) = (self.nodes.len() / 6, self.batches.len() / 12, self.ops.len());
         for slot in forest {

@@ -2,6 +2,7 @@
 #![cfg(archive)]
 
 use core_trace::exports::*;
+use core_trace::forest::{Forests, MastNode, OpBatch, Slot};
 use core_trace::overflow::{is_inverse, overflow_rule};
 use core_trace::profile::{EXAMPLE, Profile};
 use core_trace::random::Rng;
@@ -208,6 +209,72 @@ fn halt_helpers() {
     let rng = Rng::new(9);
     for helper in (0..1000).map(|_| rng.next()).chain([1023, 1024, P + 1023, P + 1024, 4294967279, P - 2, u64::MAX]) {
         assert!(is_inverse(halted(helper), helper), "{helper}");
+    }
+}
+
+/// N7: the place of each operation of a batch, and the refusals in their order.
+#[test]
+fn places() {
+    // A group of four, an empty one, one of five, one of two that the batch ends in.
+    let mut batches = vec![7; 12];
+    batches.extend([4, 0, 4, 4, 9, 13, 13, 13, 13, 13, 11, 0]);
+    let place = |group, index, following| Ok(OpPlace { group, index, following });
+    for op in 0..11 {
+        let (group, start, end) = if op < 4 {
+            (0, 0, 4)
+        } else if op < 9 {
+            (2, 4, 9)
+        } else {
+            (3, 9, 11)
+        };
+        assert_eq!(op_place(&batches, 1, op), place(group, u64::from(op) - start, end - u64::from(op) - 1));
+    }
+    assert_eq!(op_place(&batches, 1, 11), Err(Refusal(6)));
+    assert_eq!(op_place(&batches[..23], 1, 0), Err(Refusal(5)));
+    assert_eq!(op_place(&batches, usize::MAX, 0), Err(Refusal(5)));
+    batches[12] = 9;
+    assert_eq!(op_place(&batches, 1, 0), Err(Refusal(11)));
+    assert_eq!(op_place(&batches, 1, 11), Err(Refusal(6)));
+}
+
+/// The place of an operation, the operations that follow it in its group counted one by one.
+fn counted_place(starts: &[u32], ops: u32, op: u32) -> Result<OpPlace, Refusal> {
+    let lies_in = |group: usize, k: u32| starts[group] <= k && k < starts[group + 1];
+    let group = (0..8)
+        .find(|&group| lies_in(group, op))
+        .filter(|&group| op < ops && starts.is_sorted() && op - starts[group] < 9)
+        .ok_or(Refusal(6))?;
+    let following = (op + 1..ops).filter(|&k| lies_in(group, k)).count();
+    Ok(OpPlace { group: group as u64, index: u64::from(op - starts[group]), following: following as u64 })
+}
+
+/// N7: places in batches of any starts and any number of operations.
+#[test]
+fn places_by_counting() {
+    let rng = Rng::new(7);
+    for _ in 0..4000 {
+        let mut batch: Vec<u32> = (0..12).map(|_| rng.below(40) as u32).collect();
+        batch[0] %= 9;
+        if !rng.one_in(8) {
+            batch[1..10].sort_unstable();
+        }
+        for op in 0..42 {
+            assert_eq!(op_place(&batch, 0, op), counted_place(&batch[1..10], batch[10], op), "{batch:?} {op}");
+        }
+    }
+}
+
+/// N7: a block's records count from the start of its own forest.
+#[test]
+fn places_in_forests() {
+    let block = |ops: usize| {
+        let batch = OpBatch { num_groups: 1, groups: [0; 8], starts: [0, 9, 9, 9, 9, 9, 9, 9, 9], ops: vec![5; ops] };
+        vec![Slot::Node(MastNode::Block(1, vec![batch]), [0; 4])]
+    };
+    let lent = Forests::new(&[block(1), block(3)]);
+    for (forest, following) in [(0, 0), (1, 2)] {
+        assert_eq!(op_place(lent.batches_of(forest), 0, 0), Ok(OpPlace { group: 0, index: 0, following }));
+        assert_eq!(op_place(lent.batches_of(forest), 1, 0), Err(Refusal(5)));
     }
 }
 

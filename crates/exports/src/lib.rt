@@ -7,6 +7,8 @@ use dump::write::DumpWritten;
 use dump::write::write_dump;
 use field::inverse::inverse;
 use groups::constants::Row;
+use groups::group::PlaceFound;
+use groups::group::op_place;
 use index::build::IndexBuilt;
 use index::build::build_index;
 use index::enclosing::Enclosing;
@@ -34,10 +36,11 @@ ghost use Rattle.rows.specs.replay.Calls.{lentScanned, replayed, replayedFragme
 ghost use Rattle.reader.specs.Reads.{ReadsTrace};
 ghost use Rattle.field.specs.Inverse.{inverseOf};
 ghost use Rattle.groups.specs.Answer.{refusal, values};
+ghost use Rattle.groups.specs.GroupOfOperation.{placeOfOp};
 ghost use Rattle.theory_indexes.specs.Enclosing.{enclosing};
 ghost use Rattle.index.specs.Building.{BuildsIndex};
 ghost use Rattle.dump.specs.Dumping.{dumping, textAfter, ReadsDump};
-ghost use Rattle.exports.specs.Places.{viewStart, viewCells, enclosingFound, enclosingPlace};
+ghost use Rattle.exports.specs.Places.{viewStart, viewCells, enclosingFound, enclosingPlace, noPlace};
 
 // The number, always 0, and the inverse.
 #[repr(C)]
@@ -260,6 +263,41 @@ pub extern "C" fn core_enclosing_block(index: &[u32], row: usize) -> EnclosingBl
             refusal: n,
             found: 0,
             place: 0,
+        },
+    }
+}
+
+// Where an operation lies in its batch: 0 or the refusal's number, its group, its index in the group, and how many operations follow it there;
+// all 0 on a refusal.
+#[repr(C)]
+pub struct OperationPlace {
+    pub refusal: u32,
+    pub group: u64,
+    pub index: u64,
+    pub following: u64,
+}
+
+// The place of an operation of the batch in a record, by the batch records alone.
+#[no_mangle]
+pub extern "C" fn core_op_place(batches: &[u32], record: usize, op: u32) -> OperationPlace
+    ensures { λ r. ⌜ (r .refusal ≡ refusal (placeOfOp (now (batches .entry)) «record» op))
+        × (r .group ≡ values noPlace (placeOfOp (now (batches .entry)) «record» op) .group)
+        × (r .index ≡ values noPlace (placeOfOp (now (batches .entry)) «record» op) .index)
+        × (r .following ≡ values noPlace (placeOfOp (now (batches .entry)) «record» op) .following) ⌝ }
+{
+    let found = op_place(batches, record, op);
+    match found {
+        PlaceFound::At(place) => OperationPlace {
+            refusal: 0,
+            group: place.group,
+            index: place.index,
+            following: place.following,
+        },
+        PlaceFound::Refused(n) => OperationPlace {
+            refusal: n,
+            group: 0,
+            index: 0,
+            following: 0,
         },
     }
 }

@@ -1,5 +1,6 @@
 pub mod Starts
 pub mod OneGroup
+pub mod FollowingOps
 pub mod Sums
 pub mod RoundUp
 pub mod Contexts

@@ -10,18 +10,18 @@ use lib.Dec.{leb, ltb}
 use lib.ListN.{length, getD}
 use Rattle.groups.specs.Answer.{accepted, refused, pick}
 use Rattle.groups.specs.declared.group.OpPlace.{OpPlace}
-use Rattle.groups.specs.GroupOfOperation.{falling, placeIn, groupFrom, groupOf, LiesAt}
+use Rattle.groups.specs.GroupOfOperation.{falling, followingOps, placeIn, groupFrom, groupOf, LiesAt}
 
 -- an answer that is picked is one of the two, by the test
-either : {A T : Type 0} (b : Bool) (x y a : A) → pick b x y ≡ a → (b ≡ true → x ≡ a → T) → (b ≡ false → y ≡ a → T) → T
+pub either : {A T : Type 0} (b : Bool) (x y a : A) → pick b x y ≡ a → (b ≡ true → x ≡ a → T) → (b ≡ false → y ≡ a → T) → T
 either true x y a e f g = f refl e
 either false x y a e f g = g refl e
 
-both : (a b : Bool) → (a && b) ≡ true → (a ≡ true) × (b ≡ true)
+pub both : (a b : Bool) → (a && b) ≡ true → (a ≡ true) × (b ≡ true)
 both true b e = (refl, e)
 both false b e = (e, cc)
 
-neither : (a b : Bool) → (a || b) ≡ false → (a ≡ false) × (b ≡ false)
+pub neither : (a b : Bool) → (a || b) ≡ false → (a ≡ false) × (b ≡ false)
 neither false b e = (refl, e)
 neither true b e = (e, cc)
 
@@ -29,26 +29,28 @@ and-false : (a : Bool) → (a && false) ≡ false
 and-false true = refl
 and-false false = refl
 
-never : (n : ℕ) (p : OpPlace) → refused n ≡ accepted p → ⊥
+pub never : (n : ℕ) (p : OpPlace) → refused n ≡ accepted p → ⊥
 never n p e = let z : _≡_ {A = ℕ} 0 1 = cc in omega arith
 
 -- the place is group k from group g on
-record LiesFrom (starts : List ℕ) (op g : ℕ) (place : OpPlace) : Type 0 where
+record LiesFrom (starts : List ℕ) (ops op g : ℕ) (place : OpPlace) : Type 0 where
   pub k : ℕ
   pub group : place .group ≡ g + k
   pub a-group : suc k < length starts
   pub from-start : getD starts k 0 + place .index ≡ op
   pub before-next : op < getD starts (suc k) 0
   pub up-to-8 : place .index ≤ 8
+  pub followed-by : place .following ≡ followingOps (getD starts (suc k) 0) ops op
 
-here : (x y : ℕ) (ys : List ℕ) (op g : ℕ) (p : OpPlace) → (leb x op && ltb op y) ≡ true → placeIn g (op - x) ≡ accepted p → LiesFrom (x ∷ y ∷ ys) op g p
+here : (x y : ℕ) (ys : List ℕ) (ops op g : ℕ) (p : OpPlace) → (leb x op && ltb op y) ≡ true → placeIn g (op - x) (followingOps y ops op) ≡ accepted p → LiesFrom (x ∷ y ∷ ys) ops op g p
 unfolding placeIn
-here x y ys op g p t e =
+here x y ys ops op g p t e =
     let u = both (leb x op) (ltb op y) t in
-    either (leb (op - x) 8) (accepted (record { group = g; index = op - x })) (refused 6) (accepted p) e
+    either (leb (op - x) 8) (accepted (record { group = g; index = op - x; following = followingOps y ops op })) (refused 6) (accepted p) e
     (λ l f.
     let i : p .index ≡ op - x = cc in
     let j : p .group ≡ g = cc in
+    let n : p .following ≡ followingOps y ops op = cc in
     record {
       k = 0;
       group = omega arith;
@@ -56,18 +58,19 @@ here x y ys op g p t e =
       from-start = omega (arith, leb-true x op (u .0));
       before-next = ltb-true op y (u .1);
       up-to-8 = omega (arith, leb-true (op - x) 8 l);
+      followed-by = n;
     })
     (λ l f. absurd (never 6 p f))
 
-lies-from : (s : List ℕ) (op g : ℕ) (p : OpPlace) → groupFrom s op g ≡ accepted p → LiesFrom s op g p
+lies-from : (s : List ℕ) (ops op g : ℕ) (p : OpPlace) → groupFrom s ops op g ≡ accepted p → LiesFrom s ops op g p
 unfolding groupFrom
-lies-from [] op g p e = absurd (never 6 p e)
-lies-from (x ∷ []) op g p e = absurd (never 6 p e)
-lies-from (x ∷ y ∷ ys) op g p e =
-    either (leb x op && ltb op y) (placeIn g (op - x)) (groupFrom (y ∷ ys) op (g + 1)) (accepted p) e
-    (λ t f. here x y ys op g p t f)
+lies-from [] ops op g p e = absurd (never 6 p e)
+lies-from (x ∷ []) ops op g p e = absurd (never 6 p e)
+lies-from (x ∷ y ∷ ys) ops op g p e =
+    either (leb x op && ltb op y) (placeIn g (op - x) (followingOps y ops op)) (groupFrom (y ∷ ys) ops op (g + 1)) (accepted p) e
+    (λ t f. here x y ys ops op g p t f)
     (λ t f.
-    let h = lies-from (y ∷ ys) op (g + 1) p f in
+    let h = lies-from (y ∷ ys) ops op (g + 1) p f in
     record {
       k = suc (h .k);
       group = omega arith;
@@ -75,26 +78,28 @@ lies-from (x ∷ y ∷ ys) op g p e =
       from-start = h .from-start;
       before-next = h .before-next;
       up-to-8 = h .up-to-8;
+      followed-by = h .followed-by;
     })
 
 -- an operation that is accepted lies where it is said to
-pub lies : (s : List ℕ) (ops op : ℕ) (p : OpPlace) → accepted p ≡ groupOf s ops op → LiesAt s op p
+pub lies : (s : List ℕ) (ops op : ℕ) (p : OpPlace) → accepted p ≡ groupOf s ops op → LiesAt s ops op p
 unfolding groupOf
 lies s ops op p e =
-    either (leb ops op || falling s) (refused 6) (groupFrom s op 0) (accepted p) (sym e)
+    either (leb ops op || falling s) (refused 6) (groupFrom s ops op 0) (accepted p) (sym e)
     (λ t f. absurd (never 6 p f))
     (λ t f.
-    let h = lies-from s op 0 p f in
+    let h = lies-from s ops op 0 p f in
     let k : p .group ≡ h .k = omega arith in
     record {
       a-group = omega arith;
       from-start = rw k (h .from-start);
       before-next = rw (k, add-one) (h .before-next);
       up-to-8 = h .up-to-8;
+      followed-by = rw (k, add-one) (h .followed-by);
     })
 
 -- where no start falls, each is at least the first
-rising : (x : ℕ) (xs : List ℕ) (k : ℕ) → falling (x ∷ xs) ≡ false → k < length (x ∷ xs) → x ≤ getD (x ∷ xs) k 0
+pub rising : (x : ℕ) (xs : List ℕ) (k : ℕ) → falling (x ∷ xs) ≡ false → k < length (x ∷ xs) → x ≤ getD (x ∷ xs) k 0
 unfolding falling
 rising x xs zero f h = omega arith
 rising x [] (suc k) f h = absurd (omega arith)
@@ -103,32 +108,36 @@ rising x (y ∷ ys) (suc k) f h =
     omega (arith, ltb-false y x (u .0), rising y ys k (u .1) (omega arith))
 
 -- and what lies in group k is found there
-found-from : (s : List ℕ) (k op g i : ℕ) → falling s ≡ false → suc k < length s → getD s k 0 + i ≡ op → op < getD s (suc k) 0 → i ≤ 8
-    → groupFrom s op g ≡ accepted (record { group = g + k; index = i })
+found-from : (s : List ℕ) (k ops op g i : ℕ) → falling s ≡ false → suc k < length s → getD s k 0 + i ≡ op → op < getD s (suc k) 0 → i ≤ 8
+    → groupFrom s ops op g ≡ accepted (record { group = g + k; index = i; following = followingOps (getD s (suc k) 0) ops op })
 unfolding falling groupFrom placeIn
-found-from [] k op g i f h a b l = absurd (omega arith)
-found-from (x ∷ []) k op g i f h a b l = absurd (omega arith)
-found-from (x ∷ y ∷ ys) zero op g i f h a b l =
+found-from [] k ops op g i f h a b l = absurd (omega arith)
+found-from (x ∷ []) k ops op g i f h a b l = absurd (omega arith)
+found-from (x ∷ y ∷ ys) zero ops op g i f h a b l =
     let e : op - x ≡ i = omega arith in
     let z : g ≡ g + 0 = omega arith in
     rw (le-leb x op (omega arith), lt-ltb op y b, e, le-leb i 8 l, ← z)
-found-from (x ∷ y ∷ ys) (suc k) op g i f h a b l =
+found-from (x ∷ y ∷ ys) (suc k) ops op g i f h a b l =
     let u = neither (ltb y x) (falling (y ∷ ys)) f in
     let r = rising y ys k (u .1) (omega arith) in
     let e : g + suc k ≡ g + 1 + k = omega arith in
-    rw (le-ltb op y (omega arith), and-false, e) (found-from (y ∷ ys) k op (g + 1) i (u .1) (omega arith) a b l)
+    rw (le-ltb op y (omega arith), and-false, e) (found-from (y ∷ ys) k ops op (g + 1) i (u .1) (omega arith) a b l)
+
+found-at : (s : List ℕ) (ops op : ℕ) (p : OpPlace) → falling s ≡ false → LiesAt s ops op p → groupFrom s ops op 0 ≡ accepted p
+found-at s ops op p f a =
+    let z : 0 + p .group ≡ p .group = omega arith in
+    let l = found-from s (p .group) ops op 0 (p .index) f (omega (arith, a .a-group)) (a .from-start) (rw add-one at (a .before-next)) (a .up-to-8) in
+    let n : followingOps (getD s (suc (p .group)) 0) ops op ≡ p .following = sym (rw add-one at (a .followed-by)) in
+    rw (z, n) at l
 
 -- an operation of the batch that lies somewhere is accepted there
-pub found : (s : List ℕ) (ops op : ℕ) (p : OpPlace) → op < ops → falling s ≡ false → LiesAt s op p → groupOf s ops op ≡ accepted p
+pub found : (s : List ℕ) (ops op : ℕ) (p : OpPlace) → op < ops → falling s ≡ false → LiesAt s ops op p → groupOf s ops op ≡ accepted p
 unfolding groupOf
-found s ops op p h f a =
-    let z : 0 + p .group ≡ p .group = omega arith in
-    let l = found-from s (p .group) op 0 (p .index) f (omega (arith, a .a-group)) (a .from-start) (rw add-one at (a .before-next)) (a .up-to-8) in
-    rw (lt-leb ops op h, f) (rw z at l)
+found s ops op p h f a = rw (lt-leb ops op h, f) (found-at s ops op p f a)
 
 -- so it lies in one place alone
-pub only : (s : List ℕ) (op : ℕ) (p q : OpPlace) → falling s ≡ false → LiesAt s op p → LiesAt s op q → p ≡ q
-only s op p q f a b =
-    let e = found s (suc op) op p (omega arith) f a in
-    let d = found s (suc op) op q (omega arith) f b in
+pub only : (s : List ℕ) (ops op : ℕ) (p q : OpPlace) → falling s ≡ false → LiesAt s ops op p → LiesAt s ops op q → p ≡ q
+only s ops op p q f a b =
+    let e = found-at s ops op p f a in
+    let d = found-at s ops op q f b in
     cc

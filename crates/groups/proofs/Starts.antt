@@ -9,7 +9,7 @@ use lib.Dec.{leb, ltb}
 use lib.ListN.{length, getD, drop, drop-of-length-le}
 use lib.Seq.{drop-cons}
 use Rattle.groups.specs.Answer.{refused, pick}
-use Rattle.groups.specs.GroupOfOperation.{falling, placeIn, groupFrom}
+use Rattle.groups.specs.GroupOfOperation.{falling, followingOps, placeIn, groupFrom}
 
 -- the starts from k on are start k, start k + 1 and the rest
 two : (s : List ℕ) (k : ℕ) → k + 1 < length s → drop k s ≡ getD s k 0 ∷ getD s (k + 1) 0 ∷ drop (k + 2) s
@@ -22,10 +22,10 @@ pub falling-turn : (s : List ℕ) (k : ℕ) → k + 1 < length s
 unfolding falling
 falling-turn s k h = let e : suc (k + 1) ≡ k + 2 = omega arith in rw (two s k h, drop-cons s (k + 1) 0 h, e)
 
-pub group-turn : (s : List ℕ) (op k : ℕ) → k + 1 < length s
-    → groupFrom (drop k s) op k ≡ pick (leb (getD s k 0) op && ltb op (getD s (k + 1) 0)) (placeIn k (op - getD s k 0)) (groupFrom (drop (k + 1) s) op (k + 1))
+pub group-turn : (s : List ℕ) (ops op k : ℕ) → k + 1 < length s
+    → groupFrom (drop k s) ops op k ≡ pick (leb (getD s k 0) op && ltb op (getD s (k + 1) 0)) (placeIn k (op - getD s k 0) (followingOps (getD s (k + 1) 0) ops op)) (groupFrom (drop (k + 1) s) ops op (k + 1))
 unfolding groupFrom
-group-turn s op k h = let e : suc (k + 1) ≡ k + 2 = omega arith in rw (two s k h, drop-cons s (k + 1) 0 h, e)
+group-turn s ops op k h = let e : suc (k + 1) ≡ k + 2 = omega arith in rw (two s k h, drop-cons s (k + 1) 0 h, e)
 
 -- the starts from the last on are that start
 one : (s : List ℕ) (k : ℕ) → k + 1 ≡ length s → drop k s ≡ getD s k 0 ∷ []
@@ -37,6 +37,6 @@ pub falling-last : (s : List ℕ) (k : ℕ) → k + 1 ≡ length s → falling (
 unfolding falling
 falling-last s k h = rw (one s k h)
 
-pub group-last : (s : List ℕ) (op k : ℕ) → k + 1 ≡ length s → groupFrom (drop k s) op k ≡ refused 6
+pub group-last : (s : List ℕ) (ops op k : ℕ) → k + 1 ≡ length s → groupFrom (drop k s) ops op k ≡ refused 6
 unfolding groupFrom
-group-last s op k h = rw (one s k h)
+group-last s ops op k h = rw (one s k h)

@@ -4,7 +4,8 @@ use crate::number::number;
 use crate::word::Word;
 use crate::word::word_at;
 ghost use mathlib.Core.Path.{_≡_};
-ghost use Rattle.groups.specs.Batches.{batchAt, toldBatch, startsAt, lentBatches};
+ghost use Prim.Native.Nat.{_^_, _<_};
+ghost use Rattle.groups.specs.Batches.{batchAt, toldBatch, startsOf, startsAt, lentBatches};
 
 // A block: its total of groups as `num_op_groups` answers, the record of its first batch, and how many batches it has.
 pub struct BasicBlockNode {
@@ -52,11 +53,12 @@ pub fn batch_at(batches: &[u32], groups: &[u64], block: BasicBlockNode, index: u
     })
 }
 
-// The nine group starts of batch `index`.
-pub fn starts_at(batches: &[u32], block: BasicBlockNode, index: u32) -> [u32; 9]
-    ensures { λ r. ⌜ r ≡ startsAt (now (batches .entry)) block index ⌝ }
+// The nine group starts of a record.
+pub(crate) fn starts_of(batches: &[u32], record: usize) -> [u32; 9]
+    requires { ⌜ «record» < 2 ^ 60 ⌝ }
+    ensures { λ r. ⌜ r ≡ startsOf (now (batches .entry)) «record» ⌝ }
 {
-    let at = 12 * (block.first_batch as usize + index as usize);
+    let at = 12 * record;
     [
         number(batches, at + 1),
         number(batches, at + 2),
@@ -68,6 +70,13 @@ pub fn starts_at(batches: &[u32], block: BasicBlockNode, index: u32) -> [u32; 9]
         number(batches, at + 8),
         number(batches, at + 9),
     ]
+}
+
+// The nine group starts of batch `index`.
+pub fn starts_at(batches: &[u32], block: BasicBlockNode, index: u32) -> [u32; 9]
+    ensures { λ r. ⌜ r ≡ startsAt (now (batches .entry)) block index ⌝ }
+{
+    starts_of(batches, block.first_batch as usize + index as usize)
 }
 
 // How many of the block's batches have their twelve numbers in the slice.

@@ -36,7 +36,7 @@ use Rattle.rows.specs.records.DecoderRows.{decoderCells}
 use Rattle.rows.specs.records.Cells.{rowCells, putRow, fragmentWrong}
 use Rattle.rows.specs.cycles.Made.{cursor, made}
 use Rattle.rows.specs.cycles.Scans.{scanOf}
-use Rattle.rows.specs.cycles.Cycles.{fresh, storingOf, storedIn, continuationOf, refuseIf, cycleWith, cycle, leftAfter, tracerAfter, lastSystem, lastStack, fragmentAfter, finalState}
+use Rattle.rows.specs.cycles.Cycles.{fresh, storingOf, storedIn, continuationOf, refuseIf, cycleWith, cycle, leftAfter, tracerAfter, followingOf, lastSystem, lastStack, fragmentAfter, finalState}
 use Rattle.theory_reductions.specs.Inputs.{readForest, readQueues, readSystemState, readStackState, readValues, readTracer, readRow, readMade, readAnswer}
 use Rattle.theory_reductions.proofs.LentReduced.{word-twice}
 use Rattle.theory_reductions.proofs.StatesRead.{read-is}
@@ -191,6 +191,11 @@ same-tracer system stack t (refused n) (refused n′) h =
     let e : n ≡ n′ = cc in
     rw (e, captured-twice (t .captured), read-is (t .«decoder_state»), system-twice (t .«system_cols»), stack-twice (t .«stack_cols»))
 
+read-following : (a : Answer MadeRow) → followingOf (readAnswer readMade a) ≡ followingOf a
+unfolding readMade
+read-following (accepted m) = refl
+read-following (refused n) = refl
+
 -- THE CALLS
 
 module _ (p : Profile) (f : Forest) (q : Queues) (system : SystemState) (stack : StackState) (registers : OperationHelperRegisters) (fragment : List ℕ) (t : CoreTraceGenerationTracer) where
@@ -206,6 +211,9 @@ module _ (p : Profile) (f : Forest) (q : Queues) (system : SystemState) (stack :
 
   pub cycle-row : fragmentAfter fragment (readTracer t) of-read ≡ fragmentAfter fragment t here
   cycle-row = same-fragment fragment t of-read here (cycle-reduced p f q stack registers (length fragment) t)
+
+  pub cycle-following : followingOf of-read ≡ followingOf here
+  cycle-following = sym (read-following of-read) ∙ ap followingOf (cycle-reduced p f q stack registers (length fragment) t) ∙ read-following here
 
   pub cycle-tracer : readTracer (tracerAfter (readSystemState system) (readStackState stack) (readTracer t) of-read) ≡ readTracer (tracerAfter system stack t here)
   cycle-tracer = same-tracer system stack t of-read here (cycle-reduced p f q stack registers (length fragment) t)

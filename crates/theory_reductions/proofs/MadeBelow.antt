@@ -33,7 +33,7 @@ use Rattle.rows.specs.records.Addresses.{Queues, startedAt, afterStart, endAt, 
 use Rattle.rows.specs.records.DecoderRows.{zeroWord, wordCells, controlFlow, basicBlockBatch, operation, flagWord}
 use Rattle.rows.specs.declared.cycles.made.MadeRow.{MadeRow}
 use Rattle.rows.specs.declared.cycles.made.Finish.{Finish}
-use Rattle.rows.specs.cycles.Made.{Cursor, madeRow, startBlock, startTwo, startOne, startDyn, calleeOf, infoOf, startDyncall, startKind, cursor, startNode, entryKind, madeEnd, bodyOf, madeRepeat, conditionOf, finishLoop, operationMade, resumed, madeRespan, made}
+use Rattle.rows.specs.cycles.Made.{Cursor, madeWith, startBlock, startTwo, startOne, startDyn, calleeOf, infoOf, startDyncall, startKind, cursor, startNode, entryKind, madeEnd, bodyOf, madeRepeat, conditionOf, finishLoop, operationMade, resumed, madeRespan, made}
 use Rattle.theory_reductions.specs.Below.{Below}
 use Rattle.theory_reductions.specs.BeforeN2.{calleeCells, infoCells, depthIn, Narrow32}
 use Rattle.theory_reductions.proofs.Accepted.{never, came}
@@ -47,9 +47,9 @@ pub record MadeBelow (m : MadeRow) : Type 0 where
   pub row : RowBelow (m .row)
   pub state : StateBelow (m .state)
 
-below-made : (row : DecoderRow) (here : Cursor) (used : Used) (m : MadeRow) → RowBelow row → StateBelow (here .state) → madeRow row here used ≡ accepted m → MadeBelow m
-below-made row here used m r s e =
-    let is : record { row = row; state = here .state; at = here .at; used = used } ≡ m = cc in
+below-made : (row : DecoderRow) (here : Cursor) (used : Used) (m : MadeRow) {following : ℕ} → RowBelow row → StateBelow (here .state) → madeWith row here used following ≡ accepted m → MadeBelow m
+below-made row here used m {following} r s e =
+    let is : record { row = row; state = here .state; at = here .at; used = used; following = following } ≡ m = cc in
     subst MadeBelow is (record { row = r; state = s })
 
 -- a row of an address and two words

@@ -89,7 +89,7 @@ readRow d = record {
 }
 
 unfoldable pub readMade : MadeRow → MadeRow
-readMade m = record { row = readRow (m .row); state = readState (m .state); at = m .at; used = m .used }
+readMade m = record { row = readRow (m .row); state = readState (m .state); at = m .at; used = m .used; following = m .following }
 
 -- an answer with its values read
 abbrev pub readAnswer : {A : Type 0} → (A → A) → Answer A → Answer A

@@ -10,7 +10,7 @@ use lib.ListN.{length, getD}
 use Rattle.groups.specs.Answer.{Answer, accepted, refused, andThen, pick, refusal}
 use Rattle.groups.specs.Batches.{isBatch, batchAt, startsAt}
 use Rattle.groups.specs.Flags.{flagsUpTo8, batchFlags}
-use Rattle.groups.specs.GroupOfOperation.{falling, placeIn, groupFrom, groupOf}
+use Rattle.groups.specs.GroupOfOperation.{followingOps, falling, placeIn, groupFrom, groupOf}
 use Rattle.groups.specs.Contexts.{tooLarge, sumBefore, sumFrom, consumed, contextInGroup, contextAtOp, contextAtBatchStart}
 use Rattle.groups.specs.Helpers.{allBelow, readRegisters, u32Values, helpersOfCells, helpersAnswer}
 use Rattle.groups.specs.declared.word.Word.{Word}
@@ -159,20 +159,20 @@ flags-numbered count =
     let c : ℕ = pick (leb 8 count) 8 count in
     pick-numbered (eqb c 8) _ _ tt (pick-numbered (eqb c 4) _ _ tt (pick-numbered (eqb c 2) _ _ tt (pick-numbered (eqb c 1) _ _ tt tt)))
 
-place-numbered : (group index : ℕ) → Numbered (placeIn group index)
+place-numbered : (group index following : ℕ) → Numbered (placeIn group index following)
 unfolding placeIn Numbered
-place-numbered group index = pick-numbered (leb index 8) _ _ tt tt
+place-numbered group index following = pick-numbered (leb index 8) _ _ tt tt
 
-from-numbered : (starts : List ℕ) (op g : ℕ) → Numbered (groupFrom starts op g)
+from-numbered : (starts : List ℕ) (ops op g : ℕ) → Numbered (groupFrom starts ops op g)
 unfolding groupFrom Numbered
-from-numbered [] op g = tt
-from-numbered (start ∷ []) op g = tt
-from-numbered (start ∷ next ∷ starts) op g =
-    pick-numbered (leb start op && ltb op next) _ (groupFrom (next ∷ starts) op (g + 1)) (place-numbered g (op - start)) (from-numbered (next ∷ starts) op (g + 1))
+from-numbered [] ops op g = tt
+from-numbered (start ∷ []) ops op g = tt
+from-numbered (start ∷ next ∷ starts) ops op g =
+    pick-numbered (leb start op && ltb op next) _ (groupFrom (next ∷ starts) ops op (g + 1)) (place-numbered g (op - start) (followingOps next ops op)) (from-numbered (next ∷ starts) ops op (g + 1))
 
 group-numbered : (starts : List ℕ) (ops op : ℕ) → Numbered (groupOf starts ops op)
 unfolding groupOf Numbered
-group-numbered starts ops op = pick-numbered (leb ops op || falling starts) _ (groupFrom starts op 0) tt (from-numbered starts op 0)
+group-numbered starts ops op = pick-numbered (leb ops op || falling starts) _ (groupFrom starts ops op 0) tt (from-numbered starts ops op 0)
 
 context-numbered : (push : ℕ) (block : BasicBlockNode) (batches groups : List ℕ) (index op : ℕ) → Numbered (contextAtOp push block batches groups index op)
 unfolding contextAtOp contextInGroup Numbered

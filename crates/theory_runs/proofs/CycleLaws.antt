@@ -29,7 +29,7 @@ use Rattle.rows.specs.declared.cycles.made.Finish.{Finish}
 use Rattle.rows.specs.records.Forests.{Forest, nodeAt, digestAt, opcodeAt, blockOf}
 use Rattle.rows.specs.records.Addresses.{Queues, startedAt, afterStart, endAt, stateAfterEnd, afterEnd, respanStep}
 use Rattle.rows.specs.records.DecoderRows.{zeroWord, controlFlow, basicBlockBatch, operation, bit, flagWord}
-use Rattle.rows.specs.cycles.Made.{Cursor, cursor, madeRow, startBlock, startTwo, startOne, calleeOf, infoOf, conditionOf, startDyn, startDyncall, startKind, startNode, entryKind, madeEnd, bodyOf, madeRepeat, finishLoop, operationMade, resumed, madeRespan, made}
+use Rattle.rows.specs.cycles.Made.{Cursor, cursor, madeWith, madeRow, startBlock, startTwo, startOne, calleeOf, infoOf, conditionOf, startDyn, startDyncall, startKind, startNode, entryKind, madeEnd, bodyOf, madeRepeat, finishLoop, operationMade, resumed, madeRespan, made}
 use Rattle.theory_readings.specs.Tokens.{OneChild, Kind, opcodeOfKind}
 use Rattle.theory_runs.specs.Happened.{Ending, Did, InForce, startOf, operationAt, finishOf, didBy, usedBy, positionsAfter}
 use Rattle.theory_runs.proofs.Answers.{then-accepted}
@@ -71,10 +71,10 @@ pub record Law (p : Profile) (d : Did) (state : DecoderState) (at : Positions) (
   pub row-is : RowBy p d state (m .row)
 
 -- a row that is made at once
-law-of : (p : Profile) (d : Did) (state : DecoderState) (at : Positions) (m : MadeRow) (row : DecoderRow) (here : Cursor) (used : Used) → madeRow row here used ≡ accepted m →
+law-of : (p : Profile) (d : Did) (state : DecoderState) (at : Positions) (m : MadeRow) (row : DecoderRow) (here : Cursor) (used : Used) {following : ℕ} → madeWith row here used following ≡ accepted m →
     used ≡ usedBy d → here .at ≡ positionsAfter d at → here .state ≡ stateAfter p d state → RowBy p d state row → Law p d state at m
-law-of p d state at m row here used e f g h k =
-    let i : _≡_ {A = MadeRow} m (record { row = row; state = here .state; at = here .at; used = used }) = cc in
+law-of p d state at m row here used {following} e f g h k =
+    let i : _≡_ {A = MadeRow} m (record { row = row; state = here .state; at = here .at; used = used; following = following }) = cc in
     rw i (record { used-is = f; at-is = g; state-is = h; row-is = k })
 
 same : (row : DecoderRow) → Part row (row .addr) (row .opcode) (row .«in_basic_block»)

@@ -1,4 +1,5 @@
 pub mod Answers
+pub mod Following
 pub mod CycleLaws
 pub mod Opcodes
 pub mod Looks

@@ -5,3 +5,4 @@ pub mod Written
 pub mod SameCalls
 pub mod Finished
 pub mod Overflow
+pub mod Following

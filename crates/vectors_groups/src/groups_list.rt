@@ -77,7 +77,7 @@ fn places(v: &[u64], at: usize) -> Told {
     let found = op_idx_in_batch_to_group(starts, low32(item(v, at, 9)), low32(item(v, at, 10)));
     match found {
         GroupFound::Refused => refused(6),
-        GroupFound::In(place) => Told(0, place.group, place.index, 0, 0, 0, 0),
+        GroupFound::In(place) => Told(0, place.group, place.index, place.following, 0, 0, 0),
     }
 }
 
@@ -98,7 +98,7 @@ fn op_context(
             c.context.group_count_in_block,
             c.place.index,
             c.place.group,
-            0,
+            c.place.following,
             0,
         ),
     }

@@ -1,7 +1,8 @@
 // A list: how many vectors it has, a base input of 614 numbers, and the vectors. A vector: 0 to start from the base input or 1 to go on
 // from what the vector before left, the call (0 new, 1 store, 2 finish, 3 final state), how many numbers it changes in the input, that
 // many pairs of a place and a number, the answer's number, and if that is 0 the numbers that come out: the tracer's 46 for new and store,
-// the 49 cells of the row and the tracer's 46 for a finish, 25 cells, the row count and the count that the passes take for a final state.
+// the 49 cells of the row, the tracer's 46 and how many operations follow for a finish, 25 cells, the row count and the count that the
+// passes take for a final state.
 //
 // The input's places: profile 0 to 13; nodes from 15, digests from 112, batches from 177, groups from 226, operations from 259, block
 // addresses from 300, parents from 305, ends from 310, each with its length in the place before; tracer 322 to 367; system 368 to 373;
@@ -185,6 +186,14 @@ fn fragment_right(
     same(after, &expected)
 }
 
+// How many operations are expected to follow: none after a refusal, else what stands in the list at `at`.
+fn expected_following(number: u64, v: &[u64], at: usize) -> u64 {
+    if number != 0 {
+        return 0;
+    }
+    item(v, at, 0)
+}
+
 // The final state that is expected: zeros after a refusal, else what stands in the list at `at`.
 fn expected_final(number: u64, v: &[u64], at: usize, expected: &mut [u64]) {
     if number != 0 {
@@ -225,6 +234,7 @@ fn finish_right(input: &mut [u64], v: &[u64], at: usize) -> bool
 {
     let row = at + 1;
     let answer = at + 50;
+    let following = at + 96;
     let rows = item(input, TRACER, 1);
     let mut fragment = [0u64; 200];
     copy(input, FRAGMENT, &mut fragment);
@@ -238,7 +248,8 @@ fn finish_right(input: &mut [u64], v: &[u64], at: usize) -> bool
     let written = fragment_right(number, rows, input, &fragment, v, row);
     put_all(&after, input, TRACER);
     put_all(&fragment, input, FRAGMENT);
-    (item(v, at, 0) == number) & (kept & written)
+    let followed = done.following == expected_following(number, v, following);
+    (item(v, at, 0) == number) & (kept & (written & followed))
 }
 
 fn final_right(input: &[u64], v: &[u64], at: usize) -> bool
@@ -269,7 +280,7 @@ fn call_right(call: u64, input: &mut [u64], v: &[u64], at: usize) -> bool
 
 // How many numbers follow the answer's number.
 fn answer_length(call: u64, number: u64) -> usize
-    ensures { λ r. ⌜ r ≤ 95 ⌝ }
+    ensures { λ r. ⌜ r ≤ 96 ⌝ }
 {
     if number != 0 {
         return 0;
@@ -277,7 +288,7 @@ fn answer_length(call: u64, number: u64) -> usize
     match call {
         0 => 46,
         1 => 46,
-        2 => 95,
+        2 => 96,
         _ => 27,
     }
 }

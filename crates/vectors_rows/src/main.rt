@@ -18,6 +18,7 @@ fn main() {
     vectors(b"rows_a");
     vectors(b"rows_b");
     vectors(b"operations");
+    vectors(b"following");
     vectors(b"cells_a");
     vectors(b"cells_b");
     vectors(b"cells_c");

@@ -133,6 +133,11 @@ tracerAfter system stack t (accepted m) = record {
   «stack_cols» = builtStack stack;
 }
 
+-- N7: "the cycle's answer for ResumeBasicBlock carries it. For other continuations it is 0", as on a refusal
+abbrev pub followingOf : Answer MadeRow → ℕ
+followingOf (accepted m) = m .following
+followingOf (refused n) = 0
+
 -- "System and stack cells of a row are those built at the previous row of its fragment, zero in its first."
 unfoldable pub lastSystem : CoreTraceGenerationTracer → SystemCols
 lastSystem t = pick (eqb (t .«row_write_index») 0) noSystem (t .«system_cols»)

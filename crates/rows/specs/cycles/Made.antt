@@ -43,8 +43,13 @@ pub record Cursor : Type 0 where
 abbrev pub cursor : DecoderState → Positions → Cursor
 cursor state at = record { state = state; at = at }
 
+-- a row, and how many operations follow in its operation's group (N7)
+abbrev pub madeWith : DecoderRow → Cursor → Used → (following : ℕ) → Answer MadeRow
+madeWith row here used following = accepted (record { row = row; state = here .state; at = here .at; used = used; following = following })
+
+-- "For other continuations it is 0" (N7)
 abbrev pub madeRow : DecoderRow → Cursor → Used → Answer MadeRow
-madeRow row here used = accepted (record { row = row; state = here .state; at = here .at; used = used })
+madeRow row here used = madeWith row here used 0
 
 -- the number and the values of each case
 abbrev pub toldMade : Made → Answer MadeRow
@@ -201,11 +206,12 @@ finishLoop nodes digests ends p id condition isLoopBody here =
 unfoldable pub operationMade : (opcode : ℕ) → OpContext → OperationHelperRegisters → Cursor → Answer MadeRow
 operationMade opcode found registers here =
     andThen (helpersAnswer registers) (λ helpers.
-    madeRow
+    madeWith
     (operation opcode (here .state .«current_addr») (here .state .«parent_addr») (found .place .index)
     (found .context .«current_op_group») (found .context .«group_count_in_block») helpers)
     here
-    Used.Nothing)
+    Used.Nothing
+    (found .place .following))
 
 -- "ResumeBasicBlock: 3, 4, 5, 6, 8, 9."
 unfoldable pub resumed : Forest → (push : ℕ) → MastNodeId → (index op : ℕ) → OperationHelperRegisters → Cursor → Answer MadeRow

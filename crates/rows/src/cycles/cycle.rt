@@ -30,13 +30,15 @@ ghost use Rattle.groups.specs.Constants.{rowWidth};
 ghost use Rattle.rows.specs.records.Lent.{lentForest, lentQueues};
 ghost use Rattle.rows.specs.cycles.Made.{toldMade};
 ghost use Rattle.rows.specs.records.Cells.{rowCells, putRow};
-ghost use Rattle.rows.specs.cycles.Cycles.{cycleWith, cycle, leftAfter, keeping, tracerAfter, lastSystem, lastStack, fragmentAfter};
+ghost use Rattle.rows.specs.cycles.Cycles.{cycleWith, cycle, leftAfter, keeping, tracerAfter, followingOf, lastSystem, lastStack, fragmentAfter};
 ghost use Rattle.rows.specs.ways.Inner.{HasRoom};
 
-// What a finish answers: 0 or the refusal's number, and the tracer.
+// What a finish answers: 0 or the refusal's number, the tracer, and how many operations follow in the operation's group (0 where none was
+// resumed, and on a refusal).
 pub struct Finished {
     pub refusal: u32,
     pub tracer: CoreTraceGenerationTracer,
+    pub following: u64,
 }
 
 // What is left of the captured values.
@@ -234,6 +236,8 @@ pub(crate) fn cycle_with(
         (lentQueues addresses parents ends) stack registers (length (now (fragment .entry))) tracer) ⌝ }
     ensures { λ r. ⌜ r .tracer ≡ tracerAfter system stack tracer (cycleWith scan profile (lentForest nodes digests batches groups ops)
         (lentQueues addresses parents ends) stack registers (length (now (fragment .entry))) tracer) ⌝ }
+    ensures { λ r. ⌜ r .following ≡ followingOf (cycleWith scan profile (lentForest nodes digests batches groups ops)
+        (lentQueues addresses parents ends) stack registers (length (now (fragment .entry))) tracer) ⌝ }
     ensures { λ _. ⌜ now (fragment .exit) ≡ pick write
         (fragmentAfter (now (fragment .entry)) tracer (cycleWith scan profile (lentForest nodes digests batches groups ops)
         (lentQueues addresses parents ends) stack registers (length (now (fragment .entry))) tracer))
@@ -260,13 +264,16 @@ pub(crate) fn cycle_with(
         return Finished {
             refusal: n,
             tracer: kept(n, tracer),
+            following: 0,
         };
     };
     let decoder = row.row;
+    let following = row.following;
     put_row(write, decoder, tracer, fragment);
     Finished {
         refusal: 0,
         tracer: moved(row, system, stack, tracer),
+        following,
     }
 }
 
@@ -290,6 +297,8 @@ pub fn finalize_clock_cycle(
     ensures { λ r. ⌜ r .refusal ≡ refusal (cycle profile (lentForest nodes digests batches groups ops)
         (lentQueues addresses parents ends) stack registers (length (now (fragment .entry))) tracer) ⌝ }
     ensures { λ r. ⌜ r .tracer ≡ tracerAfter system stack tracer (cycle profile (lentForest nodes digests batches groups ops)
+        (lentQueues addresses parents ends) stack registers (length (now (fragment .entry))) tracer) ⌝ }
+    ensures { λ r. ⌜ r .following ≡ followingOf (cycle profile (lentForest nodes digests batches groups ops)
         (lentQueues addresses parents ends) stack registers (length (now (fragment .entry))) tracer) ⌝ }
     ensures { λ _. ⌜ now (fragment .exit) ≡ fragmentAfter (now (fragment .entry)) tracer (cycle profile (lentForest nodes digests batches groups ops)
         (lentQueues addresses parents ends) stack registers (length (now (fragment .entry))) tracer) ⌝ }

@@ -42,19 +42,21 @@ use groups::helpers::HelpersFound;
 use groups::helpers::OperationHelperRegisters;
 use groups::word::Word;
 ghost use mathlib.Core.Path.{_≡_};
-ghost use Rattle.groups.specs.Answer.{Answer, accepted, refusal};
+ghost use Rattle.groups.specs.Answer.{refusal};
 ghost use Rattle.groups.specs.Contexts.{toldOp, toldBatchStart};
 ghost use Rattle.rows.specs.records.Addresses.{toldStarted};
 ghost use Rattle.rows.specs.records.Lent.{lentForest, lentQueues};
-ghost use Rattle.rows.specs.cycles.Made.{Cursor, cursor, madeRow, toldMade, toldKind, callKind, dynKind, blockKind, entryKind, startBlock, startTwo, startOne, startDyn, startDyncall, startKind, startNode, madeEnd, madeRepeat, finishLoop, operationMade, resumed, madeRespan, made};
+ghost use Rattle.rows.specs.cycles.Made.{cursor, toldMade, toldKind, callKind, dynKind, blockKind, entryKind, startBlock, startTwo, startOne, startDyn, startDyncall, startKind, startNode, madeEnd, madeRepeat, finishLoop, operationMade, resumed, madeRespan, made};
 ghost use Rattle.rows.specs.ways.ContinuationKinds.{continuationKind};
 
-// A row, and what follows it.
+// A row, the address state and positions after it, and what it uses up.
 pub struct MadeRow {
     pub row: DecoderRow,
     pub state: DecoderState,
     pub at: Positions,
     pub used: Used,
+    // How many operations follow in the operation's group; 0 where the row is no operation's.
+    pub following: u64,
 }
 
 pub enum Made {
@@ -164,6 +166,7 @@ fn start_block(
         state,
         at,
         used: Used::Nothing,
+        following: 0,
     })
 }
 
@@ -191,6 +194,7 @@ fn start_two(
         state,
         at,
         used: Used::Nothing,
+        following: 0,
     })
 }
 
@@ -215,6 +219,7 @@ fn start_one(
         state,
         at,
         used: Used::Nothing,
+        following: 0,
     })
 }
 
@@ -232,6 +237,7 @@ fn start_dyn(opcode: u8, callee: CalleeWord, state: DecoderState, at: Positions)
         state,
         at,
         used: Used::Callee,
+        following: 0,
     })
 }
 
@@ -263,6 +269,7 @@ fn start_dyncall(
         state,
         at,
         used: Used::CalleeAndInfo,
+        following: 0,
     })
 }
 
@@ -386,6 +393,7 @@ fn finish_node(
         state: moved,
         at: next,
         used,
+        following: 0,
     })
 }
 
@@ -417,6 +425,7 @@ fn repeat_row(
         state,
         at,
         used: Used::Condition,
+        following: 0,
     })
 }
 
@@ -485,6 +494,7 @@ fn operation_row(
         state,
         at,
         used: Used::Nothing,
+        following: found.place.following,
     })
 }
 
@@ -587,6 +597,7 @@ fn respan(
         state: moved,
         at,
         used: Used::Nothing,
+        following: 0,
     })
 }
 

@@ -23,7 +23,7 @@ returns c =
       rw (← (k .checked .ensures .0)) (n .made-refusal .ensures),
       (
         rw (← (k .checked .ensures .0), c .kept .ensures, n .made-refusal .ensures, e .enum-told .given .1),
-        rw (← (k .checked .ensures .0), e .enum-told .given .1) (pick-same (a .write) _),
+        (rw (← (k .checked .ensures .0), e .enum-told .given .1), rw (← (k .checked .ensures .0), e .enum-told .given .1) (pick-same (a .write) _)),
       ),
     )
 
@@ -33,7 +33,10 @@ returns-2 c = (
   rw (← (c .before .before .before .before .before .before .before .before .before .checked .ensures .0), c .before .before .before .before .before .before .before .made .given .1),
   (
     rw (← (c .before .before .before .before .before .before .before .before .before .checked .ensures .0), c .before .before .before .before .before .before .before .made .given .1) (c .moved .ensures),
-    rw (← (c .before .before .before .before .before .before .before .before .before .checked .ensures .0), c .before .before .before .before .before .before .before .made .given .1) (c .before .before .before .put-row .ensures),
+    (
+      rw (← (c .before .before .before .before .before .before .before .before .before .checked .ensures .0), c .before .before .before .before .before .before .before .made .given .1),
+      rw (← (c .before .before .before .before .before .before .before .before .before .checked .ensures .0), c .before .before .before .before .before .before .before .made .given .1) (c .before .before .before .put-row .ensures),
+    ),
   ),
 )
 

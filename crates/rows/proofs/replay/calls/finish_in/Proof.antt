@@ -31,7 +31,8 @@ returns c =
     let n = d .before in
     let p = n .before in
     let a = p .before .before .before .before .before .before .before .before .before .before .before .args in
-    rw (parts-lent (forest (a .nodes .now) (a .digests .now) (a .batches .now) (a .groups .now) (a .ops .now)) (a .directory .now) (a .forest-number) (p .directory-entry .result) (p .directory-entry .ensures) (n .part-of-numbers .ensures) (d .part-of-cells .ensures) (b .part-of-numbers2 .ensures) (g .part-of-cells2 .ensures) (o .part-of-opcodes .ensures)) (c .before .before .before .cycle-with .ensures .1)
+    let w = c .before .before .before .cycle-with .ensures in
+    rw (parts-lent (forest (a .nodes .now) (a .digests .now) (a .batches .now) (a .groups .now) (a .ops .now)) (a .directory .now) (a .forest-number) (p .directory-entry .result) (p .directory-entry .ensures) (n .part-of-numbers .ensures) (d .part-of-cells .ensures) (b .part-of-numbers2 .ensures) (g .part-of-cells2 .ensures) (o .part-of-opcodes .ensures)) (w .1 .0, w .1 .1 .1)
 
 pub finish-in-spec : {M : Type 1} → statement M
 finish-in-spec =
