@@ -160,6 +160,39 @@ def places():
     return "".join(line("starts", list(s) + [ops, op], place_of(s, ops, op)) for s, ops, op in tries)
 
 
+def records():
+    """Places by batch records alone (N7): which record, how many numbers are lent, and the lowest of 5, 6 and 11."""
+    rng = random.Random(11)
+    out = []
+
+    def add(lent, record, op, batches):
+        whole = 12 * record + 12 <= lent
+        number, place = place_of(batches[12 * record + 1:12 * record + 10], batches[12 * record + 10], op) if whole else (5, [])
+        refusals = [(5, number == 5), (6, number == 6), (11, whole and batches[12 * record] > 8)]
+        out.append(line("record", [lent, record, op] + batches, lowest(refusals, place)))
+
+    usual = [8, 0, 9, 18, 27, 36, 45, 54, 63, 72, 72, 0]
+    # an empty group before another, a group that the batch ends in, and one of eleven operations
+    some = [4, 0, 4, 4, 9, 20, 20, 20, 20, 20, 12, 72]
+    large = [9, 1, 3, 14, 14, 14, 14, 14, 14, 14, 14, 84]
+    for op in (0, 3, 4, 8, 9, 10, 11, 12, 14, 71, 72, 2**32 - 1):
+        for record in (0, 1, 2):
+            add(36, record, op, usual + some + large)
+    for lent in (0, 11, 12, 13, 23, 24, 35, 36):
+        for record in (0, 1, 2, 3, 2**60, (2**64 - 1) // 12, 2**64 - 1):
+            add(lent, record, 1, some + usual + large)
+    for count in (0, 8, 9, 2**32 - 1):
+        for op in (1, 12):
+            add(36, 1, op, usual + [count] + some[1:] + usual)
+    for _ in range(40):
+        batches = []
+        for _ in range(3):
+            starts = [rng.randrange(30) for _ in range(9)]
+            batches += [rng.randrange(11)] + (starts if rng.random() < 0.1 else sorted(starts)) + [rng.randrange(35), rng.randrange(9)]
+        add(36, rng.randrange(3), rng.randrange(32), batches)
+    return "".join(out)
+
+
 def round_up(count):
     power = 1
     while power < count:
@@ -272,7 +305,7 @@ def contexts():
     return out
 
 
-lists = {"field": field(), "helpers": helpers(), "flags": flags(), "places": places()}
+lists = {"field": field(), "helpers": helpers(), "flags": flags(), "places": places(), "records": records()}
 for k, name in enumerate("abcd"):
     # the program has room for 8,192 numbers a list, of which a context takes 74
     lists["contexts_" + name] = "".join(contexts()[110 * k:110 * k + 110])

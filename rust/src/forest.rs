@@ -75,7 +75,7 @@ impl Forests {
     }
 
     /// The batch records of one forest, by which its blocks count: what [`op_place`](crate::exports::op_place) is lent. Panics where there is no such
-    /// forest.
+    /// forest, or where its part is not whole in `batches`.
     pub fn batches_of(&self, forest: usize) -> &[u32] {
         let (first, records) = (self.directory[6 * forest + 2] as usize, self.directory[6 * forest + 3] as usize);
         &self.batches[12 * first..12 * (first + records)]

@@ -268,7 +268,7 @@ pub extern "C" fn core_enclosing_block(index: &[u32], row: usize) -> EnclosingBl
 }
 
 // Where an operation lies in its batch: 0 or the refusal's number, its group, its index in the group, and how many operations follow it there;
-// all 0 on a refusal.
+// these three are 0 on a refusal.
 #[repr(C)]
 pub struct OperationPlace {
     pub refusal: u32,
@@ -277,7 +277,8 @@ pub struct OperationPlace {
     pub following: u64,
 }
 
-// The place of an operation of the batch in a record, by the batch records alone.
+// The place of an operation of the batch in a record, by the batch records of its forest alone. 5: the record is not whole in the slice; 6: no such
+// operation in the batch, or it lies in no group; 11: the record's group count is above 8.
 #[no_mangle]
 pub extern "C" fn core_op_place(batches: &[u32], record: usize, op: u32) -> OperationPlace
     ensures { λ r. ⌜ (r .refusal ≡ refusal (placeOfOp (now (batches .entry)) «record» op))

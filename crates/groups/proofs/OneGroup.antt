@@ -13,9 +13,9 @@ use Rattle.groups.specs.declared.group.OpPlace.{OpPlace}
 use Rattle.groups.specs.GroupOfOperation.{falling, followingOps, placeIn, groupFrom, groupOf, LiesAt}
 
 -- an answer that is picked is one of the two, by the test
-pub either : {A T : Type 0} (b : Bool) (x y a : A) → pick b x y ≡ a → (b ≡ true → x ≡ a → T) → (b ≡ false → y ≡ a → T) → T
-either true x y a e f g = f refl e
-either false x y a e f g = g refl e
+pub by-test : {A T : Type 0} (b : Bool) (x y a : A) → pick b x y ≡ a → (b ≡ true → x ≡ a → T) → (b ≡ false → y ≡ a → T) → T
+by-test true x y a e f g = f refl e
+by-test false x y a e f g = g refl e
 
 pub both : (a b : Bool) → (a && b) ≡ true → (a ≡ true) × (b ≡ true)
 both true b e = (refl, e)
@@ -46,7 +46,7 @@ here : (x y : ℕ) (ys : List ℕ) (ops op g : ℕ) (p : OpPlace) → (leb x op 
 unfolding placeIn
 here x y ys ops op g p t e =
     let u = both (leb x op) (ltb op y) t in
-    either (leb (op - x) 8) (accepted (record { group = g; index = op - x; following = followingOps y ops op })) (refused 6) (accepted p) e
+    by-test (leb (op - x) 8) (accepted (record { group = g; index = op - x; following = followingOps y ops op })) (refused 6) (accepted p) e
     (λ l f.
     let i : p .index ≡ op - x = cc in
     let j : p .group ≡ g = cc in
@@ -67,7 +67,7 @@ unfolding groupFrom
 lies-from [] ops op g p e = absurd (never 6 p e)
 lies-from (x ∷ []) ops op g p e = absurd (never 6 p e)
 lies-from (x ∷ y ∷ ys) ops op g p e =
-    either (leb x op && ltb op y) (placeIn g (op - x) (followingOps y ops op)) (groupFrom (y ∷ ys) ops op (g + 1)) (accepted p) e
+    by-test (leb x op && ltb op y) (placeIn g (op - x) (followingOps y ops op)) (groupFrom (y ∷ ys) ops op (g + 1)) (accepted p) e
     (λ t f. here x y ys ops op g p t f)
     (λ t f.
     let h = lies-from (y ∷ ys) ops op (g + 1) p f in
@@ -85,7 +85,7 @@ lies-from (x ∷ y ∷ ys) ops op g p e =
 pub lies : (s : List ℕ) (ops op : ℕ) (p : OpPlace) → accepted p ≡ groupOf s ops op → LiesAt s ops op p
 unfolding groupOf
 lies s ops op p e =
-    either (leb ops op || falling s) (refused 6) (groupFrom s ops op 0) (accepted p) (sym e)
+    by-test (leb ops op || falling s) (refused 6) (groupFrom s ops op 0) (accepted p) (sym e)
     (λ t f. absurd (never 6 p f))
     (λ t f.
     let h = lies-from s ops op 0 p f in

@@ -1,4 +1,4 @@
-// The lists of the groups layer: helpers, flags, places and contexts. A record is what the call is given, and then the answer's number
+// The lists of the groups layer: helpers, flags, places, places by batch records and contexts. A record is what the call is given, and then the answer's number
 // and six values (0 where there are fewer).
 use groups::batch::BasicBlockNode;
 use groups::context::BasicBlockContext;
@@ -7,7 +7,9 @@ use groups::context::OpContextFound;
 use groups::flags::FlagsFound;
 use groups::flags::get_op_batch_flags;
 use groups::group::GroupFound;
+use groups::group::PlaceFound;
 use groups::group::op_idx_in_batch_to_group;
+use groups::group::op_place;
 use groups::helpers::HelpersFound;
 use vectors_shared::copies::copy;
 use vectors_shared::copies::copy_u32;
@@ -78,6 +80,32 @@ fn places(v: &[u64], at: usize) -> Told {
     match found {
         GroupFound::Refused => refused(6),
         GroupFound::In(place) => Told(0, place.group, place.index, place.following, 0, 0, 0),
+    }
+}
+
+// The place by the first `lent` numbers, or by all where there are not so many.
+fn place_by(batches: &[u32], lent: usize, record: usize, op: u32) -> PlaceFound {
+    if batches.len() < lent {
+        return op_place(batches, record, op);
+    }
+    op_place(&batches[0..lent], record, op)
+}
+
+// A record: how many of the 36 numbers of three batches are lent, the batch record's number, the operation, and the 36 numbers.
+fn records(v: &[u64], at: usize) -> Told
+    requires { ⌜ at ≤ length (now v) ⌝ }
+{
+    let mut batches = [0u32; 36];
+    copy_u32(&v[at..], 3, &mut batches);
+    let found = place_by(
+        &batches,
+        item(v, at, 0) as usize,
+        item(v, at, 1) as usize,
+        low32(item(v, at, 2)),
+    );
+    match found {
+        PlaceFound::Refused(n) => refused(n),
+        PlaceFound::At(place) => Told(0, place.group, place.index, place.following, 0, 0, 0),
     }
 }
 
@@ -157,6 +185,7 @@ pub enum List {
     Helpers,
     Flags,
     Places,
+    Records,
     Contexts,
 }
 
@@ -167,6 +196,7 @@ fn computed(list: List, v: &[u64], at: usize) -> Told
         List::Helpers => helpers(v, at),
         List::Flags => flags(v, at),
         List::Places => places(v, at),
+        List::Records => records(v, at),
         List::Contexts => contexts(v, at),
     }
 }

@@ -30,6 +30,7 @@ fn main() {
     groups_vectors(b"helpers", List::Helpers, 7);
     groups_vectors(b"flags", List::Flags, 1);
     groups_vectors(b"places", List::Places, 11);
+    groups_vectors(b"records", List::Records, 39);
     groups_vectors(b"contexts_a", List::Contexts, 67);
     groups_vectors(b"contexts_b", List::Contexts, 67);
     groups_vectors(b"contexts_c", List::Contexts, 67);

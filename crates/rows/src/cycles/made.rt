@@ -42,11 +42,11 @@ use groups::helpers::HelpersFound;
 use groups::helpers::OperationHelperRegisters;
 use groups::word::Word;
 ghost use mathlib.Core.Path.{_≡_};
-ghost use Rattle.groups.specs.Answer.{refusal};
+ghost use Rattle.groups.specs.Answer.{Answer, accepted, refusal};
 ghost use Rattle.groups.specs.Contexts.{toldOp, toldBatchStart};
 ghost use Rattle.rows.specs.records.Addresses.{toldStarted};
 ghost use Rattle.rows.specs.records.Lent.{lentForest, lentQueues};
-ghost use Rattle.rows.specs.cycles.Made.{cursor, toldMade, toldKind, callKind, dynKind, blockKind, entryKind, startBlock, startTwo, startOne, startDyn, startDyncall, startKind, startNode, madeEnd, madeRepeat, finishLoop, operationMade, resumed, madeRespan, made};
+ghost use Rattle.rows.specs.cycles.Made.{Cursor, cursor, madeRow, toldMade, toldKind, callKind, dynKind, blockKind, entryKind, startBlock, startTwo, startOne, startDyn, startDyncall, startKind, startNode, madeEnd, madeRepeat, finishLoop, operationMade, resumed, madeRespan, made};
 ghost use Rattle.rows.specs.ways.ContinuationKinds.{continuationKind};
 
 // A row, the address state and positions after it, and what it uses up.
