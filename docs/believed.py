@@ -30,6 +30,7 @@ CLAIMS = {
     "crates/groups/proofs/OneGroup.antt": ["lies", "found", "only"],
     "crates/groups/proofs/FollowingOps.antt": ["fold-end", "next-in-group", "next-in-later", "told-found"],
     "crates/theory_runs/proofs/Following.antt": ["following-by"],
+    "crates/theory_runs/proofs/NoSyscalls.antt": ["start-refused"],
     "crates/theory_read_back/proofs/ReadBackTheorems.antt": [],
     "crates/index/proofs/IndexExact.antt": [],
     "crates/dump/proofs/Waveforms.antt": ["buffers", "writer-gives", "one-text", "one-answer", "gets-29", "gets-11", "reads-given", "come-back"],

@@ -1,7 +1,8 @@
 #!/usr/bin/env python3
-"""Writes data/refused and data/states: the records of the first run of data/runs_01, changed so that they are refused, with the number by
-docs/DECISIONS.md ("Replay of lent call records"), and a few of them replayed from other address states, with what they leave. src/refused.rt
-and src/states.rt say how the lists are laid out. The other lists are made by rust/src/bin/make_answers.rs."""
+"""Writes data/refused, data/syscall and data/states: the records of the first run of data/runs_01, changed so that they are refused, with the
+number by docs/DECISIONS.md ("Replay of lent call records"); changed over a forest whose loop is a SYSCALL node (change request N8); and a few of
+them replayed from other address states, with what they leave. src/refused.rt and src/states.rt say how the lists are laid out. The other lists
+are made by rust/src/bin/make_answers.rs."""
 import os
 import re
 
@@ -16,8 +17,8 @@ KIND, NODE, BATCH, OP, FLAG, CONDITION, WORD, INFO, INFO_DEPTH = 1, 2, 3, 4, 5, 
 CASE, FOREST, CLK, CTX, DEPTH = 0, 1, 2, 3, 24
 # The first of its cells: fn_hash, stack top, overflow address, registers; of a storing the word and the info's address.
 FN_HASH, TOP, OVERFLOW, REGISTERS, WORD_CELL, INFO_ADDR = 4, 8, 25, 26, 8, 14
-# Records of the run: storings of StartNode, ResumeBasicBlock and FinishLoop; its first and its last cycle.
-START, RESUME, FINISH, CYCLE, END = 0, 4, 8, 1, 17
+# Records of the run: storings of StartNode, of the second one, of ResumeBasicBlock and FinishLoop; its first and its last cycle.
+START, SECOND, RESUME, FINISH, CYCLE, END = 0, 2, 4, 8, 1, 17
 # Numbers of the run, and the place of their count.
 ALL, COUNT = 576, 0
 
@@ -134,6 +135,34 @@ CASES = [
 
 # The run's nodes, and its step.
 BLOCK, LOOP, STEP = 0, 1, 2
+# The place of the loop's kind and child among the numbers of the nodes, behind their length, and the kind of a SYSCALL node.
+LOOP_KIND, LOOP_CHILD, SYSCALL = 1 + 6 * LOOP, 2 + 6 * LOOP, 7
+
+# The same where the loop is a SYSCALL node, whose start (31) is the first record.
+SYSCALL_CASES = [
+    ("as they are", {}, 31),
+    ("its storing alone", lent(32), 0),
+    ("its storing and its cycle", lent(64), 31),
+    # behind a row that is not written then
+    ("behind the start of the block", at(START, NODE=BLOCK) | at(SECOND, NODE=LOOP) | lent(128), 31),
+    ("behind an END", at(START, KIND=4, CONDITION=1) | at(SECOND, NODE=LOOP) | lent(128), 31),
+    ("the block alone", at(START, NODE=BLOCK) | lent(64), 0),
+    # other continuations of the node are as they were
+    ("FinishCall", at(START, KIND=5) | lent(64), 0),
+    ("FinishJoin", at(START, KIND=2) | lent(64), 0),
+    ("FinishLoop with zero", at(START, KIND=4, CONDITION=1) | lent(64), 0),
+    ("FinishLoop with one", at(START, KIND=4, CONDITION=2) | lent(64), 4),
+    ("FinishDyn", at(START, KIND=6) | lent(64), 4),
+    # what comes before it
+    ("depth below the least", at(CYCLE, DEPTH=15), 10),
+    ("clk", at(CYCLE, CLK=OVER), 23),
+    ("forest that is not there", at(CYCLE, FOREST=OVER), 3),
+    ("another node that is not there", at(START, NODE=2), 3),
+    ("no address left", at(START, NODE=BLOCK) | at(SECOND, NODE=BLOCK) | at(RESUME, KIND=1, NODE=BLOCK) | at(RESUME + 2, KIND=1, NODE=LOOP), 20),
+    # what comes behind it
+    ("then clk", at(END, CLK=OVER), 31),
+    ("then part of a record", lent(ALL - 1), 31),
+]
 
 
 def built(record):
@@ -170,7 +199,7 @@ class Run:
     """The first run of a list: profile, address state, parts, records with their count before them, and what it leaves."""
 
     def __init__(self, v):
-        self.profile, self.state = v[1:15], v[33:35]
+        self.numbers, self.profile, self.state = v, v[1:15], v[33:35]
         self.parts, place = [], 35
         for _ in range(9):
             self.parts.append(v[place:place + 1 + v[place]])
@@ -199,5 +228,9 @@ if __name__ == "__main__":
     with open(os.path.join(HERE, "data", "runs_01")) as file:
         run = Run(list(map(int, re.findall(r"\d+", file.read()))))
     write("refused", run, [(words, told(number, changes)) for words, changes, number in CASES])
+    over = Run(run.numbers)
+    assert over.parts[0][LOOP_KIND] == 5 and over.parts[0][LOOP_CHILD] == BLOCK
+    over.parts[0][LOOP_KIND] = SYSCALL
+    write("syscall", over, [(words, told(number, changes)) for words, changes, number in SYSCALL_CASES])
     write("states", run, [(words, "%d %d; %s = %s" % (*state, told(0, changes), " ".join(map(str, left))))
                           for words, state, changes, left in states(run)])

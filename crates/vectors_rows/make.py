@@ -194,12 +194,13 @@ def start_node(x, t, node):
     t.at = [t.at[0] + 1, t.at[1] + 1, t.at[2]]
     kind, first, second, block, _ = x.node(node)
     refuse_if(kind == "External", 4)
+    refuse_if(kind == "Syscall", 31)
     if kind == "Block":
         _, groups = x.batch(block, 0)
         return decoder_row(op["SPAN"], t.parent, groups, count=block[0], flags=batch_flags(block[0]))
     if kind in ("Join", "Split"):
         return decoder_row(op[kind.upper()], t.parent, x.digest(first) + x.digest(second))
-    if kind in ("Loop", "Call", "Syscall"):
+    if kind in ("Loop", "Call"):
         return decoder_row(op[kind.upper()], t.parent, x.digest(first))
     refuse_if(t.word is None, 23)
     h, t.word = t.word, None
@@ -490,7 +491,7 @@ def accepted_rows():
     where = [("first", FIRST), ("later", {}), ("last", LAST)]
     starts = [("SPAN", BLOCK, {}), ("SPAN of one group", ONE_GROUP, {}), ("SPAN of two groups", TWO_GROUPS, {}),
               ("SPAN of four groups", TWO_BATCHES, {}), ("JOIN", JOIN, {}), ("SPLIT", SPLIT, {}), ("LOOP", LOOP, {}), ("CALL", CALL, {}),
-              ("SYSCALL", SYSCALL, {}), ("DYN", DYN, WORD), ("DYNCALL", DYNCALL, {**WORD, **INFO})]
+              ("DYN", DYN, WORD), ("DYNCALL", DYNCALL, {**WORD, **INFO})]
     for (words, node, more), (row, place) in itertools.product(starts, where[:2]):
         rows.add("%s, %s row" % (words, row), store("StartNode", node), more, place, number=0)
     ends = [("FinishJoin", JOIN, {}), ("FinishSplit", SPLIT, {}), ("FinishLoop", LOOP, ZERO), ("FinishCall", CALL, {}), ("FinishCall", SYSCALL, {}),
@@ -628,7 +629,7 @@ def unreduced():
         chained[0] = True
 
     both("start, Block", store("StartNode", BLOCK))
-    for node in (ONE_GROUP, TWO_GROUPS, TWO_BATCHES, JOIN, SPLIT, LOOP, CALL, SYSCALL):
+    for node in (ONE_GROUP, TWO_GROUPS, TWO_BATCHES, JOIN, SPLIT, LOOP, CALL):
         both("start, " + KINDS[NODES[node][0]], store("StartNode", node))
     both("DYN", store("StartNode", DYN), WORD)
     both("DYNCALL", store("StartNode", DYNCALL), WORD, INFO)
@@ -648,6 +649,7 @@ def unreduced():
     chained[0] = False
     both("depth", {at("stack", 16): 15})
     both("no end", store("FinishJoin", JOIN), lent("ends", 3))
+    both("SYSCALL", store("StartNode", SYSCALL))
     both("consumed above the total", store("ResumeBasicBlock", BLOCK, 2, 1), node_at(BLOCK, 3, 17), WORD, INFO)
     both("helper value", store("ResumeBasicBlock", BLOCK, 0, 0), registers("U32Sub", 2**32))
     both("full", FULL)
@@ -865,11 +867,21 @@ def own_refusals():
         out.add("empty forest", store(name, 0), ZERO, lent("nodes", 0), lent("digests", 0), number=3)
     out.add("kind of the largest number", store("StartNode", UNKNOWN), node_at(UNKNOWN, 0, 2**32 - 1), number=3)
     # children
-    for node, child in ((JOIN, 1), (JOIN, 2), (SPLIT, 1), (SPLIT, 2), (LOOP, 1), (CALL, 1), (SYSCALL, 1)):
+    for node, child in ((JOIN, 1), (JOIN, 2), (SPLIT, 1), (SPLIT, 2), (LOOP, 1), (CALL, 1)):
         for other in (ABSENT, UNKNOWN, 16, 2**32 - 1):
             out.add("no child", store("StartNode", node), node_at(node, child, other), number=3)
     out.add("no body", store("FinishLoop", LOOP), ONE, node_at(LOOP, 1, ABSENT), number=3)
     out.add("no body of an ended loop", store("FinishLoop", LOOP), ZERO, node_at(LOOP, 1, ABSENT), number=0)
+    # SYSCALL, whatever its child, and other nodes that a kind makes one
+    for words, place in (("first", FIRST), ("later", {}), ("last", LAST)):
+        out.add("SYSCALL, %s row" % words, store("StartNode", SYSCALL), place, number=31)
+    for other in (BLOCK, SYSCALL, DIGEST, EXTERNAL, ABSENT, UNKNOWN, 16, 2**32 - 1):
+        out.add("SYSCALL, any child", store("StartNode", SYSCALL), node_at(SYSCALL, 1, other), number=31)
+    for node in (BLOCK, CALL, LOOP, DYN, DIGEST, ABSENT):
+        out.add("SYSCALL in a slot", store("StartNode", node), node_at(node, 0, 7), WORD, INFO, number=31)
+    out.add("CALL in its slot", store("StartNode", SYSCALL), node_at(SYSCALL, 0, 6), number=0)
+    out.add("SYSCALL beside", store("StartNode", CALL), node_at(CALL, 1, SYSCALL), number=0)
+    out.add("profile's SYSCALL of another number", store("StartNode", SYSCALL), {at("profile", 7): 1}, number=31)
     # wrong kinds
     kinds = [BLOCK, JOIN, SPLIT, LOOP, CALL, SYSCALL, DYN, DYNCALL, EXTERNAL]
     right = {"FinishLoop": (LOOP,), "FinishCall": (CALL, SYSCALL), "FinishDyn": (DYN, DYNCALL), "ResumeBasicBlock": (BLOCK,), "Respan": (BLOCK,),
@@ -926,7 +938,7 @@ def own_refusals():
     # a refusal leaves flag, captured values and positions
     for number, change in ((20, lent("addresses", 1)), (21, lent("parents", 2)), (3, store("StartNode", ABSENT)), (4, store("EnterForest")),
                            (22, {**store("FinishLoop", LOOP), **lent("ends", 3)}), (24, store("StartNode", DYNCALL)), (24, store("StartNode", DYN)),
-                           (24, store("FinishLoop", LOOP)), (1, {at("ops"): 128}), (2, {at("profile"): 128}),
+                           (24, store("FinishLoop", LOOP)), (31, store("StartNode", SYSCALL)), (1, {at("ops"): 128}), (2, {at("profile"): 128}),
                            (11, lent("fragment", 1)), (10, {at("stack", 16): 0})):
         for condition in (ZERO, ONE) if number == 24 else (ZERO,):
             out.add("refused with all captured", BODY, condition, WORD, INFO, change, FULL if number == 24 else LAST, number=number)
@@ -936,7 +948,7 @@ def own_refusals():
     for name, node in (("FinishJoin", JOIN), ("FinishLoop", LOOP), ("FinishCall", CALL), ("FinishDyn", DYN), ("ResumeBasicBlock", BLOCK), ("Respan", BLOCK),
                        ("FinishBasicBlock", BLOCK)):
         out.add("full", store(name, node), ONE, FULL, number=24)
-    for node in (JOIN, SPLIT, LOOP, CALL, SYSCALL, DYN, DYNCALL):
+    for node in (JOIN, SPLIT, LOOP, CALL, DYN, DYNCALL):
         out.add("full", store("StartNode", node), WORD, INFO, FULL, number=24)
     return out
 
@@ -945,8 +957,8 @@ def refusing():
     """Changes that are refused, in the order of the checks of a finish, and those of the continuations, each with its number."""
     big, profile, lengths, depth = {at("ops", 39): 128}, {at("profile", 13): 0}, lent("fragment", 195), {at("stack", 16): 15}
     stages = [(31, tracer(0, 31)), (23, store("nothing")), (1, big), (2, profile), (11, lengths), (10, depth)]
-    own = [(20, tracer(18, 4)), (21, tracer(19, 4)), (3, store("StartNode", ABSENT)), (4, store("StartNode", EXTERNAL)), (5, store("StartNode", NO_BATCH)),
-           (7, node_at(BLOCK, 3, 3)), (23, store("StartNode", DYN)), (22, {**store("FinishJoin", JOIN), **lent("ends", 2)}),
+    own = [(20, tracer(18, 4)), (21, tracer(19, 4)), (3, store("StartNode", ABSENT)), (4, store("StartNode", EXTERNAL)), (31, store("StartNode", SYSCALL)),
+           (5, store("StartNode", NO_BATCH)), (7, node_at(BLOCK, 3, 3)), (23, store("StartNode", DYN)), (22, {**store("FinishJoin", JOIN), **lent("ends", 2)}),
            (23, store("FinishLoop", LOOP)), (3, {**store("FinishLoop", ABSENT), **ONE}), (4, {**store("FinishLoop", JOIN), **ONE}),
            (4, store("FinishCall", JOIN)), (4, store("FinishDyn", CALL)), (4, store("FinishBasicBlock", DYN)), (4, store("Respan", JOIN)),
            (5, store("Respan", BLOCK, 3)), (7, {**store("Respan", BLOCK, 1), **batch_at(1, 0, 2)}), (4, store("EnterForest")),
@@ -972,8 +984,12 @@ def orders():
         out.add("continuation and full", a, FULL, number=first)
     out.add("address and parent", tracer(18, 4, 4), number=20)
     for (words, number, a) in (("address", 20, tracer(18, 4)), ("parent", 21, tracer(19, 4))):
-        for node in (ABSENT, EXTERNAL, NO_BATCH, DYN):
+        for node in (ABSENT, EXTERNAL, SYSCALL, NO_BATCH, DYN):
             out.add(words + " and node", a, store("StartNode", node), number=number)
+    out.add("kept and SYSCALL", store("StartNode", SYSCALL), tracer(0, 77), number=77)
+    out.add("node and SYSCALL", store("StartNode", SYSCALL), lent("nodes", 6 * SYSCALL), number=3)
+    out.add("node without its digest and SYSCALL", store("StartNode", SYSCALL), lent("digests", 4 * SYSCALL), number=3)
+    out.add("SYSCALL and child", store("StartNode", SYSCALL), node_at(SYSCALL, 1, ABSENT), FULL, number=31)
     out.add("batch and count", store("StartNode", NO_BATCH), node_at(NO_BATCH, 3, 3), number=5)
     for name in ("FinishJoin", "FinishSplit", "FinishLoop", "FinishCall", "FinishDyn", "FinishBasicBlock"):
         out.add("node and end", store(name, ABSENT), ZERO, lent("ends", 0), number=3)

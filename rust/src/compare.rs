@@ -1,7 +1,8 @@
 //! The comparison: the same calls and passes by the listed Rust and by the proved library, field by field. The listed Rust is given reduced
 //! cells; the library is given the same or, in every second run, numbers from p on for some of them. What the library writes and answers is
 //! compared as it stands. Left out is the helper cell of HALT rows from depth 18 up and no other: it is held to the documentation's overflow
-//! rule alone, as every row of a finished trace is.
+//! rule alone, as every row of a finished trace is. A run ends where one side refuses; starting a SYSCALL node, of which the listed Rust writes
+//! a row, must be refused with 31.
 
 use std::collections::BTreeMap;
 use std::panic::{AssertUnwindSafe, catch_unwind};
@@ -19,11 +20,17 @@ use crate::listed::stand_ins::field::Felt;
 use crate::listed::whole::{self, Start, refusal};
 use crate::overflow::{DEPTH, HELPER, is_deep_halt, is_inverse, overflow_rule};
 use crate::profile::EXAMPLE;
-use crate::random::{DEPTHS, Rng, Run, raised, raised_run, raised_state};
+use crate::random::{DEPTHS, Rng, Run, first_syscall, raised, raised_run, raised_state};
 
 const P: u64 = 18446744069414584321;
+const IN_SPAN: usize = 22;
 const GROUP_COUNT: usize = 23;
 const STACK: usize = 30;
+/// The refusal of a start of a SYSCALL node, those before it that a run here can have, and what the listed Rust may answer where it is 31: a
+/// row, or what would come behind it, an absent child or a full fragment.
+const SYSCALL_START: u32 = 31;
+const BEFORE_SYSCALL: [u32; 3] = [10, 20, 21];
+const BEHIND_SYSCALL: [&str; 3] = [ACCEPTS, "invalid node ID stored in continuation", "panic: index out of range"];
 
 /// The names of the 49 columns.
 pub fn column(i: usize) -> String {
@@ -66,6 +73,9 @@ pub struct Tally {
     pub rule_rows: u64,
     /// How often a finished run ended at which depth.
     pub depths: BTreeMap<u64, u64>,
+    /// Starts of a SYSCALL node that the library refused with 31, and of how many of them the listed Rust wrote a row.
+    pub syscalls: u64,
+    pub syscall_rows: u64,
     pub differences: u64,
     /// The first differences, in words.
     pub told: Vec<String>,
@@ -153,6 +163,23 @@ impl Tally {
     fn refused(&mut self, ours: u32, listed: &str) {
         *self.refusals.entry((ours, listed.into())).or_default() += 1;
     }
+    /// The first call that a side refuses, by which number the library and how the listed Rust: 31 for each start of a SYSCALL node that
+    /// nothing before it refuses, there too, and for nothing else. `row` is what the listed Rust writes of the call, where it does.
+    fn hold_to_31(&mut self, is_syscall: bool, number: u32, listed: &str, row: Option<[u64; WIDTH]>) {
+        match (is_syscall, number) {
+            (true, SYSCALL_START) if BEHIND_SYSCALL.contains(&listed) => {
+                self.syscalls += 1;
+                self.syscall_rows += u64::from(row.is_some());
+                let named = row.map(|cells| ((0..7).map(|i| cells[7 + i] << i).sum::<u64>(), cells[IN_SPAN]));
+                let wanted = (listed == ACCEPTS).then_some((u64::from(EXAMPLE.syscall), 0));
+                self.same("opcode and in_span of a SYSCALL start's row", wanted, named);
+            }
+            (true, number) if BEFORE_SYSCALL.contains(&number) && listed != ACCEPTS => {}
+            (true, number) => self.differ(format!("a start of a SYSCALL node: number {number}, the listed Rust {listed}")),
+            (false, SYSCALL_START) => self.differ("31, and no start of a SYSCALL node".into()),
+            (false, _) => {}
+        }
+    }
 }
 
 impl core::fmt::Display for Tally {
@@ -166,6 +193,8 @@ impl core::fmt::Display for Tally {
             "\n  overflow rule: {rule_rows} rows of the {finished} finished traces, as the five calls and as the finisher leave them"
         )?;
         write!(f, "\n  finished at depth {}", self.ends())?;
+        let Self { syscalls, syscall_rows, .. } = self;
+        write!(f, "\n  {syscalls} starts of a SYSCALL node refused with 31; of {syscall_rows} of them the listed Rust wrote a row")?;
         write!(
             f,
             "\n  {raised} of the {runs} runs with cells from p on: {run_cells} in the run, {row_cells} in the rows and built cells "
@@ -197,8 +226,15 @@ fn cells_from_p_on(run: &Run, lent: &Forests) -> u64 {
     numbers.filter(|&&number| number >= P).count() as u64
 }
 
-/// Carries out a run on both sides, and its passes. Answers the finished trace, where there is one; some of its cells may be from p on.
-pub fn compare_run(run: &Run, rng: &Rng, tally: &mut Tally) -> Option<Vec<u64>> {
+/// A finished trace; some of its cells may be from p on.
+pub struct Finished {
+    pub cells: Vec<u64>,
+    /// The run was cut where 31 refuses: the trace is that of the calls before it.
+    pub is_cut: bool,
+}
+
+/// Carries out a run on both sides, and its passes. Answers the finished trace, where there is one.
+pub fn compare_run(run: &Run, rng: &Rng, tally: &mut Tally) -> Option<Finished> {
     tally.runs += 1;
     let is_raised = tally.runs.is_multiple_of(2);
     let given = if is_raised { raised_run(rng, run) } else { run.clone() };
@@ -219,6 +255,7 @@ pub fn compare_run(run: &Run, rng: &Rng, tally: &mut Tally) -> Option<Vec<u64>> 
     let (mut state, mut ours_state, mut at) = (run.state, given.state, Positions::default());
     let (mut counts, mut built) = (Vec::new(), Vec::new());
     let (mut stack_rows, mut system_rows, mut contexts) = (Vec::new(), Vec::new(), Vec::new());
+    let mut is_cut = false;
     for (k, (calls, given_calls)) in run.fragments.iter().zip(&given.fragments).enumerate() {
         let place = k * size * CORE_STORAGE_WIDTH..(k + 1) * size * CORE_STORAGE_WIDTH;
         let end = ((k + 1) * size).min(buffer_rows);
@@ -231,6 +268,7 @@ pub fn compare_run(run: &Run, rng: &Rng, tally: &mut Tally) -> Option<Vec<u64>> 
         let mut listed = whole::fragment(run, &forests, &listed_calls, state, at, &mut data[place.clone()]);
         let mut accepted = calls.len();
         let is_refused = answer.is_err() || listed.refused.is_some();
+        let syscall = first_syscall(calls, &run.forests);
         if is_refused {
             // Up to the first refused call of either side both accept; that much is compared, and the run ends there.
             let first = answer.err().map(|_| {
@@ -243,10 +281,19 @@ pub fn compare_run(run: &Run, rng: &Rng, tally: &mut Tally) -> Option<Vec<u64>> 
             let number = first.filter(|(at, _)| *at == accepted).map_or(0, |(_, number)| number);
             let text = listed.refused.filter(|(at, _)| *at == accepted).map_or(ACCEPTS.into(), |(_, text)| text);
             tally.refused(number, &text);
+            // What the listed Rust writes of the call.
+            let mut next = Felt::zero_vec(size * CORE_STORAGE_WIDTH);
+            let left = whole::fragment(run, &forests, &listed_calls[..=accepted], state, at, &mut next).left;
+            let row = left.and_then(|left| whole::rows(&next).take(left.rows).last());
+            tally.hold_to_31(syscall == Some(accepted), number, &text, row);
+            is_cut = number == SYSCALL_START;
             buffer[ours.clone()].copy_from_slice(&before);
             data[place.clone()].fill(convert::felt(0));
             answer = replay(&given_calls[..accepted], &mut buffer[ours.clone()]);
             listed = whole::fragment(run, &forests, &listed_calls[..accepted], state, at, &mut data[place.clone()]);
+        }
+        if syscall.is_some_and(|place| place < accepted) {
+            tally.differ("a SYSCALL node was started".into());
         }
         tally.calls += accepted as u64;
         let (Ok(answer), Some(left)) = (answer, listed.left) else {
@@ -289,7 +336,7 @@ pub fn compare_run(run: &Run, rng: &Rng, tally: &mut Tally) -> Option<Vec<u64>> 
     }
     let top = given.first_stack_top;
     let made = Made { run, top, forests, rows, height, counts, built, stack_rows, system_rows, contexts };
-    compare_passes(made, buffer, data, tally)
+    compare_passes(made, buffer, data, tally).map(|cells| Finished { cells, is_cut })
 }
 
 /// What both sides made of a run's fragments.

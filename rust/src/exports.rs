@@ -198,7 +198,7 @@ mod foreign {
 /// `state` and `at` are the address state and queue positions that the fragment before left. Where a record is refused, its number is
 /// answered and no row is written. Cells of the forests, the queues, the records and the address state may be any numbers; those of what is
 /// answered are below p, also where there is no record. 1 refuses an opcode of 128 or more among the forests' operations, 23 a record that
-/// encodes no call, as one whose clk, ctx or depth is over 32 bits.
+/// encodes no call, as one whose clk, ctx or depth is over 32 bits, 31 the start of a SYSCALL node.
 pub fn replay_calls(
     forests: &Forests,
     queues: &Queues,

@@ -744,6 +744,39 @@ pub fn any_calls(rng: &Rng, limit: usize) -> Run {
     Run { forests, queues, state, first_stack_top, fragment_size: size, fragments, nesting: None }
 }
 
+// SYSCALL NODES
+// ------------------------------------------------------------------------------------------------
+
+/// The first cycle of a fragment that starts a SYSCALL node, as a place among its calls.
+pub fn first_syscall(calls: &[Call], forests: &[Forest]) -> Option<usize> {
+    let mut stored = None;
+    calls.iter().position(|call| match call {
+        Call::Store(values) => {
+            stored = Some(values.continuation);
+            false
+        }
+        Call::Cycle(cycle) => match stored {
+            Some(Continuation::StartNode(id)) => {
+                let slot = forests.get(cycle.forest as usize).and_then(|slots| slots.get(id.0 as usize));
+                matches!(slot, Some(Slot::Node(MastNode::Syscall(_), _)))
+            }
+            _ => false,
+        },
+    })
+}
+
+/// The run with a CALL node in place of each SYSCALL node, whose start is refused (change request N8).
+pub fn with_calls(mut run: Run) -> Run {
+    for slot in run.forests.iter_mut().flatten() {
+        if let Slot::Node(node, _) = slot
+            && let MastNode::Syscall(callee) = *node
+        {
+            *node = MastNode::Call(callee);
+        }
+    }
+    run
+}
+
 // DEPTHS
 // ------------------------------------------------------------------------------------------------
 
@@ -827,7 +860,8 @@ fn usual(rng: &Rng, cycle: &mut Cycle, row: usize) {
     }
 }
 
-/// A list of `rows` cycles over one forest of `nodes` nodes: proper runs of its nodes one after another, and at the end operations.
+/// A list of `rows` cycles over one forest of `nodes` nodes, none of them SYSCALL: proper runs of its nodes one after another, and at the end
+/// operations.
 pub fn long_run(rng: &Rng, nodes: usize, rows: usize, fragment_size: usize) -> Run {
     let forests = vec![forest(rng, nodes)];
     let mut writer = Writer::new(rng, &forests, 0);
@@ -850,7 +884,7 @@ pub fn long_run(rng: &Rng, nodes: usize, rows: usize, fragment_size: usize) -> R
     pairs.iter_mut().enumerate().for_each(|(row, (_, cycle))| usual(rng, cycle, row));
     let calls = |part: &[Pair]| part.iter().flat_map(|(stored, cycle)| [Call::Store(*stored), Call::Cycle(*cycle)]).collect();
     let fragments = pairs.chunks(fragment_size).map(calls).collect();
-    Run {
+    with_calls(Run {
         forests,
         queues,
         state: DecoderState { current_addr: 1, parent_addr: 0 },
@@ -858,5 +892,5 @@ pub fn long_run(rng: &Rng, nodes: usize, rows: usize, fragment_size: usize) -> R
         fragment_size,
         fragments,
         nesting: None,
-    }
+    })
 }

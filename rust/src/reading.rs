@@ -20,6 +20,8 @@ pub struct Tally {
     pub whole: Answers,
     /// Those of them whose nesting is known.
     pub nested: u64,
+    /// Those of them that have a SYSCALL row.
+    pub syscalls: Answers,
     /// Traces with p added to cells, or taken from them.
     pub raised: Answers,
     /// Accepted traces with one cell changed.
@@ -74,6 +76,9 @@ impl Tally {
         let rows = cells.len() / WIDTH;
         let (answer, depths) = self.read("a written trace", &EXAMPLE, cells, rows + 3);
         self.whole.count(number(&answer));
+        if cells.chunks(WIDTH).any(|row| opcode(row) == EXAMPLE.syscall && row[IN_SPAN] % P == 0) {
+            self.syscalls.count(number(&answer));
+        }
         let Some(nesting) = nesting else {
             return answer.is_ok();
         };
@@ -189,6 +194,16 @@ impl Tally {
             self.index(&profile, &changed);
         }
     }
+}
+
+/// A trace as it may stand in an archive: its CALL rows are SYSCALL rows.
+pub fn archived(mut cells: Vec<u64>) -> Vec<u64> {
+    for row in cells.chunks_mut(WIDTH) {
+        if opcode(row) == EXAMPLE.call && row[IN_SPAN] % P == 0 {
+            (0..7).for_each(|i| row[7 + i] = u64::from(EXAMPLE.syscall >> i & 1));
+        }
+    }
+    cells
 }
 
 /// The index of an accepted trace of so many program rows, and the place of each program row's innermost block.

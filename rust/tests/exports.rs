@@ -344,6 +344,20 @@ mod read {
         assert_eq!(index, [0, 2, 0, 7]);
     }
 
+    /// N8: a trace with a SYSCALL row, from the grammar, is read, indexed and dumped.
+    #[test]
+    fn archived_syscall() {
+        let [start, end] = [EXAMPLE.syscall, EXAMPLE.end].map(|opcode| words::row(opcode, 0).to_vec());
+        let block = &small()[..3 * WIDTH];
+        let cells = [&start[..], block, &end, &words::row(EXAMPLE.halt, 0)].concat();
+        let (mut depths, mut index) = ([7; 6], [7; 6]);
+        assert_eq!(read_trace(EXAMPLE, &cells, &mut depths), Ok(5));
+        assert_eq!(depths, [1, 2, 2, 2, 1, 0]);
+        assert_eq!(build_index(EXAMPLE, &cells, &mut index), Ok(2));
+        assert_eq!(index, [0, 4, 0, 1, 3, 0]);
+        assert_eq!(undump(&dump(&cells).unwrap()), Ok(cells));
+    }
+
     /// A trace with p added to its cells reads as the trace, and its rows are handed back as they are.
     #[test]
     fn cells_from_p_on() {
@@ -613,7 +627,7 @@ mod dumped {
 /// Replay, by the listing of document 01 and by refusals of records.
 mod replayed {
     use core_trace::calls::{DecoderState, Positions, RECORD, records};
-    use core_trace::forest::Forests;
+    use core_trace::forest::{Forests, MastNode, Queues, Slot};
     use core_trace::listing;
     use core_trace::random::{Run, raised, raised_run};
 
@@ -750,6 +764,36 @@ mod replayed {
         refused_with(RESUME, &[(4, OVER)], 6);
         refused_with(FINISH, &[(6, 0)], 23);
         refused_with(FINISH, &[(6, 3)], 23);
+    }
+
+    /// N8: C10 with a SYSCALL node for the loop: 31 at its start, whatever child it has, and nothing else is changed. The checks before it
+    /// keep their numbers, and the END of such a node is written.
+    #[test]
+    fn syscall_starts_refused() {
+        let mut run = listing::run(9);
+        let calls = records(&run.fragments[0]);
+        for child in [0, 1, 2, u32::MAX] {
+            let Slot::Node(node, _) = &mut run.forests[0][1] else { panic!("the loop") };
+            *node = MastNode::Syscall(child);
+            let lent = Forests::new(&run.forests);
+            let (mut queues, mut calls, mut fragment) = (run.queues.clone(), calls.clone(), vec![7; 9 * WIDTH]);
+            let mut replay = |queues: &Queues, calls: &[u64]| {
+                let left = replay_calls(&lent, queues, EXAMPLE, run.state, Positions::default(), calls, &mut fragment);
+                assert!(left.is_ok() || fragment == vec![7; 9 * WIDTH]);
+                left.map(|left| left.rows)
+            };
+            refused(replay(&queues, &calls), 31);
+            queues.parents.clear();
+            refused(replay(&queues, &calls), 21);
+            queues.addresses.clear();
+            refused(replay(&queues, &calls), 20);
+            calls[RECORD * CYCLE + 24] = 15;
+            refused(replay(&queues, &calls), 10);
+            calls[RECORD * CYCLE + 24] = 16;
+            // FinishCall.
+            calls[RECORD * START + 1] = 5;
+            assert_eq!(replay(&queues, &calls[..2 * RECORD]), Ok(1));
+        }
     }
 
     #[test]

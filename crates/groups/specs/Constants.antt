@@ -143,7 +143,7 @@ fragmentNotFull = 25
 abbrev pub noFragments : ℕ
 noFragments = 26
 
--- REFUSALS of the change requests; 30 to 34 are still to come
+-- REFUSALS of the change requests; 30, 32, 33 and 34 are still to come
 
 -- "the lent index has fewer than three numbers for each block" (N1)
 abbrev pub shortIndex : ℕ
@@ -156,3 +156,7 @@ shortText = 28
 -- "a text read is none that the writer gives" (N3)
 abbrev pub noDump : ℕ
 noDump = 29
+
+-- "StartNode of a SYSCALL node" (N8)
+abbrev pub syscallStart : ℕ
+syscallStart = 31

@@ -30,7 +30,7 @@ impl Column {
     pub const HELPER: usize = 48;
 }
 
-// The number of a refusal; 30 to 34 are those of change requests to come.
+// The number of a refusal; 30, 32, 33 and 34 are those of change requests to come.
 pub struct Refusal(pub u32);
 
 impl Refusal {
@@ -83,4 +83,6 @@ impl Refusal {
     pub const SHORT_TEXT: u32 = 28;
 
     pub const NO_DUMP: u32 = 29;
+
+    pub const SYSCALL_START: u32 = 31;
 }

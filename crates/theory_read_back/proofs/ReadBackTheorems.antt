@@ -1,4 +1,4 @@
--- Demand 3, in one place, and the overflow rule of every row written. `ReadsTrace` is the contract of `read_trace`: what it may tell of a
+-- Demand 3, in one place, that no SYSCALL is written, and the overflow rule of every row written. `ReadsTrace` is the contract of `read_trace`: what it may tell of a
 -- buffer and leave in the lent depth numbers, by `Right`, which says of an answer that it is right, by document 01.
 use mathlib.Core.Path.{_≡_, ap}
 use mathlib.Core.List.{List}
@@ -22,10 +22,12 @@ use Rattle.theory_runs.specs.Calls.{Fragment, AllAccepted, finalStates, cellsOf
 use Rattle.theory_runs.specs.Happened.{cyclesOf}
 use Rattle.theory_runs.specs.Finished.{Runs, nesting, writtenByFive, writtenByFinisher, FivePass, FinisherPasses}
 use Rattle.theory_runs.specs.Overflow.{OverflowRule, DepthInRange, AllDepths32}
+use Rattle.theory_runs.specs.WithoutSyscall.{NoSyscallStarts, WithoutSyscall, NoSyscallRows}
 use Rattle.theory_runs.proofs.TraceOfRun.{finisher-trace, five-trace}
 use Rattle.theory_runs.proofs.ReadRun as runs
 use Rattle.theory_runs.proofs.OverflowTheorems.{finisher-overflow, five-overflow, finisher-depths, five-depths}
 use Rattle.theory_runs.proofs.OneNesting.{one-tree-ran}
+use Rattle.theory_runs.proofs.NoSyscalls.{none-started, none-nested, none-in-rows}
 use Rattle.theory_read_back.specs.ReadBack.{ReadAs, CountsPasses, ReadBack}
 use Rattle.theory_read_back.specs.ReplayedRuns.{Lent, fragmentsOf, AllReplayed, countsReplayed, builtReplayed, cellsReplayed, ReplayedRuns, recordsNesting, finishedReplay, ReplayFinishes, fivePassedReplay, ReplayFivePass}
 use Rattle.theory_read_back.proofs.ReadTraceCall.{learns}
@@ -152,6 +154,40 @@ module _ (p : Profile) (f : Forest) (directory : List ℕ) (q : Queues) (size : 
   -- the nesting is taken from the records alone
   pub replay-one-nesting : (run′ : ReplayedRuns p f directory q size lents here) → recordsNesting p f directory q run ≡ recordsNesting p f directory q run′
   replay-one-nesting run′ = one-tree-ran p 0 (run .proper) (run′ .proper)
+
+-- WITHOUT SYSCALL
+
+-- N8: "the theorem about traces we write covers runs without it": where no call is refused, no cycle starts a SYSCALL node. No proper run is
+-- asked for
+pub no-syscall-started : (p : Profile) (q : Queues) (fragments : List Fragment) (here : Cursor) → AllAccepted p q fragments here → NoSyscallStarts (cyclesOf q fragments (here .at))
+no-syscall-started = none-started
+
+-- so the nesting of a run has no SYSCALL Block, and "Starting such a node is no longer written": no row of what is written is a SYSCALL row
+module _ (p : Profile) (q : Queues) (size : ℕ) (fragments : List Fragment) (here : Cursor) (run : Runs p q size fragments here) where
+  pub no-syscall-nested : WithoutSyscall (nesting run)
+  no-syscall-nested = none-nested p q size fragments here run
+
+  pub no-syscall-written : (others top : List ℕ) (height : ℕ) → FinisherPasses p q size fragments here others top height → NoSyscallRows p (writtenByFinisher p q size fragments here others top height)
+  no-syscall-written others top height e = none-in-rows p _ (nesting run) (finisher-trace p q size fragments here run others top height e) no-syscall-nested
+
+  pub no-syscall-written-by-five : (others top : List ℕ) (height : ℕ) → FivePass p q size fragments here others top height → NoSyscallRows p (writtenByFive p q size fragments here others top height)
+  no-syscall-written-by-five others top height e = none-in-rows p _ (nesting run) (five-trace p q size fragments here run others top height e) no-syscall-nested
+
+-- over replay
+pub replay-no-syscall-started : (p : Profile) (f : Forest) (directory : List ℕ) (q : Queues) (lents : List Lent) (here : Cursor) → AllReplayed p f directory q lents here →
+    NoSyscallStarts (cyclesOf q (fragmentsOf f directory lents) (here .at))
+replay-no-syscall-started p f directory q lents here h = none-started p q (fragmentsOf f directory lents) here (replayed-accepted p f directory q lents here h)
+
+module _ (p : Profile) (f : Forest) (directory : List ℕ) (q : Queues) (size : ℕ) (lents : List Lent) (here : Cursor) (run : ReplayedRuns p f directory q size lents here) where
+  pub replay-no-syscall-nested : WithoutSyscall (recordsNesting p f directory q run)
+  unfolding run-of-records
+  replay-no-syscall-nested = none-nested p q size (fragmentsOf f directory lents) here (run-of-records p f directory q size lents here run)
+
+  pub replay-no-syscall-written : (others top : List ℕ) (height : ℕ) → ReplayFinishes p f directory q size lents here others top height → NoSyscallRows p (finishedReplay p f directory q size lents here others top height)
+  replay-no-syscall-written others top height e = none-in-rows p _ _ (replay-finisher-trace p f directory q size lents here run others top height e) replay-no-syscall-nested
+
+  pub replay-no-syscall-written-by-five : (others top : List ℕ) (height : ℕ) → ReplayFivePass p f directory q size lents here others top height → NoSyscallRows p (fivePassedReplay p f directory q size lents here others top height)
+  replay-no-syscall-written-by-five others top height e = none-in-rows p _ _ (replay-five-trace p f directory q size lents here run others top height e) replay-no-syscall-nested
 
 -- THE OVERFLOW RULE
 

@@ -1,1 +1,1 @@
-// Nothing but definitions (specs/) and theorems (proofs/): demand 3 in one place, and the overflow rule beside it.
+// Nothing but definitions (specs/) and theorems (proofs/): demand 3 in one place, that no SYSCALL is written and the overflow rule beside it.

@@ -1,4 +1,4 @@
--- Examples: the listing of document 01's C10 as a trace, and one of each refusal.
+-- Examples: the listing of document 01's C10 as a trace, one with a SYSCALL row, and one of each refusal.
 use mathlib.Core.Path.{_≡_, refl}
 use mathlib.Core.Bool.{Bool, true, false}
 use mathlib.Core.List.{List, [], _∷_, _++_, map}
@@ -82,6 +82,21 @@ listing-trace = accepts-traces profile (flat listing) 10 reading (omega arith) .
 pub listing-depths : (programRows reading ≡ 9) × (depthList 10 reading ≡ 1 ∷ 2 ∷ 2 ∷ 2 ∷ 1 ∷ 2 ∷ 2 ∷ 2 ∷ 1 ∷ 0 ∷ [])
 unfolding programRows depthList depthsOf depthsOfOps spell spellOps reading
 listing-depths = (refl, refl)
+
+-- "Archived traces with SYSCALL rows are still read" (N8): a SYSCALL around a block of one operation
+unfoldable pub archived : List (List ℕ)
+archived = row 104 0 0 0 0 ∷ row 86 0 1 0 1 ∷ row 5 1 3 0 0 ∷ row 112 0 3 0 0 ∷ row 112 0 1 0 0 ∷ row 124 0 0 0 0 ∷ []
+
+unfoldable pub archivedReading : Block
+archivedReading = Block.one syscall 0 (Block.span 1 (Ops.op 2 5 (Ops.ended 3))) 4
+
+archived-read : readRows archived ≡ accepted archivedReading
+unfolding answer unlessBadInput answerOfWord answerOfCells firstWrong isMet asks asksOf passesIn endRowOf rowAsked readWord wordAnswer afterBlock afterHalt ifHalt parse step give close opsWith passesWith opening enter atRepeat numbered allRows tokensOf tokenOf allBits controlToken opToken isOpOpcode controlOpcodes controls tokenBeside readerRefusal flat rowsOf firstOf anyFrom cellAt reduced profileWrong opcodes twoEqual isOneOf lacksBits bufferWrong opcodeOf lowBits archived row archivedReading
+archived-read = refl
+
+pub archived-trace : Trace profile (flat archived) archivedReading
+unfolding flat archived row
+archived-trace = accepts-traces profile (flat archived) 6 archivedReading (omega arith) .0 archived-read
 
 -- the listing with another row
 abbrev pub but : (n : ℕ) → List ℕ → List (List ℕ)

@@ -181,7 +181,7 @@ module _ (f : Forest) (q : Queues) (p : Profile) (registers : OperationHelperReg
   below-kind (MastNode.Split a b) here m t s e = below-two (p .split) a b here m s e
   below-kind (MastNode.Loop a) here m t s e = below-one (p .«loop_op») a here m s e
   below-kind (MastNode.Call a) here m t s e = below-one (p .call) a here m s e
-  below-kind (MastNode.Syscall a) here m t s e = below-one (p .syscall) a here m s e
+  below-kind (MastNode.Syscall a) here m t s e = never 31 m e
   below-kind MastNode.Dyn here m t s e = below-dyn (p .«dyn_op») here m s e
   below-kind MastNode.Dyncall here m t s e = below-dyncall (p .dyncall) here m s e
   below-kind MastNode.External here m t s e = never 4 m e

@@ -147,7 +147,7 @@ kind-moves nodes digests batches groups p (MastNode.Split a b) captured s here e
     next-gives (RowMoved s) (digestAt nodes digests (a .0)) _ (λ x. next-gives (RowMoved s) (digestAt nodes digests (b .0)) _ (λ y. e))
 kind-moves nodes digests batches groups p (MastNode.Loop a) captured s here e = next-gives (RowMoved s) (digestAt nodes digests (a .0)) _ (λ x. e)
 kind-moves nodes digests batches groups p (MastNode.Call a) captured s here e = next-gives (RowMoved s) (digestAt nodes digests (a .0)) _ (λ x. e)
-kind-moves nodes digests batches groups p (MastNode.Syscall a) captured s here e = next-gives (RowMoved s) (digestAt nodes digests (a .0)) _ (λ x. e)
+kind-moves nodes digests batches groups p (MastNode.Syscall a) captured s here e = tt
 kind-moves nodes digests batches groups p MastNode.Dyn captured s here e = next-gives (RowMoved s) (calleeOf (captured .«dyn_callee_hash»)) _ (λ x. e)
 kind-moves nodes digests batches groups p MastNode.Dyncall captured s here e =
     next-gives (RowMoved s) (calleeOf (captured .«dyn_callee_hash»)) _ (λ x. next-gives (RowMoved s) (infoOf (captured .«ctx_info»)) _ (λ y. e))

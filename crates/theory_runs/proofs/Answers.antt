@@ -209,7 +209,7 @@ module _ (f : Forest) (q : Queues) (p : Profile) (registers : OperationHelperReg
       then-numbered (digestAt (f .nodes) (f .digests) (b .0)) _ (digest-numbered _ _ (b .0)) (λ y. tt))
   kinds-numbered (MastNode.Loop a) here = then-numbered (digestAt (f .nodes) (f .digests) (a .0)) _ (digest-numbered _ _ (a .0)) (λ x. tt)
   kinds-numbered (MastNode.Call a) here = then-numbered (digestAt (f .nodes) (f .digests) (a .0)) _ (digest-numbered _ _ (a .0)) (λ x. tt)
-  kinds-numbered (MastNode.Syscall a) here = then-numbered (digestAt (f .nodes) (f .digests) (a .0)) _ (digest-numbered _ _ (a .0)) (λ x. tt)
+  kinds-numbered (MastNode.Syscall a) here = tt
   kinds-numbered MastNode.Dyn here = then-numbered (calleeOf (captured .«dyn_callee_hash»)) _ (callee-numbered (captured .«dyn_callee_hash»)) (λ x. tt)
   kinds-numbered MastNode.Dyncall here =
       then-numbered (calleeOf (captured .«dyn_callee_hash»)) _ (callee-numbered (captured .«dyn_callee_hash»)) (λ x.

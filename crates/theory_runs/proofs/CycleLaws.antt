@@ -50,14 +50,26 @@ NoCount Kind.join row = Unit {0}
 NoCount Kind.loop row = row .«group_count» ≡ 0
 NoCount (Kind.one kind) row = Unit {0}
 
+-- every kind but SYSCALL, whose start is refused (N8)
+unfoldable pub NotSyscall : Kind → Type 0
+NotSyscall Kind.span = Unit {0}
+NotSyscall Kind.join = Unit {0}
+NotSyscall Kind.loop = Unit {0}
+NotSyscall (Kind.one OneChild.split) = Unit {0}
+NotSyscall (Kind.one OneChild.call) = Unit {0}
+NotSyscall (Kind.one OneChild.syscall) = ⊥
+NotSyscall (Kind.one OneChild.dyn) = Unit {0}
+NotSyscall (Kind.one OneChild.dyncall) = Unit {0}
+
 -- the decoder part of a row: its address, opcode and in_span, and of an END its flag
 pub record Part (row : DecoderRow) (addr opcode inside : ℕ) : Type 0 where
   pub addr-is : row .addr ≡ addr
   pub opcode-is : row .opcode ≡ opcode
   pub inside-is : row .«in_basic_block» ≡ inside
 
+-- the row of what a cycle did
 unfoldable pub RowBy : Profile → Did → DecoderState → DecoderRow → Type 0
-RowBy p (Did.started kind id b a) state row = Part row a (opcodeOfKind p kind) 0 × NoCount kind row
+RowBy p (Did.started kind id b a) state row = Part row a (opcodeOfKind p kind) 0 × NoCount kind row × NotSyscall kind
 RowBy p (Did.operated id i j opcode) state row = Part row (state .«current_addr») opcode 1
 RowBy p (Did.respanned id i) state row = Part row (state .«current_addr») (p .respan) 0
 RowBy p (Did.repeated id) state row = Part row (state .«current_addr») (p .repeat) 0
@@ -87,46 +99,46 @@ module _ (f : Forest) (q : Queues) (p : Profile) (registers : OperationHelperReg
 
     -- a start row of a control kind
     control-law : (opcode : ℕ) (kind : Kind) (first second : Word) (used : Used) → opcode ≡ opcodeOfKind p kind → used ≡ usedBy (Did.started kind id b a) →
-        ((row : DecoderRow) → row .«group_count» ≡ 0 → NoCount kind row) → madeRow (controlFlow opcode first second a) here used ≡ accepted m → Law p (Did.started kind id b a) before at m
+        ((row : DecoderRow) → row .«group_count» ≡ 0 → NoCount kind row) → NotSyscall kind → madeRow (controlFlow opcode first second a) here used ≡ accepted m → Law p (Did.started kind id b a) before at m
     unfolding stateAfter positionsAfter RowBy controlFlow
-    control-law opcode kind first second used o u n e =
+    control-law opcode kind first second used o u n k e =
         law-of p (Did.started kind id b a) before at m (controlFlow opcode first second a) here used e u refl refl
-        (rw (← o) (same (controlFlow opcode first second a)), n (controlFlow opcode first second a) refl)
+        (rw (← o) (same (controlFlow opcode first second a)), n (controlFlow opcode first second a) refl, k)
 
     two-law : (opcode : ℕ) (kind : Kind) (x y : MastNodeId) → opcode ≡ opcodeOfKind p kind → Used.Nothing ≡ usedBy (Did.started kind id b a) →
-        ((row : DecoderRow) → row .«group_count» ≡ 0 → NoCount kind row) → startTwo (f .nodes) (f .digests) opcode x y here ≡ accepted m → Law p (Did.started kind id b a) before at m
+        ((row : DecoderRow) → row .«group_count» ≡ 0 → NoCount kind row) → NotSyscall kind → startTwo (f .nodes) (f .digests) opcode x y here ≡ accepted m → Law p (Did.started kind id b a) before at m
     unfolding startTwo
-    two-law opcode kind x y o u n e =
+    two-law opcode kind x y o u n k e =
         let (v, e1, e2) = then-accepted (digestAt (f .nodes) (f .digests) (x .0)) _ m e in
         let (w, e3, e4) = then-accepted (digestAt (f .nodes) (f .digests) (y .0)) _ m e2 in
-        control-law opcode kind v w Used.Nothing o u n e4
+        control-law opcode kind v w Used.Nothing o u n k e4
 
     one-law : (opcode : ℕ) (kind : Kind) (x : MastNodeId) → opcode ≡ opcodeOfKind p kind → Used.Nothing ≡ usedBy (Did.started kind id b a) →
-        ((row : DecoderRow) → row .«group_count» ≡ 0 → NoCount kind row) → startOne (f .nodes) (f .digests) opcode x here ≡ accepted m → Law p (Did.started kind id b a) before at m
+        ((row : DecoderRow) → row .«group_count» ≡ 0 → NoCount kind row) → NotSyscall kind → startOne (f .nodes) (f .digests) opcode x here ≡ accepted m → Law p (Did.started kind id b a) before at m
     unfolding startOne
-    one-law opcode kind x o u n e =
+    one-law opcode kind x o u n k e =
         let (v, e1, e2) = then-accepted (digestAt (f .nodes) (f .digests) (x .0)) _ m e in
-        control-law opcode kind v zeroWord Used.Nothing o u n e2
+        control-law opcode kind v zeroWord Used.Nothing o u n k e2
 
     start-law : (node : MastNode) → startKind (f .nodes) (f .digests) (f .batches) (f .groups) p node captured here ≡ accepted m → Law p (startOf node id b a) before at m
-    unfolding startKind startOf startBlock startDyn startDyncall opcodeOfKind usedBy NoCount basicBlockBatch RowBy stateAfter positionsAfter
+    unfolding startKind startOf startBlock startDyn startDyncall opcodeOfKind usedBy NoCount NotSyscall basicBlockBatch RowBy stateAfter positionsAfter
     start-law (MastNode.Block block) e =
         let (batch, e1, e2) = then-accepted (batchAt (f .batches) (f .groups) block 0) _ m e in
         let (flags, e3, e4) = then-accepted (batchFlags (block .total)) _ m e2 in
         law-of p (Did.started Kind.span id b a) before at m (basicBlockBatch (p .span) batch a (block .total) flags) here Used.Nothing e4 refl refl refl
-        (same (basicBlockBatch (p .span) batch a (block .total) flags), tt)
-    start-law (MastNode.Join x y) e = two-law (p .join) Kind.join x y refl refl (λ row z. tt) e
-    start-law (MastNode.Split x y) e = two-law (p .split) (Kind.one OneChild.split) x y refl refl (λ row z. tt) e
-    start-law (MastNode.Loop x) e = one-law (p .«loop_op») Kind.loop x refl refl (λ row z. z) e
-    start-law (MastNode.Call x) e = one-law (p .call) (Kind.one OneChild.call) x refl refl (λ row z. tt) e
-    start-law (MastNode.Syscall x) e = one-law (p .syscall) (Kind.one OneChild.syscall) x refl refl (λ row z. tt) e
+        (same (basicBlockBatch (p .span) batch a (block .total) flags), tt, tt)
+    start-law (MastNode.Join x y) e = two-law (p .join) Kind.join x y refl refl (λ row z. tt) tt e
+    start-law (MastNode.Split x y) e = two-law (p .split) (Kind.one OneChild.split) x y refl refl (λ row z. tt) tt e
+    start-law (MastNode.Loop x) e = one-law (p .«loop_op») Kind.loop x refl refl (λ row z. z) tt e
+    start-law (MastNode.Call x) e = one-law (p .call) (Kind.one OneChild.call) x refl refl (λ row z. tt) tt e
+    start-law (MastNode.Syscall x) e = let z : _≡_ {A = ℕ} 0 1 = cc in absurd (omega arith)
     start-law MastNode.Dyn e =
         let (word, e1, e2) = then-accepted (calleeOf (captured .«dyn_callee_hash»)) _ m e in
-        control-law (p .«dyn_op») (Kind.one OneChild.dyn) word zeroWord Used.Callee refl refl (λ row z. tt) e2
+        control-law (p .«dyn_op») (Kind.one OneChild.dyn) word zeroWord Used.Callee refl refl (λ row z. tt) tt e2
     start-law MastNode.Dyncall e =
         let (word, e1, e2) = then-accepted (calleeOf (captured .«dyn_callee_hash»)) _ m e in
         let (info, e3, e4) = then-accepted (infoOf (captured .«ctx_info»)) _ m e2 in
-        control-law (p .dyncall) (Kind.one OneChild.dyncall) word (info .«stack_depth», info .«next_overflow_addr», 0, 0) Used.CalleeAndInfo refl refl (λ row z. tt) e4
+        control-law (p .dyncall) (Kind.one OneChild.dyncall) word (info .«stack_depth», info .«next_overflow_addr», 0, 0) Used.CalleeAndInfo refl refl (λ row z. tt) tt e4
     start-law MastNode.External e = let z : _≡_ {A = ℕ} 0 1 = cc in absurd (omega arith)
 
   -- an END row's fifth h cell is its flag

@@ -1,5 +1,5 @@
--- A run with every kind of node, a RESPAN and a DYN into another forest, in fragments of 5: the premises can be met, and its rows, reading
--- and counts computed over the definitions.
+-- A run with every kind of node that is started, a RESPAN and a DYN into another forest, in fragments of 5: the premises can be met, and its
+-- rows, reading and counts computed over the definitions.
 use mathlib.Core.Path.{_≡_, refl}
 use mathlib.Core.Logic.{inl}
 use mathlib.Core.Bool.{Bool, true, false}
@@ -46,7 +46,7 @@ use Rattle.theory_runs.specs.Overflow.{b0Cell, helperCell}
 use Rattle.theory_runs.specs.Finished.{Runs, nesting, finisherBuffer, writtenByFinisher, FinisherPasses}
 use Rattle.theory_runs.proofs.TraceOfRun.{finisher-trace}
 
--- 0 Join of 1 and 2; 1 Split of 3 and 7; 2 Loop of 5; 3 Call of 4; 4 a block of two batches; 5 Syscall of 6; 6 Dyn; 7 a digest alone
+-- 0 Join of 1 and 2; 1 Split of 3 and 7; 2 Loop of 5; 3 Call of 4; 4 a block of two batches; 5 Call of 6; 6 Dyn; 7 a digest alone
 unfoldable forestA : Forest
 forestA = record {
   nodes =
@@ -55,7 +55,7 @@ forestA = record {
       ∷ 5 ∷ 5 ∷ 0 ∷ 0 ∷ 0 ∷ 0
       ∷ 6 ∷ 4 ∷ 0 ∷ 0 ∷ 0 ∷ 0
       ∷ 2 ∷ 0 ∷ 0 ∷ 9 ∷ 0 ∷ 2
-      ∷ 7 ∷ 6 ∷ 0 ∷ 0 ∷ 0 ∷ 0
+      ∷ 6 ∷ 6 ∷ 0 ∷ 0 ∷ 0 ∷ 0
       ∷ 8 ∷ 0 ∷ 0 ∷ 0 ∷ 0 ∷ 0
       ∷ 1 ∷ 0 ∷ 0 ∷ 0 ∷ 0 ∷ 0
       ∷ [];
@@ -195,10 +195,10 @@ run =
     (Run.block {block = slotBlock (forestA .nodes) 4} (_, refl) (InBlock.operation 5 (_, refl, refl) refl (InBlock.respan {index = 0} (_, refl, refl) (omega arith) (InBlock.operation 6 (_, refl, refl) refl (InBlock.ended (_, refl, refl) refl)))))))
     (Run.loop (_, refl)
     (RunPasses.again
-    (Run.one OneChild.syscall (nodeId 6, (_, refl), refl, refl) (Run.one {child = forestB} {m = 0} OneChild.dyn (_, refl) (Run.one {child = forestB} {m = 1} OneChild.dyncall (_, refl)
+    (Run.one OneChild.call (nodeId 6, (_, refl), refl, refl) (Run.one {child = forestB} {m = 0} OneChild.dyn (_, refl) (Run.one {child = forestB} {m = 1} OneChild.dyncall (_, refl)
     (Run.block (_, refl) (InBlock.operation 91 (_, refl, refl) refl (InBlock.ended (_, refl, refl) refl))))))
     (RunPasses.ended
-    (Run.one OneChild.syscall (nodeId 6, (_, refl), refl, refl) (Run.one {child = forestB} {m = 0} OneChild.dyn (_, refl) (Run.one {child = forestB} {m = 1} OneChild.dyncall (_, refl)
+    (Run.one OneChild.call (nodeId 6, (_, refl), refl, refl) (Run.one {child = forestB} {m = 0} OneChild.dyn (_, refl) (Run.one {child = forestB} {m = 1} OneChild.dyncall (_, refl)
     (Run.block (_, refl) (InBlock.operation 91 (_, refl, refl) refl (InBlock.ended (_, refl, refl) refl)))))))))
 
 runs : Runs profile queued 5 fragments begin
@@ -220,9 +220,9 @@ runs = record {
 tree : nesting runs ≡ Block.join 0
     (Block.one OneChild.split 1 (Block.one OneChild.call 2 (Block.span 3 (Ops.op 4 5 (Ops.respan 5 (Ops.op 6 6 (Ops.ended 7))))) 8) 9)
     (Block.loop 10 (Passes.repeated
-    (Block.one OneChild.syscall 11 (Block.one OneChild.dyn 12 (Block.one OneChild.dyncall 13 (Block.span 14 (Ops.op 15 91 (Ops.ended 16))) 17) 18) 19) 20
+    (Block.one OneChild.call 11 (Block.one OneChild.dyn 12 (Block.one OneChild.dyncall 13 (Block.span 14 (Ops.op 15 91 (Ops.ended 16))) 17) 18) 19) 20
     (Passes.ended
-    (Block.one OneChild.syscall 21 (Block.one OneChild.dyn 22 (Block.one OneChild.dyncall 23 (Block.span 24 (Ops.op 25 91 (Ops.ended 26))) 27) 28) 29) 30)))
+    (Block.one OneChild.call 21 (Block.one OneChild.dyn 22 (Block.one OneChild.dyncall 23 (Block.span 24 (Ops.op 25 91 (Ops.ended 26))) 27) 28) 29) 30)))
     31
 unfolding runs run treeFrom opsFrom
 tree = refl
@@ -251,8 +251,8 @@ written = allRows (writtenByFinisher profile queued 5 fragments begin [] (replic
 -- depth and helper are 16 and 0 in row 0, then 18 and the inverse of 2, in the HALT rows as in the others (N4)
 listing : _≡_ {A = List (ℕ × ℕ × ℕ) × List (ℕ × ℕ)} (fields written, stacks written) (
   (87, 0, 0) ∷ (84, 1, 0) ∷ (108, 3, 0) ∷ (86, 5, 9) ∷ (5, 7, 8) ∷ (120, 7, 1) ∷ (6, 9, 0) ∷ (112, 9, 0) ∷ (112, 5, 0) ∷ (112, 3, 0)
-      ∷ (85, 1, 2) ∷ (104, 11, 0) ∷ (88, 13, 0) ∷ (92, 15, 0) ∷ (86, 17, 2) ∷ (91, 19, 1) ∷ (112, 19, 0) ∷ (112, 17, 0) ∷ (112, 15, 0) ∷ (112, 13, 0)
-      ∷ (116, 11, 0) ∷ (104, 11, 0) ∷ (88, 21, 0) ∷ (92, 23, 0) ∷ (86, 25, 2) ∷ (91, 27, 1) ∷ (112, 27, 0) ∷ (112, 25, 0) ∷ (112, 23, 0) ∷ (112, 21, 0)
+      ∷ (85, 1, 2) ∷ (108, 11, 0) ∷ (88, 13, 0) ∷ (92, 15, 0) ∷ (86, 17, 2) ∷ (91, 19, 1) ∷ (112, 19, 0) ∷ (112, 17, 0) ∷ (112, 15, 0) ∷ (112, 13, 0)
+      ∷ (116, 11, 0) ∷ (108, 11, 0) ∷ (88, 21, 0) ∷ (92, 23, 0) ∷ (86, 25, 2) ∷ (91, 27, 1) ∷ (112, 27, 0) ∷ (112, 25, 0) ∷ (112, 23, 0) ∷ (112, 21, 0)
       ∷ (112, 11, 0) ∷ (112, 1, 0) ∷ (124, 0, 0) ∷ (124, 0, 0) ∷ [],
   (16, 0) ∷ replicate 33 (18, 9223372034707292161),
 )

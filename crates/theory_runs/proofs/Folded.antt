@@ -316,7 +316,7 @@ module _ (p : Profile) (q : Queues) where
             ∙ sym (append-assoc (flat rows) (flat more) rest) ∙ ap (λ x. x ++ rest) (sym (flat-app rows more)),
       )
 
-  force-at : (here : Cursor) (fragment : Fragment) → Accepted p q (fragment .calls) (opened p q here fragment) → closed p q here fragment .tracer .at ≡ inForceAfterAll q (fragment .calls) (nothingStored (here .at)) .at
+  pub force-at : (here : Cursor) (fragment : Fragment) → Accepted p q (fragment .calls) (opened p q here fragment) → closed p q here fragment .tracer .at ≡ inForceAfterAll q (fragment .calls) (nothingStored (here .at)) .at
   unfolding inForce fresh nothingStored
   force-at here fragment a = ap (λ (v : InForce). v .at) (force-all (fragment .calls) (opened p q here fragment) a)
 

@@ -97,7 +97,7 @@ module _ (f : Forest) (q : Queues) (p : Profile) (registers : OperationHelperReg
   start-none (MastNode.Split x y) here = two-none (p .split) x y here
   start-none (MastNode.Loop x) here = one-none (p .«loop_op») x here
   start-none (MastNode.Call x) here = one-none (p .call) x here
-  start-none (MastNode.Syscall x) here = one-none (p .syscall) x here
+  start-none (MastNode.Syscall x) here = refl
   start-none MastNode.Dyn here = then-none (calleeOf (captured .«dyn_callee_hash»)) _ (λ word. refl)
   start-none MastNode.Dyncall here = then-none (calleeOf (captured .«dyn_callee_hash»)) _ (λ word. then-none (infoOf (captured .«ctx_info»)) _ (λ info. refl))
   start-none MastNode.External here = refl

@@ -22,6 +22,7 @@ pub mod InOne
 pub mod OverflowRows
 pub mod OverflowTheorems
 pub mod ReadRun
+pub mod NoSyscalls
 pub mod ExampleEqualAddresses
 pub mod BodiesEnd
 pub mod ExactRuns

@@ -6,3 +6,4 @@ pub mod SameCalls
 pub mod Finished
 pub mod Overflow
 pub mod Following
+pub mod WithoutSyscall

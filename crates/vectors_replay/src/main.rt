@@ -1,6 +1,6 @@
 // Replays runs whose answers were made by the listed Rust (but for the helper of HALT rows from depth 18 up), in the lists cells_01 to
-// cells_04 with p added to some of the cells that come in, records that are refused, and records from other address states, one file of data/
-// a list, and writes how many came out right.
+// cells_04 with p added to some of the cells that come in, records that are refused, records over a forest with a SYSCALL node, and records
+// from other address states, one file of data/ a list, and writes how many came out right.
 mod given;
 mod list;
 mod parts;
@@ -48,5 +48,6 @@ fn main() {
     runs(b"cells_03");
     runs(b"cells_04");
     refused_records(b"refused");
+    refused_records(b"syscall");
     address_states(b"states");
 }

@@ -1,7 +1,7 @@
 // A list of refused records: how many cases it has, profile (14), address state (2); nodes, digests, batches, groups, opcodes, directory,
-// addresses, parents, ends and the records of a run that is accepted, each with its length before it (parts 0 to 9); for each case the number
-// it is refused by, 0 where it is accepted, how many numbers it changes, and for each its place, 0 for the records' length and then one for
-// each of their numbers, and what stands there instead.
+// addresses, parents, ends and the records of a run, each with its length before it (parts 0 to 9); for each case the number that it is
+// refused by, 0 where it is accepted, how many numbers it changes, and for each its place, 0 for the records' length and then one for each
+// of their numbers, and what stands there instead.
 use crate::given::before_first;
 use crate::list::left_right;
 use crate::list::replay_at;

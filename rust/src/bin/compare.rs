@@ -1,6 +1,9 @@
 //! `compare [SEED [RUNS]]`: random runs by the listed Rust and by the proved library, which in every second of them is given some cells with
 //! p added, and the finished traces read by the proved library and by the checker, as they are and changed. Writes what was compared and left
 //! out, the differences, and how often which side refused. Exits with 1 where there is a difference.
+//!
+//! Programs with SYSCALL are outside what is compared: a run ends where a SYSCALL node is started. The reader meets SYSCALL rows in traces
+//! from the grammar, and in finished traces whose CALL rows are made SYSCALL rows.
 
 #[cfg(not(all(listed, archive)))]
 fn main() {
@@ -11,7 +14,7 @@ fn main() {
 fn main() {
     use core_trace::compare::{Tally, compare_run};
     use core_trace::random::{Rng, any_calls, changed_run, proper_run, with_depths};
-    use core_trace::reading;
+    use core_trace::reading::{self, archived};
     use core_trace::words::word;
 
     let numbers: Vec<u64> = std::env::args().skip(1).map(|word| word.parse().expect("a number")).collect();
@@ -32,7 +35,8 @@ fn main() {
             let limit = rng.pick(&[20, 100, 400, 1500]);
             let run = with_depths(&rng, kind(&rng, limit));
             if let Some(trace) = compare_run(&run, &rng, &mut tally) {
-                reads.all(&reader_rng, trace, run.nesting.as_deref());
+                let cells = if reader_rng.one_in(4) { archived(trace.cells) } else { trace.cells };
+                reads.all(&reader_rng, cells, run.nesting.as_deref().filter(|_| !trace.is_cut));
             }
         }
         println!("{name}: {tally}");
@@ -45,6 +49,7 @@ fn main() {
         reads.all(&reader_rng, written.cells, Some(&written.depths[..written.program_rows]));
     }
     println!("traces as written: {}; of {} the nesting is known", reads.whole, reads.nested);
+    println!("traces as written with SYSCALL rows: {}", reads.syscalls);
     println!("p added to cells: {}", reads.raised);
     println!("one cell of an accepted trace changed: {}", reads.damaged);
     println!("one cell of a refused trace changed: {}", reads.refused);

@@ -10,7 +10,9 @@
 //! In the files `runs_..` all cells are below p. In the files `cells_..` p is added to some of those that come in, the first address state
 //! included; the answers are what the listed Rust makes of the reduced ones, and are expected as they stand.
 //!
-//! One cell is not the listed Rust's: the helper of HALT rows from depth 18 up is the documentation's, the inverse of depth − 16.
+//! One cell is not the listed Rust's: the helper of HALT rows from depth 18 up is the documentation's, the inverse of depth − 16. A run that
+//! starts a SYSCALL node, which is refused here, is written with CALL nodes in place of its SYSCALL nodes; it is chosen by what it shows with
+//! these, so that the files have the runs that they had.
 
 #[cfg(not(listed))]
 fn main() {
@@ -41,7 +43,7 @@ mod answers {
     use core_trace::listing;
     use core_trace::overflow::{invert_deep_halts, overflow_rule};
     use core_trace::profile::EXAMPLE;
-    use core_trace::random::{Rng, Run, any_calls, changed_run, proper_run, raised_run};
+    use core_trace::random::{Rng, Run, any_calls, changed_run, first_syscall, proper_run, raised_run, with_calls};
 
     /// What the program has room for: a run's cycles, slots, batch records and opcodes, a file's numbers and bytes.
     const CYCLES: usize = 24;
@@ -124,6 +126,10 @@ mod answers {
         let mut shows = shown(run, &cells);
         if is_kept {
             shows.insert(KEPT.into());
+        }
+        if run.fragments.iter().any(|calls| first_syscall(calls, &run.forests).is_some()) {
+            let (called, _) = answered(&with_calls(run.clone()), &with_calls(given.clone()), padding)?;
+            return Some((called, shows));
         }
         Some((out, shows))
     }

@@ -4,7 +4,7 @@ use mathlib.Core.Bool.{Bool, true, false}
 use mathlib.Core.List.{List}
 use Prim.Native.Nat.{ℕ}
 use Rattle.groups.specs.Answer.{Answer, accepted, refused, andThen, pick}
-use Rattle.groups.specs.Constants.{wrongNodeKind, storedAbsent}
+use Rattle.groups.specs.Constants.{wrongNodeKind, storedAbsent, syscallStart}
 use Rattle.groups.specs.Batches.{batchAt}
 use Rattle.groups.specs.Flags.{batchFlags}
 use Rattle.groups.specs.Contexts.{contextAtOp, contextAtBatchStart}
@@ -74,7 +74,7 @@ startTwo nodes digests opcode first second here =
     andThen (digestAt nodes digests (second .0)) (λ b.
     madeRow (controlFlow opcode a b (here .state .«parent_addr»)) here Used.Nothing))
 
--- Loop, Call: 3 for the child; "LOOP, CALL, SYSCALL one"
+-- Loop, Call: 3 for the child; "LOOP, CALL, SYSCALL one" (SYSCALL rows are only read since N8)
 unfoldable pub startOne : (nodes digests : List ℕ) → (opcode : ℕ) → (child : MastNodeId) → Cursor → Answer MadeRow
 startOne nodes digests opcode child here =
     andThen (digestAt nodes digests (child .0)) (λ a.
@@ -109,14 +109,14 @@ startDyncall opcode callee info here =
     here
     Used.CalleeAndInfo))
 
--- "4 (`External`), then by kind"
+-- "4 (`External`), then by kind"; "It refuses with 31 at StartNode of a SYSCALL node, after check 4 and before the child's digest" (N8)
 unfoldable pub startKind : (nodes digests batches groups : List ℕ) → Profile → MastNode → Captured → Cursor → Answer MadeRow
 startKind nodes digests batches groups p (MastNode.Block block) captured here = startBlock batches groups (p .span) block here
 startKind nodes digests batches groups p (MastNode.Join a b) captured here = startTwo nodes digests (p .join) a b here
 startKind nodes digests batches groups p (MastNode.Split a b) captured here = startTwo nodes digests (p .split) a b here
 startKind nodes digests batches groups p (MastNode.Loop a) captured here = startOne nodes digests (p .«loop_op») a here
 startKind nodes digests batches groups p (MastNode.Call a) captured here = startOne nodes digests (p .call) a here
-startKind nodes digests batches groups p (MastNode.Syscall a) captured here = startOne nodes digests (p .syscall) a here
+startKind nodes digests batches groups p (MastNode.Syscall a) captured here = refused syscallStart
 startKind nodes digests batches groups p MastNode.Dyn captured here = startDyn (p .«dyn_op») (captured .«dyn_callee_hash») here
 startKind nodes digests batches groups p MastNode.Dyncall captured here =
     startDyncall (p .dyncall) (captured .«dyn_callee_hash») (captured .«ctx_info») here

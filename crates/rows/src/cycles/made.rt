@@ -198,7 +198,7 @@ fn start_two(
     })
 }
 
-// LOOP, CALL and SYSCALL: 3 for the child.
+// LOOP and CALL: 3 for the child.
 fn start_one(
     nodes: &[u32],
     digests: &[u64],
@@ -273,7 +273,7 @@ fn start_dyncall(
     })
 }
 
-// The start row of a node, by its kind; 4 for an external node.
+// The start row of a node, by its kind; 4 for an external node, 31 for a SYSCALL node.
 fn start_kind(
     nodes: &[u32],
     digests: &[u64],
@@ -296,7 +296,7 @@ fn start_kind(
         MastNode::Split(a, b) => start_two(nodes, digests, profile.split, a, b, state, at),
         MastNode::Loop(a) => start_one(nodes, digests, profile.loop_op, a, state, at),
         MastNode::Call(a) => start_one(nodes, digests, profile.call, a, state, at),
-        MastNode::Syscall(a) => start_one(nodes, digests, profile.syscall, a, state, at),
+        MastNode::Syscall(_) => Made::Refused(Refusal::SYSCALL_START),
         MastNode::Dyn => start_dyn(profile.dyn_op, callee, state, at),
         MastNode::Dyncall => start_dyncall(profile.dyncall, callee, info, state, at),
         MastNode::External => Made::Refused(Refusal::WRONG_NODE_KIND),
