@@ -138,7 +138,7 @@ BLOCK, LOOP, STEP = 0, 1, 2
 # The place of the loop's kind and child among the numbers of the nodes, behind their length, and the kind of a SYSCALL node.
 LOOP_KIND, LOOP_CHILD, SYSCALL = 1 + 6 * LOOP, 2 + 6 * LOOP, 7
 
-# The same where the loop is a SYSCALL node, whose start (31) is the first record.
+# The same where the loop is a SYSCALL node, whose start is the first cycle (31).
 SYSCALL_CASES = [
     ("as they are", {}, 31),
     ("its storing alone", lent(32), 0),

@@ -486,7 +486,7 @@ class List:
 
 
 def accepted_rows():
-    """A row of every kind, as the first row of a fragment and as a later one."""
+    """A row of every kind that is written, as the first row of a fragment and as a later one."""
     rows = List("rows")
     where = [("first", FIRST), ("later", {}), ("last", LAST)]
     starts = [("SPAN", BLOCK, {}), ("SPAN of one group", ONE_GROUP, {}), ("SPAN of two groups", TWO_GROUPS, {}),
@@ -956,7 +956,7 @@ def own_refusals():
 def refusing():
     """Changes that are refused, in the order of the checks of a finish, and those of the continuations, each with its number."""
     big, profile, lengths, depth = {at("ops", 39): 128}, {at("profile", 13): 0}, lent("fragment", 195), {at("stack", 16): 15}
-    stages = [(31, tracer(0, 31)), (23, store("nothing")), (1, big), (2, profile), (11, lengths), (10, depth)]
+    stages = [(77, tracer(0, 77)), (23, store("nothing")), (1, big), (2, profile), (11, lengths), (10, depth)]
     own = [(20, tracer(18, 4)), (21, tracer(19, 4)), (3, store("StartNode", ABSENT)), (4, store("StartNode", EXTERNAL)), (31, store("StartNode", SYSCALL)),
            (5, store("StartNode", NO_BATCH)), (7, node_at(BLOCK, 3, 3)), (23, store("StartNode", DYN)), (22, {**store("FinishJoin", JOIN), **lent("ends", 2)}),
            (23, store("FinishLoop", LOOP)), (3, {**store("FinishLoop", ABSENT), **ONE}), (4, {**store("FinishLoop", JOIN), **ONE}),
@@ -986,7 +986,7 @@ def orders():
     for (words, number, a) in (("address", 20, tracer(18, 4)), ("parent", 21, tracer(19, 4))):
         for node in (ABSENT, EXTERNAL, SYSCALL, NO_BATCH, DYN):
             out.add(words + " and node", a, store("StartNode", node), number=number)
-    out.add("kept and SYSCALL", store("StartNode", SYSCALL), tracer(0, 77), number=77)
+    out.add("kept number of a SYSCALL start", tracer(0, 31), number=31)
     out.add("node and SYSCALL", store("StartNode", SYSCALL), lent("nodes", 6 * SYSCALL), number=3)
     out.add("node without its digest and SYSCALL", store("StartNode", SYSCALL), lent("digests", 4 * SYSCALL), number=3)
     out.add("SYSCALL and child", store("StartNode", SYSCALL), node_at(SYSCALL, 1, ABSENT), FULL, number=31)

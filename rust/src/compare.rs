@@ -163,8 +163,8 @@ impl Tally {
     fn refused(&mut self, ours: u32, listed: &str) {
         *self.refusals.entry((ours, listed.into())).or_default() += 1;
     }
-    /// The first call that a side refuses, by which number the library and how the listed Rust: 31 for each start of a SYSCALL node that
-    /// nothing before it refuses, there too, and for nothing else. `row` is what the listed Rust writes of the call, where it does.
+    /// Holds the first refused call to N8: a start of a SYSCALL node that no earlier check refuses, on either side, gets 31, and no other
+    /// call does. `row` is what the listed Rust writes of the call, where it does.
     fn hold_to_31(&mut self, is_syscall: bool, number: u32, listed: &str, row: Option<[u64; WIDTH]>) {
         match (is_syscall, number) {
             (true, SYSCALL_START) if BEHIND_SYSCALL.contains(&listed) => {

@@ -1,5 +1,5 @@
--- Demand 3, in one place, that no SYSCALL is written, and the overflow rule of every row written. `ReadsTrace` is the contract of `read_trace`: what it may tell of a
--- buffer and leave in the lent depth numbers, by `Right`, which says of an answer that it is right, by document 01.
+-- Demand 3 in one place, and beside it that no SYSCALL is written and the overflow rule of every row written. `ReadsTrace` is the contract of
+-- `read_trace`: what it may tell of a buffer and leave in the lent depth numbers, by `Right`, which says of an answer that it is right, by document 01.
 use mathlib.Core.Path.{_≡_, ap}
 use mathlib.Core.List.{List}
 use mathlib.Core.Logic.{_↔_}

@@ -1,5 +1,6 @@
 -- "Inputs that were answered get the same cells as before." (N2) Cycles and replay: where the cells that it is handed are below p, each definition
--- that N2 changed is the one from before, clause by clause. What it cites is meant as it stands now, since what N2 changed there has a theorem of its own.
+-- that N2 changed is the one from before, clause by clause. What it cites is meant as it stands now, since what N2 changed there has a theorem of its own;
+-- `made` is N8's, which refuses the start of a SYSCALL node.
 -- A finish that was answered had such cells (`answered-cycle`), so it is answered the same (`answered-the-same`). What a fresh tracer and a storing are
 -- given was tested by the finish that follows, where one did.
 use mathlib.Core.Path.{_≡_, _∙_, refl, ap}

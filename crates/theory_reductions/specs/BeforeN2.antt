@@ -1,7 +1,7 @@
 -- What refusal 1 looked at before N2: document 01's "1 input cell ≥ p, used or not, .. stored values .. whole queues and forest included". These
 -- definitions are gone; the theorems of proofs/SameCells, SameCallRecords, SameCycles, SameRows and SamePasses say that what they let pass is as it was.
 -- They stand as they stood, under their names; one whose name is taken by what stands there now ends in `Before`. What a definition here cites is meant
--- as it stands now (`made`, say), since what N2 changed there has a theorem of its own. New, for the theorems' premises: `groupCells`, `LentBelow`,
+-- as it stands now (`made`, say), since what N2 changed there has a theorem of its own; `made` refuses the start of a SYSCALL node since N8. New, for the theorems' premises: `groupCells`, `LentBelow`,
 -- `depthIn`, `Narrow32`, `callCells`.
 use mathlib.Core.Bool.{Bool, not, _||_}
 use mathlib.Core.List.{List, [], _∷_, _++_}
