@@ -19,12 +19,14 @@ for part, size, has_length in SIZES:
     INPUT += has_length
     AT[part], ROOM[part] = INPUT, size
     INPUT += size
+# The tally stands behind the base input, its length in the place before.
+AT["tally"], ROOM["tally"] = INPUT + 1, 514
 
 KINDS = ["absent", "digest only", "Block", "Join", "Split", "Loop", "Call", "Syscall", "Dyn", "Dyncall", "External"]
 STORED = ["nothing", "StartNode", "FinishJoin", "FinishSplit", "FinishLoop", "FinishCall", "FinishDyn", "ResumeBasicBlock", "Respan",
           "FinishBasicBlock", "EnterForest"]
 OPCODES = ["SPAN", "RESPAN", "JOIN", "SPLIT", "LOOP", "REPEAT", "CALL", "SYSCALL", "DYN", "DYNCALL", "PUSH", "END", "HALT"]
-CALLS = ["new", "store", "finish", "final"]
+CALLS = ["new", "store", "finish", "final", "finish with tally", "none"]
 # How many numbers each case of the helper registers has, and how many of them are values of 32 bits.
 CASES = ["Eq", "U32Split", "Eqz", "Expacc", "FriExt2Fold4", "U32Add", "U32Add3", "U32Sub", "U32Mul", "U32Madd", "U32Div", "U32Assert2",
          "HPerm", "MerklePath", "HornerEvalBase", "HornerEvalExt", "LogDeferred", "Empty"]
@@ -80,10 +82,11 @@ def stored_numbers(stored):
 
 class Input:
     def __init__(self, v):
-        assert len(v) == INPUT
+        assert len(v) == INPUT + 515
         for part, size, has_length in SIZES:
             at = AT[part]
             setattr(self, part, v[at:at + (min(v[at - 1], size) if has_length else size)])
+        self.tally = v[AT["tally"]:AT["tally"] + min(v[AT["tally"] - 1], 514)]
         self.opcodes, self.step = dict(zip(OPCODES, self.profile)), self.profile[13]
         self.tracer = Tracer(self.tracer)
         self.case = CASES[min(self.registers[0], 17)]
@@ -132,7 +135,7 @@ def wrong_lengths(x):
     """Refusal 11 in a finish. Records count that lie whole in their own slice: a Block also where its digest is not lent."""
     rows, rest = divmod(len(x.fragment), 49)
     slots = [x.nodes[6 * n:6 * n + 6] for n in range(len(x.nodes) // 6)]
-    return (rest != 0 or rows > 2**24 or x.tracer.rows > rows or any(s[0] == KINDS.index("Block") and s[5] > 4096 for s in slots)
+    return (len(x.tally) < 512 or rest != 0 or rows > 2**24 or x.tracer.rows > rows or any(s[0] == KINDS.index("Block") and s[5] > 4096 for s in slots)
             or any(x.batches[12 * b] > 8 for b in range(len(x.batches) // 12)))
 
 
@@ -274,8 +277,27 @@ def made_row(x, t):
     return finish_node(x, t, name, node)
 
 
+def counted(x, rows, addr):
+    """What a row's address changes in the tally, as pairs of a place and a number: nothing, unless the row before is a flagged END."""
+    if rows == 0:
+        return []
+    before = read(x.fragment[49 * rows - 49:49 * rows])
+    opcode = sum((bit & 1) << k for k, bit in enumerate(before[7:14]))
+    if opcode != x.opcodes["END"] or before[18] != 1:
+        return []
+    places = [(x.tally[2 * k] % P, x.tally[2 * k + 1]) for k in range(256)]
+    used = [k for k, (a, count) in enumerate(places) if count and a == addr]
+    free = [k for k, (_, count) in enumerate(places) if not count]
+    refuse_if(not used and not free, 32)
+    if not used:
+        return [(2 * free[0], addr), (2 * free[0] + 1, 1)]
+    count = places[used[0]][1] + 1
+    refuse_if(count > 2**24, 32)
+    return [(2 * used[0] + 1, count)]
+
+
 def finish(v):
-    """The number, and on acceptance the row, the tracer after, and how many operations follow."""
+    """The number, and on acceptance the row, the tracer after, how many operations follow, and what changes in the tally."""
     x = Input(v)
     t = x.tracer
     try:
@@ -288,15 +310,16 @@ def finish(v):
         last = t.built if t.rows else [0] * 25
         decoder = made_row(x, t)
         refuse_if(t.rows == len(x.fragment) // 49, 24)
+        pairs = counted(x, t.rows, decoder[0] % P)
     except Refused as refusal:
-        return refusal.args[0], None, None, 0
+        return refusal.args[0], None, None, 0, []
     # what is written is reduced, and so is what the tracer is given anew; captured values and addresses that the row leaves stay as they were
     row = read(last[0:6] + decoder + last[6:25])
     clk, ctx, *fn_hash = x.system
     depth, overflow = x.stack[16:18]
     t.built = read([clk + 1, ctx] + fn_hash + x.stack[15::-1] + [depth, overflow, depth - 16])
     t.rows += 1
-    return 0, row, t.numbers(), x.following
+    return 0, row, t.numbers(), x.following, pairs
 
 
 def call(name, v):
@@ -318,15 +341,20 @@ def call(name, v):
         t.word, t.info = word and read(word), info and [info[0]] + read(info[1:])
         v[tracer] = t.numbers()
         return 0, v[tracer], v
+    if name == "none":
+        return 0, [], v
     rows = t.rows
-    number, row, after, following = finish(v)
+    number, row, after, following, pairs = finish(v)
     if number:
         t.refusal = number
         v[tracer] = t.numbers()
         return number, [], v
     v[tracer] = after
     v[AT["fragment"] + 49 * rows:AT["fragment"] + 49 * rows + 49] = row
-    return 0, row + after + [following], v
+    for place, count in pairs:
+        v[AT["tally"] + place] = count
+    told = [n for pair in pairs + [(514, 0)] * (2 - len(pairs)) for n in pair] if name == "finish with tally" else []
+    return 0, row + after + [following] + told, v
 
 
 # ---- The base input -------------------------------------------------------------------------------------------------------------
@@ -378,7 +406,7 @@ def base():
     return v
 
 
-BASE = base()
+BASE = base() + [512] + [0] * 514
 
 
 def at(part, k=0):
@@ -465,7 +493,7 @@ class List:
 
     def write(self):
         """Files of at most 7,500 numbers and 65,535 bytes. Vectors that go on from each other stay together."""
-        head = "base %s\n" % " ".join(map(str, BASE))
+        head = "base %s\n" % " ".join(map(str, BASE[:INPUT]))
         files, text, numbers, size = [], [], 1 + INPUT, len(head)
         for chain in self.chains:
             count, length = sum(n for _, n in chain), sum(len(line) for line, _ in chain)
@@ -968,6 +996,94 @@ def refusing():
     return stages, own
 
 
+def ended(row, flag=1, more=0):
+    """An END in a row of the fragment, with its loop-body flag; `more` is added to the cells that are looked at."""
+    cells = {at("fragment", 49 * row + 7 + k): (PROFILE[11] >> k & 1) + more for k in range(7)}
+    return {**cells, at("fragment", 49 * row + 18): flag + more}
+
+
+def place(k, addr, count):
+    return {at("tally", 2 * k): addr, at("tally", 2 * k + 1): count}
+
+
+def tallies():
+    """Cycles behind a flagged END, and what they count. The row is the SPAN of a block, whose address is its parent's."""
+    out, addr = List("tallies"), 305
+    behind = ended(0)
+
+    def cycle(words, *changes, number=0, goes_on=False, pairs=None):
+        answer, told = out.add(words, *changes, number=number, call_name="finish with tally", goes_on=goes_on)
+        assert answer or pairs is None or told[96:] == [n for pair in pairs + [(514, 0)] * (2 - len(pairs)) for n in pair], (words, told[96:])
+
+    cycle("behind no END", pairs=[])
+    cycle("behind an END without the flag", ended(0, 0), pairs=[])
+    cycle("behind an END with another flag", ended(0, 2), pairs=[])
+    cycle("behind an END with an odd flag that is not one", ended(0, 3), pairs=[])
+    cycle("behind another opcode with the flag", behind, {at("fragment", 7): 1}, pairs=[])
+    cycle("first row", ended(0), FIRST, pairs=[])
+    cycle("first row behind another fragment's", ended(3), FIRST, pairs=[])
+    cycle("row behind the row before the last", ended(0), tracer(1, 2), pairs=[])
+    cycle("counted", behind, pairs=[(0, addr), (1, 1)])
+    cycle("counted, cells from p on", ended(0, 1, P), pairs=[(0, addr), (1, 1)])
+    cycle("counted, an address from p on", behind, {at("parents", 2): addr + P}, pairs=[(0, addr), (1, 1)])
+    cycle("REPEAT counted, the tracer's address from p on", behind, store("FinishLoop", LOOP), ONE, tracer(16, 5 + P), pairs=[(0, 5), (1, 1)])
+    cycle("counted, last row", ended(2), LAST, pairs=[(0, addr), (1, 1)])
+    cycle("one more", behind, place(0, addr, 1), pairs=[(1, 2)])
+    cycle("one more, its address from p on", behind, place(0, addr + P, 7), pairs=[(1, 8)])
+    cycle("another address in front", behind, place(0, 17, 4), pairs=[(2, addr), (3, 1)])
+    cycle("in use behind a free place", behind, place(3, addr, 9), pairs=[(7, 10)])
+    cycle("in use behind a free place with the address", behind, place(0, addr, 0), place(1, addr, 2), pairs=[(3, 3)])
+    cycle("a free place with another address", behind, place(0, 17, 0), pairs=[(0, addr), (1, 1)])
+    cycle("equal addresses in two places", behind, place(1, addr, 5), place(4, addr, 50), pairs=[(3, 6)])
+    cycle("equal addresses, the first from p on", behind, place(1, addr + P, 5), place(4, addr, 50), pairs=[(3, 6)])
+    cycle("in use in the last place", behind, place(255, addr, 1), pairs=[(511, 2)])
+    for words, count, number in (("one below the limit", 2**24 - 1, 0), ("at the limit", 2**24, 32), ("above the limit", 2**24 + 1, 32), ("far above", BIG, 32)):
+        cycle("count " + words, behind, place(2, addr, count), number=number)
+        cycle("count %s, a free place in front" % words, behind, place(2, addr, count), place(0, 17, 0), number=number)
+        cycle("count %s, behind no END" % words, place(2, addr, count))
+        cycle("count %s, of another address" % words, behind, place(0, 17, count), pairs=[(2, addr), (3, 1)])
+    cycle("first of equal addresses at the limit", behind, place(2, addr, 2**24), place(3, addr, 1), number=32)
+    for length, number in ((0, 11), (511, 11), (512, 0), (513, 0), (514, 0)):
+        cycle("length", behind, {at("tally") - 1: length}, number=number)
+        cycle("length, behind no END", {at("tally") - 1: length}, number=number)
+    cycle("numbers behind the places", behind, {at("tally") - 1: 514, at("tally", 512): addr, at("tally", 513): 3}, pairs=[(0, addr), (1, 1)])
+    cycle("short, and a low depth", {at("tally") - 1: 511, at("stack", 16): 15}, number=11)
+    cycle("short, and a wrong profile", {at("tally") - 1: 511, at("profile", 13): 0}, number=2)
+    cycle("at the limit, and no row left", ended(3), FULL, place(0, addr, 2**24), number=24)
+    cycle("at the limit, and a continuation's own", behind, place(0, addr, 2**24), tracer(18, 4), number=20)
+    # behind an END, and refused: the tally stays
+    cycle("countable, and no row left", ended(3), FULL, number=24)
+    cycle("countable in use, and no row left", ended(3), FULL, place(0, addr, 1), number=24)
+    cycle("countable, and a low depth", behind, {at("stack", 16): 15}, number=10)
+    cycle("countable, and a continuation's own", behind, tracer(18, 4), number=20)
+    cycle("kept, then nothing else", behind, place(0, addr, 2**24), number=32)
+    cycle("kept, then nothing else", place(0, addr, 1), goes_on=True, number=32)
+    # a flagged END that a cycle writes, and the row behind it
+    end = {**store("FinishBasicBlock", ONE_GROUP), **BODY}
+    cycle("END of a body, behind no END", end, pairs=[])
+    cycle("END of a body", end, FIRST, pairs=[])
+    cycle("the row behind it", store("StartNode", BLOCK), goes_on=True, pairs=[(0, addr), (1, 1)])
+    cycle("END of a body, changed by someone else", end, FIRST, pairs=[])
+    cycle("the row behind it", store("StartNode", BLOCK), {at("fragment", 18): 0}, goes_on=True, pairs=[])
+    cycle("END of no body, changed by someone else", store("FinishBasicBlock", ONE_GROUP), FIRST, pairs=[])
+    cycle("the row behind it", store("StartNode", BLOCK), {at("fragment", 18): 1}, goes_on=True, pairs=[(0, addr), (1, 1)])
+    cycle("END of a body", end, FIRST, pairs=[])
+    cycle("END of a body behind it", end, goes_on=True)
+    cycle("END of a body behind both", end, goes_on=True)
+    cycle("the row behind them", store("StartNode", BLOCK), goes_on=True)
+    # 256 addresses
+    for words, last, change, number in (("no place left", 256, {}, 32), ("one place left", 255, {}, 0), ("no place left, and the address in use", 256, place(100, addr, 1), 0),
+                                        ("no place left, behind no END", 256, {at("fragment", 18): 0}, 0), ("no place left but behind them", 256, {at("tally") - 1: 514}, 32)):
+        filled = {}
+        for k in range(last):
+            filled.update(place(k, 1000 + k, 1))
+        pairs = list(filled.items())
+        for k in range(0, len(pairs), 190):
+            out.add("addresses", dict(pairs[k:k + 190]), call_name="none", goes_on=k > 0)
+        cycle(words, behind, change, goes_on=True, number=number)
+    return out
+
+
 def orders():
     """Two refusals of which the first in order is answered."""
     out = List("orders")
@@ -1188,7 +1304,7 @@ def mixed():
 
 if __name__ == "__main__":
     os.makedirs(os.path.join(HERE, "data"), exist_ok=True)
-    for made in (accepted_rows(), operations(), following(), unreduced(), handed_back(), first_refusals(), own_refusals(), orders(), runs(), mixed()):
+    for made in (accepted_rows(), operations(), following(), unreduced(), handed_back(), first_refusals(), own_refusals(), tallies(), orders(), runs(), mixed()):
         made.write()
         print(made.name, sum(map(len, made.chains)), dict(sorted(made.numbers_of.items())))
     with open(os.path.join(HERE, "stdout"), "w") as file:

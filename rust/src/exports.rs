@@ -193,7 +193,7 @@ mod foreign {
 // proved to stay inside them, to write to none but those passed as `*mut`, to keep none, and to end. It has no `requires`.
 
 /// Carries out a list of storings and cycles, lent as records of 32 numbers, on a fresh tracer over one fragment: the listed
-/// `start_clock_cycle` and `finalize_clock_cycle` once a record, and `into_final_state` behind the last.
+/// `start_clock_cycle` and `finalize_clock_cycle` once a record, and `into_final_state` behind the last. No tally is lent, so there is no 32.
 ///
 /// `state` and `at` are the address state and queue positions that the fragment before left. Where a record is refused, its number is
 /// answered and no row is written. Cells of the forests, the queues, the records and the address state may be any numbers; those of what is

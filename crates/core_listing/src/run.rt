@@ -101,6 +101,7 @@ fn cycle(
     profile: Profile,
     tracer: CoreTraceGenerationTracer,
     n: u32,
+    tally: &mut [u64],
     fragment: &mut [u64],
 ) -> CoreTraceGenerationTracer {
     let system = SystemState {
@@ -128,28 +129,53 @@ fn cycle(
         stack,
         OperationHelperRegisters::Empty,
         stored.tracer,
+        tally,
         fragment,
     );
     finished.tracer
 }
 
-// One pass of the body, from its start in cycle `first` to the loop's next REPEAT or END.
-fn pass(
+// Cycle `first` and the one behind it.
+fn two(
     profile: Profile,
     tracer: CoreTraceGenerationTracer,
     first: u32,
+    tally: &mut [u64],
     fragment: &mut [u64],
 ) -> CoreTraceGenerationTracer
     requires { ⌜ first < 9 ⌝ }
 {
-    let started = cycle(profile, tracer, first, fragment);
-    let operated = cycle(profile, started, first + 1, fragment);
-    let ended = cycle(profile, operated, first + 2, fragment);
-    cycle(profile, ended, first + 3, fragment)
+    let once = cycle(profile, tracer, first, tally, fragment);
+    cycle(profile, once, first + 1, tally, fragment)
+}
+
+// One pass of the body, from its start in cycle `first` over its operation and its END to the loop's next REPEAT or END.
+fn pass(
+    profile: Profile,
+    tracer: CoreTraceGenerationTracer,
+    first: u32,
+    tally: &mut [u64],
+    fragment: &mut [u64],
+) -> CoreTraceGenerationTracer
+    requires { ⌜ first < 7 ⌝ }
+{
+    let operated = two(profile, tracer, first, tally, fragment);
+    two(profile, operated, first + 2, tally, fragment)
+}
+
+// The two passes.
+fn passes(
+    profile: Profile,
+    tracer: CoreTraceGenerationTracer,
+    tally: &mut [u64],
+    fragment: &mut [u64],
+) -> CoreTraceGenerationTracer {
+    let once = pass(profile, tracer, 1, tally, fragment);
+    pass(profile, once, 5, tally, fragment)
 }
 
 // The nine cycles on a fresh tracer, and its final state.
-fn run(profile: Profile, fragment: &mut [u64]) -> TracerFinalState {
+fn run(profile: Profile, tally: &mut [u64], fragment: &mut [u64]) -> TracerFinalState {
     let state = DecoderState {
         current_addr: 0,
         parent_addr: 0,
@@ -160,15 +186,15 @@ fn run(profile: Profile, fragment: &mut [u64]) -> TracerFinalState {
         ends: 0,
     };
     let fresh = CoreTraceGenerationTracer::new(state, at);
-    let started = cycle(profile, fresh, 0, fragment);
-    let once = pass(profile, started, 1, fragment);
-    let twice = pass(profile, once, 5, fragment);
+    let started = cycle(profile, fresh, 0, tally, fragment);
+    let twice = passes(profile, started, tally, fragment);
     twice.into_final_state()
 }
 
 // The run in one fragment of ten rows, finished to height 10; the number of the first refusal, else 0.
 pub fn write_trace(profile: Profile, cells: &mut [u64]) -> u32 {
-    let last = run(profile, cells);
+    let mut tally = [0u64; 512];
+    let last = run(profile, &mut tally, cells);
     if last.refusal != 0 {
         return last.refusal;
     }

@@ -143,7 +143,7 @@ fragmentNotFull = 25
 abbrev pub noFragments : ℕ
 noFragments = 26
 
--- REFUSALS of the change requests; 30, 32, 33 and 34 are still to come
+-- REFUSALS of the change requests; 30, 33 and 34 are still to come
 
 -- "the lent index has fewer than three numbers for each block" (N1)
 abbrev pub shortIndex : ℕ
@@ -160,3 +160,7 @@ noDump = 29
 -- "StartNode of a SYSCALL node" (N8)
 abbrev pub syscallStart : ℕ
 syscallStart = 31
+
+-- "it would need a 257th address or a count above 2^24" (N9)
+abbrev pub tallyFull : ℕ
+tallyFull = 32

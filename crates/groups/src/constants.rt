@@ -30,7 +30,7 @@ impl Column {
     pub const HELPER: usize = 48;
 }
 
-// The number of a refusal; 30, 32, 33 and 34 are those of change requests to come.
+// The number of a refusal; 30, 33 and 34 are those of change requests to come.
 pub struct Refusal(pub u32);
 
 impl Refusal {
@@ -85,4 +85,6 @@ impl Refusal {
     pub const NO_DUMP: u32 = 29;
 
     pub const SYSCALL_START: u32 = 31;
+
+    pub const TALLY_FULL: u32 = 32;
 }

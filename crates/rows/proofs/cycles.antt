@@ -3,3 +3,5 @@ pub mod Picks
 pub mod Steps
 pub mod RowCounts
 pub mod MadeByKind
+pub mod FirstPlaces
+pub mod Tallying

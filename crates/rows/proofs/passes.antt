@@ -1,3 +1,4 @@
+pub mod Occurrences
 pub mod Checks
 pub mod Counts
 pub mod Finishing

@@ -1,5 +1,6 @@
--- Demand 3 in one place, and beside it that no SYSCALL is written and the overflow rule of every row written. `ReadsTrace` is the contract of
--- `read_trace`: what it may tell of a buffer and leave in the lent depth numbers, by `Right`, which says of an answer that it is right, by document 01.
+-- Demand 3 in one place, and beside it that no SYSCALL is written, what tallies tell and add up to, and the overflow rule of every row written.
+-- `ReadsTrace` is the contract of `read_trace`: what it may tell of a buffer and leave in the lent depth numbers, by `Right`, which says of an
+-- answer that it is right, by document 01.
 use mathlib.Core.Path.{_≡_, ap}
 use mathlib.Core.List.{List}
 use mathlib.Core.Logic.{_↔_}
@@ -10,6 +11,7 @@ use Rattle.rows.specs.declared.records.profile.Profile.{Profile}
 use Rattle.rows.specs.records.Forests.{Forest}
 use Rattle.rows.specs.records.Addresses.{Queues}
 use Rattle.rows.specs.records.Buffers.{bufferRow}
+use Rattle.rows.specs.passes.Passes.{sumOf}
 use Rattle.rows.specs.cycles.Made.{Cursor}
 use Rattle.theory_readings.specs.Readings.{Block, programRows, Trace}
 use Rattle.theory_readings.specs.Answers.{ReaderAnswer, accepted, Right}
@@ -21,9 +23,15 @@ use Rattle.reader.proofs.ReaderExact.{one-read, some-read, is-right-answer, rea
 use Rattle.theory_runs.specs.Calls.{Fragment, AllAccepted, finalStates, cellsOf, countsOf, builtCells, OneSize}
 use Rattle.theory_runs.specs.Happened.{cyclesOf}
 use Rattle.theory_runs.specs.Finished.{Runs, nesting, writtenByFive, writtenByFinisher, FivePass, FinisherPasses}
+use Rattle.theory_runs.specs.LiveCalls.{LiveFragment, ownOf, LentCall, liveFresh, liveAfterEach, AllLiveAccepted, liveFinals}
+use Rattle.theory_runs.specs.LiveFinished.{LiveRuns, liveNesting, liveByFive, liveByFinisher, LiveFivePass, LiveFinisherPasses}
+use Rattle.theory_runs.specs.Tallies.{TallyTells, overFragments, LoopCounts}
 use Rattle.theory_runs.specs.Overflow.{OverflowRule, DepthInRange, AllDepths32}
 use Rattle.theory_runs.specs.WithoutSyscall.{NoSyscallStarts, WithoutSyscall, NoSyscallRows}
 use Rattle.theory_runs.proofs.TraceOfRun.{finisher-trace, five-trace}
+use Rattle.theory_runs.proofs.LiveTraces.{own-runs, live-finisher-trace, live-five-trace}
+use Rattle.theory_runs.proofs.TallyTheorems.{tally-tells}
+use Rattle.theory_runs.proofs.TallySums.{finisher-tallies, five-tallies}
 use Rattle.theory_runs.proofs.ReadRun as runs
 use Rattle.theory_runs.proofs.OverflowTheorems.{finisher-overflow, five-overflow, finisher-depths, five-depths}
 use Rattle.theory_runs.proofs.OneNesting.{one-tree-ran}
@@ -121,6 +129,39 @@ module _ (p : Profile) (q : Queues) (size : ℕ) (fragments : List Fragment) (he
   -- "taken from the calls alone": whatever root, forest and addresses show that the run is proper
   pub one-nesting : (run′ : Runs p q size fragments here) → nesting run ≡ nesting run′
   one-nesting run′ = one-tree-ran p 0 (run .proper) (run′ .proper)
+
+-- WITH TALLIES
+
+-- N9: the same of the calls with a tally lent to each fragment's cycles, no call being refused
+module _ (p : Profile) (q : Queues) (size : ℕ) (fragments : List LiveFragment) (here : Cursor) (run : LiveRuns p q size fragments here) where
+  pub live-read : (others top : List ℕ) (height : ℕ) → LiveFinisherPasses p q size fragments here others top height → ReadBack p (liveByFinisher p q size fragments here others top height) (liveNesting run)
+  live-read others top height e = read-back p _ _ (live-finisher-trace p q size fragments here run others top height e)
+
+  pub live-by-five-read : (others top : List ℕ) (height : ℕ) → LiveFivePass p q size fragments here others top height → ReadBack p (liveByFive p q size fragments here others top height) (liveNesting run)
+  live-by-five-read others top height e = read-back p _ _ (live-five-trace p q size fragments here run others top height e)
+
+  pub live-program-rows : programRows (liveNesting run) ≡ length (cyclesOf q (ownOf fragments) (here .at))
+  unfolding own-runs
+  live-program-rows = runs.program-rows p q size (ownOf fragments) here (own-runs p q size fragments here run)
+
+  pub live-one-nesting : (run′ : LiveRuns p q size fragments here) → liveNesting run ≡ liveNesting run′
+  live-one-nesting run′ = one-tree-ran p 0 (run .proper) (run′ .proper)
+
+-- "Lent as zeros to a fresh tracer, with one profile and nobody else storing to it or the rows, the tally holds after every cycle, for the rows
+-- written so far in this fragment, exactly each successor address of a flagged END, with its number, in order of first appearance"
+pub tally-told : (p : Profile) (here : Cursor) (cells : List ℕ) (numbers : ℕ) (calls : List LentCall) → TallyTells p (liveAfterEach p calls (liveFresh here cells numbers))
+tally-told = tally-tells
+
+-- "The fragments' tallies, with 1 more for each flagged END that ends a fragment and has its successor in the next, must add up to every count it
+-- sets." No proper run is asked for
+module _ (p : Profile) (q : Queues) (size : ℕ) (fragments : List LiveFragment) (here : Cursor) (none-refused : AllLiveAccepted p q fragments here) (one-size : OneSize size (ownOf fragments) (countsOf (liveFinals p q fragments here))) where
+  pub tallies-add-up : (others top : List ℕ) (height : ℕ) → LiveFinisherPasses p q size fragments here others top height →
+      LoopCounts p (overFragments p q fragments here) (sumOf (countsOf (liveFinals p q fragments here))) (liveByFinisher p q size fragments here others top height)
+  tallies-add-up others top height = finisher-tallies p q size fragments here none-refused others top height one-size
+
+  pub tallies-add-up-five : (others top : List ℕ) (height : ℕ) → LiveFivePass p q size fragments here others top height →
+      LoopCounts p (overFragments p q fragments here) (sumOf (countsOf (liveFinals p q fragments here))) (liveByFive p q size fragments here others top height)
+  tallies-add-up-five others top height = five-tallies p q size fragments here none-refused others top height one-size
 
 -- OVER REPLAY
 

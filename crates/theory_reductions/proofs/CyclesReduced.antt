@@ -66,7 +66,7 @@ stack-twice k = simp read-twice
 
 -- THE CYCLE'S ANSWER
 
-if-alike : (t : Bool) (n : ℕ) (a b : Answer MadeRow) → Same a b → Same (refuseIf t n a) (refuseIf t n b)
+pub if-alike : (t : Bool) (n : ℕ) (a b : Answer MadeRow) → Same a b → Same (refuseIf t n a) (refuseIf t n b)
 if-alike true n a b h = refl
 if-alike false n a b h = h
 
@@ -98,7 +98,7 @@ module _ (p : Profile) (f : Forest) (q : Queues) (stack : StackState) (registers
 
 -- THE NUMBER
 
-same-number : (a b : Answer MadeRow) → Same a b → refusal a ≡ refusal b
+pub same-number : (a b : Answer MadeRow) → Same a b → refusal a ≡ refusal b
 same-number (accepted m) (accepted m′) h = refl
 same-number (accepted m) (refused n) h = cc
 same-number (refused n) (accepted m) h = cc
@@ -191,7 +191,7 @@ same-tracer system stack t (refused n) (refused n′) h =
     let e : n ≡ n′ = cc in
     rw (e, captured-twice (t .captured), read-is (t .«decoder_state»), system-twice (t .«system_cols»), stack-twice (t .«stack_cols»))
 
-read-following : (a : Answer MadeRow) → followingOf (readAnswer readMade a) ≡ followingOf a
+pub read-following : (a : Answer MadeRow) → followingOf (readAnswer readMade a) ≡ followingOf a
 unfolding readMade
 read-following (accepted m) = refl
 read-following (refused n) = refl

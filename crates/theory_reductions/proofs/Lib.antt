@@ -8,6 +8,7 @@ pub mod ReplaysReduced
 pub mod PassesReduced
 pub mod PassesKept
 pub mod WrittenBelow
+pub mod TalliesReduced
 pub mod Accepted
 pub mod SameCells
 pub mod SameCallRecords

@@ -68,7 +68,7 @@ all-written (x ∷ l) [] e h = absurd (omega arith)
 all-written (x ∷ l) (y ∷ m) e h = kept-cons x y l m (inr (h .0)) (all-written l m (omega arith) (h .1))
 
 -- one cell is written
-set-kept : (l : List ℕ) (i v : ℕ) → v < P → Kept l (set l i v)
+pub set-kept : (l : List ℕ) (i v : ℕ) → v < P → Kept l (set l i v)
 set-kept [] i v h = stays []
 set-kept (x ∷ l) zero v h = kept-cons x v l l (inr h) (stays l)
 set-kept (x ∷ l) (suc i) v h = kept-cons x x l (set l i v) (inl refl) (set-kept l i v h)

@@ -110,7 +110,7 @@ fixed-read size top lasts = fun-ext go
 
 -- PASS 2
 
-flagged-reduced : (p : Profile) (row : List ℕ) → flaggedEnd p (reduced row) ≡ flaggedEnd p row
+pub flagged-reduced : (p : Profile) (row : List ℕ) → flaggedEnd p (reduced row) ≡ flaggedEnd p row
 unfolding flaggedEnd
 flagged-reduced p row = rw (opcode-reduced row, cell-reduced row 18)
 

@@ -21,7 +21,7 @@ zero-read : (t : Bool) → 0 ≡ pick t (read 0) 0
 zero-read true = refl
 zero-read false = refl
 
-place-read : (isCell : ℕ → Bool) (l : List ℕ) (i k : ℕ) → getD (readPlaces isCell i l) k 0 ≡ pick (isCell (i + k)) (read (getD l k 0)) (getD l k 0)
+pub place-read : (isCell : ℕ → Bool) (l : List ℕ) (i k : ℕ) → getD (readPlaces isCell i l) k 0 ≡ pick (isCell (i + k)) (read (getD l k 0)) (getD l k 0)
 unfolding readPlaces
 place-read isCell [] i k = zero-read (isCell (i + k))
 place-read isCell (x ∷ l) i zero = let e : i + 0 ≡ i = omega arith in rw e
@@ -41,7 +41,7 @@ module _ (isCell : ℕ → Bool) (r : List ℕ) where
   abbrev given : List ℕ
   given = readPlaces isCell 0 r
 
-  cell-same : (k : ℕ) → cellAt given k ≡ cellAt r k
+  pub cell-same : (k : ℕ) → cellAt given k ≡ cellAt r k
   unfolding cellAt
   cell-same k = rw (place-read isCell r 0 k) (picked (isCell (0 + k)) (getD r k 0))
 

@@ -174,14 +174,14 @@ unfolding rowCells
 row-below t m = below-reduced _
 
 -- an accepted cycle has a row left in the fragment
-abbrev Room : (cells : ℕ) → CoreTraceGenerationTracer → MadeRow → Type 0
+abbrev pub Room : (cells : ℕ) → CoreTraceGenerationTracer → MadeRow → Type 0
 Room cells t m = t .«row_write_index» < cells / 49
 
 has-room : (cells : ℕ) (t : CoreTraceGenerationTracer) (full : Bool) (m : MadeRow) → leb (cells / 49) (t .«row_write_index») ≡ full → Gives (Room cells t) (refuseIf full 24 (accepted m))
 has-room cells t true m e = tt
 has-room cells t false m e = leb-false (cells / 49) (t .«row_write_index») e
 
-room-left : (scan : Scan) (p : Profile) (f : Forest) (q : Queues) (stack : StackState) (registers : OperationHelperRegisters) (cells : ℕ) (t : CoreTraceGenerationTracer) →
+pub room-left : (scan : Scan) (p : Profile) (f : Forest) (q : Queues) (stack : StackState) (registers : OperationHelperRegisters) (cells : ℕ) (t : CoreTraceGenerationTracer) →
     Gives (Room cells t) (cycleWith scan p f q stack registers cells t)
 unfolding cycleWith
 room-left scan p f q stack registers cells t =
@@ -192,7 +192,7 @@ room-left scan p f q stack registers cells t =
     (next-gives (Room cells t) (made f q p registers c (t .«is_loop_body») (t .captured) (cursor (t .«decoder_state») (t .at))) _ (λ m.
     has-room cells t (leb (cells / 49) (t .«row_write_index»)) m refl)))))))
 
-after-kept : (fragment : List ℕ) (cells : ℕ) (t : CoreTraceGenerationTracer) (a : Answer MadeRow) → length fragment ≡ cells → Gives (Room cells t) a → Kept fragment (fragmentAfter fragment t a)
+pub after-kept : (fragment : List ℕ) (cells : ℕ) (t : CoreTraceGenerationTracer) (a : Answer MadeRow) → length fragment ≡ cells → Gives (Room cells t) a → Kept fragment (fragmentAfter fragment t a)
 unfolding fragmentAfter
 after-kept fragment cells t (accepted m) e room = put-kept fragment (t .«row_write_index») _ (row-wide t m) (rw e room) (row-below t m)
 after-kept fragment cells t (refused n) e room = stays fragment

@@ -2,7 +2,7 @@
 -- in" (N2). Numbers that are no cells (kinds, ids, counts, opcodes, positions, clk, ctx, depths) are as they were.
 use mathlib.Core.Bool.{Bool, _&&_, _||_}
 use mathlib.Core.List.{List, [], _∷_, _++_}
-use Prim.Native.Nat.{ℕ, zero, suc, _/_}
+use Prim.Native.Nat.{ℕ, zero, suc, _/_, _%_}
 use lib.Dec.{leb, ltb, eqb}
 use lib.ListN.{length, take, drop, getD}
 use Rattle.field.specs.Cells.{read, reduced}
@@ -127,3 +127,12 @@ readRecords (suc n) records = readRecord (take 32 records) ++ readRecords n (dro
 -- all whole records of a list
 abbrev pub readAllRecords : List ℕ → List ℕ
 readAllRecords records = readRecords (length records / 32) records
+
+-- TALLIES
+
+-- a tally (N9): the address of a place is a cell, its count a plain number
+abbrev pub tallyCell : ℕ → Bool
+tallyCell i = eqb (i % 2) 0
+
+unfoldable pub readTally : List ℕ → List ℕ
+readTally tally = readPlaces tallyCell 0 tally

@@ -29,6 +29,7 @@ use Rattle.rows.specs.declared.records.continuation.Captured.{Captured}
 use Rattle.rows.specs.declared.records.continuation.Used.{Used}
 use Rattle.rows.specs.declared.cycles.made.MadeRow.{MadeRow}
 use Rattle.rows.specs.declared.cycles.made.Finish.{Finish}
+use Rattle.rows.specs.declared.cycles.scan.Scan.{Scan}
 use Rattle.rows.specs.declared.records.state.StackState.{StackState}
 use Rattle.rows.specs.declared.cycles.tracer.StoredContinuation.{StoredContinuation}
 use Rattle.rows.specs.declared.cycles.tracer.CoreTraceGenerationTracer.{CoreTraceGenerationTracer}
@@ -72,7 +73,7 @@ pub pick-numbered : {A : Type 0} (t : Bool) (a b : Answer A) → Numbered a → 
 pick-numbered true a b h k = h
 pick-numbered false a b h k = k
 
-if-numbered : {A : Type 0} (t : Bool) (n : ℕ) (a : Answer A) → Numbered a → Numbered (refuseIf t (suc n) a)
+pub if-numbered : {A : Type 0} (t : Bool) (n : ℕ) (a : Answer A) → Numbered a → Numbered (refuseIf t (suc n) a)
 unfolding Numbered
 if-numbered true n a h = tt
 if-numbered false n a h = h
@@ -269,16 +270,20 @@ continuation-numbered (StoredContinuation.Is continuation) = tt
 continuation-numbered StoredContinuation.Nothing = tt
 
 module _ (p : Profile) (f : Forest) (q : Queues) (stack : StackState) (registers : OperationHelperRegisters) (cells : ℕ) (t : CoreTraceGenerationTracer) where
-  cycle-numbered : Numbered (cycle p f q stack registers cells t)
-  unfolding cycle cycleWith scanOf Numbered
-  cycle-numbered =
+  pub cycle-with-numbered : (scan : Scan) → Numbered (cycleWith scan p f q stack registers cells t)
+  unfolding cycleWith Numbered
+  cycle-with-numbered scan =
       kept-numbered (eqb (t .refusal) 0) (t .refusal) _ refl
       (then-numbered (continuationOf (t .continuation)) _ (continuation-numbered (t .continuation)) (λ continuation.
-      if-numbered (anyBigOpcode (f .ops)) 0 _ (if-numbered (profileWrong p) 1 _
-      (if-numbered (forestTooLarge (f .nodes) (f .batches) || fragmentWrong cells (t .«row_write_index»)) 10 _ (if-numbered (ltb (stack .«stack_depth») 16) 9 _
+      if-numbered (scan .big) 0 _ (if-numbered (scan .«profile_wrong») 1 _
+      (if-numbered (scan .«too_large» || fragmentWrong cells (t .«row_write_index»)) 10 _ (if-numbered (ltb (stack .«stack_depth») 16) 9 _
       (then-numbered (made f q p registers continuation (t .«is_loop_body») (t .captured) (cursor (t .«decoder_state») (t .at))) _
       (made-numbered f q p registers (t .«is_loop_body») (t .captured) continuation (cursor (t .«decoder_state») (t .at))) (λ row.
       if-numbered (leb (cells / 49) (t .«row_write_index»)) 23 (accepted row) tt)))))))
+
+  cycle-numbered : Numbered (cycle p f q stack registers cells t)
+  unfolding cycle
+  cycle-numbered = cycle-with-numbered (scanOf p (f .nodes) (f .batches) (f .ops))
 
   -- what a cycle that is not refused comes from
   pub record Came (m : MadeRow) : Type 0 where

@@ -1,10 +1,10 @@
 -- C10's run in fragments of 4: the premises can be met, and its rows, reading and counts computed over the definitions.
 use mathlib.Core.Path.{_≡_, refl}
 use mathlib.Core.Bool.{Bool, true, false}
-use mathlib.Core.List.{List, [], _∷_}
+use mathlib.Core.List.{List, [], _∷_, _++_, map}
 use Prim.Native.Nat.{ℕ}
 use native.Mathlib.Omega.{arith}
-use lib.ListN.{replicate}
+use lib.ListN.{take, replicate}
 use Rattle.field.specs.Inverse.{euclid, inverseOf}
 use Rattle.field.specs.Cells.{cellAt, reduced}
 use Rattle.groups.specs.Words.{wordAt}
@@ -31,13 +31,16 @@ use Rattle.rows.specs.records.Cells.{rowCells, putRow}
 use Rattle.rows.specs.cycles.Scans.{anyBigOpcode, anyLongBlock, anyLargeBatch, forestTooLarge, scanOf}
 use Rattle.rows.specs.records.Cells.{fragmentWrong}
 use Rattle.rows.specs.cycles.Cycles.{fresh, storedIn, cycleWith, cycle, leftAfter, tracerAfter, lastSystem, lastStack, fragmentAfter, finalState, forPasses}
-use Rattle.rows.specs.records.Buffers.{rowsOf, flat, onRows, lastRow, addrOf, lowBits, opcodeOf, bufferWrong, fewerRows}
+use Rattle.rows.specs.cycles.Tallies.{isFree, isOf, firstFrom, placeFor, countedAt, noPlace, countsNext, tallied, tallyAfter, talliedCycle}
+use Rattle.rows.specs.records.Buffers.{rowsOf, bufferRow, flat, onRows, lastRow, addrOf, lowBits, opcodeOf, bufferWrong, fewerRows}
 use Rattle.rows.specs.passes.Passes.{withSides, firstRow, laterRows, fixedUp, builtOf, flaggedEnd, bodyEnds, withCounts, anyWithoutBody, multiplied, loopWithoutBody, inverted, haltDecoder, haltStack, haltRow, halted, paddingRow, paddingRows, padded, sumOf, anyAbove, notFull, fragmentsWrong, heightWrong, refusal1, refusal2, refusal3, refusal4, refusal5, refusalAll, lastBuilt, allPasses}
 use Rattle.groups.specs.Answer.{firstOf}
 use Rattle.theory_readings.specs.Tokens.{controls, controlOpcodes, isOpOpcode, countOf}
 use Rattle.theory_readings.specs.Readings.{Ops, Block, Passes, depthOf, allRows, Trace}
 use Rattle.theory_readings.proofs.Examples.{profile}
 use Rattle.theory_runs.specs.Calls.{Call, store, finish, Fragment, after, callRefusal, afterAll, Accepted, AllAccepted, finalStates, cellsOf, countsOf, builtCells, OneSize}
+use Rattle.theory_runs.specs.LiveCalls.{LiveFragment, liveRefusal, liveAfter, liveAfterAll, LiveAccepted, AllLiveAccepted, tallies}
+use Rattle.theory_runs.specs.Tallies.{talliedAt, talliesAt, rowsEach, crossings}
 use Rattle.theory_runs.specs.Happened.{nothingStored, startOf, operationAt, finishOf, didBy, didStored, usedBy, positionsAfter, stored, leftBy, inForceAfter, inForceAfterAll, cyclesIn, cyclesOf}
 use Rattle.theory_runs.specs.ProperRuns.{Holds, HasOperations, HasOpcode, withLoop, loopStarts, InBlock, Run, RunPasses, opsFrom, treeFrom}
 use Rattle.theory_runs.specs.Finished.{Runs, nesting, buffer1, buffer2, buffer3, buffer4, finisherBuffer, writtenByFive, writtenByFinisher, FivePass, FinisherPasses}
@@ -154,3 +157,29 @@ listing : fields (allRows (writtenByFinisher profile queued 4 fragments begin []
     (85, 0, 2) ∷ (86, 1, 1) ∷ (5, 3, 0) ∷ (112, 3, 0) ∷ (116, 1, 0) ∷ (86, 1, 1) ∷ (5, 5, 0) ∷ (112, 5, 0) ∷ (112, 1, 0) ∷ (124, 0, 0) ∷ []
 unfolding forestA queued begin storeOf cycleOf calls1 calls2 calls3 fragments AllAccepted Accepted callRefusal after afterAll finalState cycle cycleWith scanOf anyBigOpcode forestTooLarge anyLongBlock anyLargeBatch readRegisters helpersOfCells systemCells stackCells anyFrom profileWrong opcodes twoEqual isOneOf lacksBits fragmentWrong made startNode startKind startBlock startOne madeEnd madeRepeat finishLoop bodyOf blockKind entryKind operationMade resumed nodeAt nodeOf isSlot digestAt opcodeAt blockOf startedAt entryAt endAt batchAt isBatch startsAt batchFlags flagsUpTo8 contextAtOp groupOf falling groupFrom placeIn contextInGroup consumed counts doubled roundUp groupsOf sumGroups anyAbove8 groupSum pushes opContext tooLarge helpersAnswer allBelow u32Values helpersOf tracerAfter leftAfter storedIn fragmentAfter putRow rowCells decoderCells fresh builtSystem builtStack noSystem noStack lastSystem lastStack controlFlow basicBlockBatch operation wordAt finalStates countsOf forPasses builtCells cellsOf refusalAll firstOf sumOf fragmentsWrong bufferWrong fewerRows anyAbove heightWrong notFull loopWithoutBody anyWithoutBody bodyEnds rowsOf opcodeOf lowBits flaggedEnd finisherBuffer allPasses onRows flat fixedUp firstRow withSides laterRows builtOf multiplied withCounts inverted inverseOf euclid lastBuilt halted lastRow haltRow haltDecoder haltStack padded paddingRows paddingRow allRows fields cellAt reduced readSystem readStack readState readCaptured
 listing = refl
+
+-- WITH A TALLY
+
+-- the run in one fragment, with a tally (N9)
+unfoldable allCalls : List Call
+allCalls = calls1 ++ calls2 ++ calls3
+
+unfoldable live : List LiveFragment
+live = record { own = record { calls = allCalls; cells = replicate 441 9 }; numbers = 512 } ∷ []
+
+live-free : AllLiveAccepted profile queued live begin
+unfolding forestA queued begin storeOf cycleOf calls1 calls2 calls3 finalState cycleWith scanOf anyBigOpcode forestTooLarge anyLongBlock anyLargeBatch readRegisters helpersOfCells systemCells stackCells anyFrom profileWrong opcodes twoEqual isOneOf lacksBits fragmentWrong made startNode startKind startBlock startOne madeEnd madeRepeat finishLoop bodyOf blockKind entryKind operationMade resumed nodeAt nodeOf isSlot digestAt opcodeAt blockOf startedAt entryAt endAt batchAt isBatch startsAt batchFlags flagsUpTo8 contextAtOp groupOf falling groupFrom placeIn contextInGroup consumed counts doubled roundUp groupsOf sumGroups anyAbove8 groupSum pushes opContext tooLarge helpersAnswer allBelow u32Values helpersOf tracerAfter leftAfter storedIn fragmentAfter putRow rowCells decoderCells fresh builtSystem builtStack noSystem noStack lastSystem lastStack controlFlow basicBlockBatch operation wordAt cellAt reduced readSystem readStack readState readCaptured allCalls live AllLiveAccepted LiveAccepted liveRefusal liveAfter liveAfterAll talliedCycle tallied tallyAfter countsNext placeFor firstFrom isOf isFree noPlace countedAt bufferRow opcodeOf lowBits flaggedEnd
+live-free = ((refl, (refl, (refl, (refl, (refl, (refl, (refl, (refl, (refl, (refl, (refl, (refl, (refl, (refl, (refl, (refl, (refl, (refl, refl)))))))))))))))))), tt)
+
+-- both passes are counted at the address behind their ENDs, the loop's
+counted : map (take 4) (tallies profile queued live begin) ≡ (1 ∷ 2 ∷ 0 ∷ 0 ∷ []) ∷ []
+unfolding forestA queued begin storeOf cycleOf calls1 calls2 calls3 finalState cycleWith scanOf anyBigOpcode forestTooLarge anyLongBlock anyLargeBatch readRegisters helpersOfCells systemCells stackCells anyFrom profileWrong opcodes twoEqual isOneOf lacksBits fragmentWrong made startNode startKind startBlock startOne madeEnd madeRepeat finishLoop bodyOf blockKind entryKind operationMade resumed nodeAt nodeOf isSlot digestAt opcodeAt blockOf startedAt entryAt endAt batchAt isBatch startsAt batchFlags flagsUpTo8 contextAtOp groupOf falling groupFrom placeIn contextInGroup consumed counts doubled roundUp groupsOf sumGroups anyAbove8 groupSum pushes opContext tooLarge helpersAnswer allBelow u32Values helpersOf tracerAfter leftAfter storedIn fragmentAfter putRow rowCells decoderCells fresh builtSystem builtStack noSystem noStack lastSystem lastStack controlFlow basicBlockBatch operation wordAt cellAt reduced readSystem readStack readState readCaptured allCalls live AllLiveAccepted LiveAccepted liveRefusal liveAfter liveAfterAll talliedCycle tallied tallyAfter countsNext placeFor firstFrom isOf isFree noPlace countedAt bufferRow opcodeOf lowBits flaggedEnd tallies
+counted = refl
+
+-- in fragments of 4 each END of a body ends a fragment
+unfoldable live4 : List LiveFragment
+live4 = map (λ fragment. record { own = fragment; numbers = 512 }) fragments
+
+crossed : (talliesAt 1 (tallies profile queued live4 begin) ≡ 0) × (crossings profile 1 (rowsEach profile queued live4 begin) ≡ 2)
+unfolding forestA queued begin storeOf cycleOf calls1 calls2 calls3 finalState cycleWith scanOf anyBigOpcode forestTooLarge anyLongBlock anyLargeBatch readRegisters helpersOfCells systemCells stackCells anyFrom profileWrong opcodes twoEqual isOneOf lacksBits fragmentWrong made startNode startKind startBlock startOne madeEnd madeRepeat finishLoop bodyOf blockKind entryKind operationMade resumed nodeAt nodeOf isSlot digestAt opcodeAt blockOf startedAt entryAt endAt batchAt isBatch startsAt batchFlags flagsUpTo8 contextAtOp groupOf falling groupFrom placeIn contextInGroup consumed counts doubled roundUp groupsOf sumGroups anyAbove8 groupSum pushes opContext tooLarge helpersAnswer allBelow u32Values helpersOf tracerAfter leftAfter storedIn fragmentAfter putRow rowCells decoderCells fresh builtSystem builtStack noSystem noStack lastSystem lastStack controlFlow basicBlockBatch operation wordAt cellAt reduced readSystem readStack readState readCaptured fragments live4 AllLiveAccepted LiveAccepted liveRefusal liveAfter liveAfterAll talliedCycle tallied tallyAfter countsNext placeFor firstFrom isOf isFree noPlace countedAt bufferRow opcodeOf lowBits flaggedEnd tallies talliesAt talliedAt rowsEach crossings rowsOf lastRow
+crossed = (refl, refl)

@@ -258,7 +258,7 @@ module _ (p : Profile) (q : Queues) where
 
   -- ALL FRAGMENTS
 
-  fragment-holding : (here : Cursor) (fragment : Fragment) → Accepted p q (fragment .calls) (opened p q here fragment) →
+  pub fragment-holding : (here : Cursor) (fragment : Fragment) → Accepted p q (fragment .calls) (opened p q here fragment) →
       Holding (closed p q here fragment) (fragment .cells) (rowsIn p q (fragment .calls) (opened p q here fragment))
   unfolding flat Wide fresh
   fragment-holding here fragment a =

@@ -28,3 +28,8 @@ pub mod BodiesEnd
 pub mod ExactRuns
 pub mod ImproperRuns
 pub mod SameRuns
+pub mod LiveRuns
+pub mod LiveTraces
+pub mod TallySteps
+pub mod TallyTheorems
+pub mod TallySums

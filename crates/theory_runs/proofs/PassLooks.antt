@@ -46,10 +46,10 @@ drop-take zero n l = ap (λ k. take k l) (zero-add n)
 drop-take (suc i) n [] = rw (take-nil, drop-nil, take-nil)
 drop-take (suc i) n (x ∷ l) = rw suc-add (drop-take i n l)
 
-cell-by : (row : List ℕ) (k : ℕ) → k < 24 → cellAt row (6 + k) ≡ cellAt (decoderOf row) k
+pub cell-by : (row : List ℕ) (k : ℕ) → k < 24 → cellAt row (6 + k) ≡ cellAt (decoderOf row) k
 cell-by row k h = sym (cell-take 24 (drop 6 row) k h ∙ cell-drop 6 row k)
 
-bits-by : (row : List ℕ) → take 7 (drop 7 row) ≡ take 7 (drop 1 (decoderOf row))
+pub bits-by : (row : List ℕ) → take 7 (drop 7 row) ≡ take 7 (drop 1 (decoderOf row))
 bits-by row = sym (ap (take 7) (drop-take 1 23 (drop 6 row)) ∙ take-take 7 23 (drop 1 (drop 6 row)) (omega arith) ∙ ap (take 7) (drop-drop 1 6 row))
 
 look-by : (p : Profile) (row : List ℕ) → look p row ≡ lookBy p (decoderOf row)
@@ -151,17 +151,17 @@ ends-hits p x (row ∷ next ∷ rows) =
     ap₂ (λ a b. a + b) (mark-hit (eqb (opcodeOf row) (p .end)) (eqb (opcodeOf row) (p .«loop_op»)) (eqb (h4Of row) 1) (eqb (addrOf next) x) (h4Of row) (countOf row) refl) (ends-hits p x (next ∷ rows))
 
 -- a row with another count
-count-decoder : (row : List ℕ) (v : ℕ) → decoderOf (set row 23 v) ≡ set (decoderOf row) 17 v
+pub count-decoder : (row : List ℕ) (v : ℕ) → decoderOf (set row 23 v) ≡ set (decoderOf row) 17 v
 count-decoder row v = ap (take 24) (drop-set-add 6 row 17 v) ∙ take-set-lt 24 (drop 6 row) 17 v (omega arith)
 
-count-bits : (cells : List ℕ) (v : ℕ) → take 7 (drop 1 (set cells 17 v)) ≡ take 7 (drop 1 cells)
+pub count-bits : (cells : List ℕ) (v : ℕ) → take 7 (drop 1 (set cells 17 v)) ≡ take 7 (drop 1 cells)
 count-bits cells v = ap (take 7) (drop-set-add 1 cells 16 v) ∙ take-set-le 7 (drop 1 cells) 16 v (omega arith)
 
-cell-other : (cells : List ℕ) (i k v : ℕ) → ¬ (k ≡ i) → cellAt (set cells i v) k ≡ cellAt cells k
+pub cell-other : (cells : List ℕ) (i k v : ℕ) → ¬ (k ≡ i) → cellAt (set cells i v) k ≡ cellAt cells k
 unfolding cellAt
 cell-other cells i k v n = ap (λ (x : ℕ). x % P) (getD-set-other cells i k v 0 n)
 
-cell-set : (cells : List ℕ) (i v : ℕ) → i < length cells → v < P → cellAt (set cells i v) i ≡ v
+pub cell-set : (cells : List ℕ) (i v : ℕ) → i < length cells → v < P → cellAt (set cells i v) i ≡ v
 unfolding cellAt
 cell-set cells i v h l = ap (λ (x : ℕ). x % P) (getD-set-same cells i v 0 h) ∙ read-small v l
 
@@ -228,7 +228,7 @@ multiplied-length p rows = counts-length p (λ x. bodyEnds p x rows) rows
 
 -- PASS 3
 
-helper-decoder : (row : List ℕ) (v : ℕ) → decoderOf (set row 48 v) ≡ decoderOf row
+pub helper-decoder : (row : List ℕ) (v : ℕ) → decoderOf (set row 48 v) ≡ decoderOf row
 helper-decoder row v = ap (take 24) (drop-set-add 6 row 42 v) ∙ take-set-le 24 (drop 6 row) 42 v (omega arith)
 
 pub inverted-looks : (p : Profile) (rows : List (List ℕ)) → looks p (inverted rows) ≡ looks p rows

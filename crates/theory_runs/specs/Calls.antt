@@ -1,5 +1,5 @@
--- The calls of a run: storings and cycles, each fragment's on a fresh tracer and ended by its final state. Everything that they do is what
--- the contracts of these calls cite.
+-- The calls of a run: storings and cycles, each fragment's on a fresh tracer and ended by its final state. Everything that they do is by
+-- the definitions that the contracts of these calls cite, a cycle being one without a tally (`LiveCalls` has those with one).
 use mathlib.Core.Path.{_≡_}
 use mathlib.Core.List.{List, [], _∷_, _++_}
 use Prim.Native.Nat.{ℕ, _*_}

@@ -7,3 +7,6 @@ pub mod Finished
 pub mod Overflow
 pub mod Following
 pub mod WithoutSyscall
+pub mod LiveCalls
+pub mod LiveFinished
+pub mod Tallies

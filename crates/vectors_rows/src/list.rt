@@ -1,12 +1,14 @@
-// A list: how many vectors it has, a base input of 614 numbers, and the vectors. A vector: 0 to start from the base input or 1 to go on
-// from what the vector before left, the call (0 new, 1 store, 2 finish, 3 final state), how many numbers it changes in the input, that
-// many pairs of a place and a number, the answer's number, and if that is 0 the numbers that come out: the tracer's 46 for new and store,
-// the 49 cells of the row, the tracer's 46 and how many operations follow for a finish, 25 cells, the row count and the count that the
-// passes take for a final state.
+// A list: how many vectors it has, a base input of 614 numbers, and the vectors. A vector: 0 to start from the base input and a tally of 512
+// zeros or 1 to go on from what the vector before left, the call (0 new, 1 store, 2 finish, 3 final state, 4 finish with its tally, 5 none), how
+// many numbers it changes in the input, that many pairs of a place and a number, the answer's number, and if that is 0 the numbers that come out:
+// the tracer's 46 for new and store, the 49 cells of the row, the tracer's 46 and how many operations follow for a finish, behind them two
+// pairs of a place in the tally and the number that it gets (514: none) where the tally is held to it, 25 cells, the row count and the count
+// that the passes take for a final state.
 //
 // The input's places: profile 0 to 13; nodes from 15, digests from 112, batches from 177, groups from 226, operations from 259, block
 // addresses from 300, parents from 305, ends from 310, each with its length in the place before; tracer 322 to 367; system 368 to 373;
-// stack 374 to 391; helper registers 392 to 398; values to store 399 to 412; the fragment from 414, its length in 413.
+// stack 374 to 391; helper registers 392 to 398; values to store 399 to 412; the fragment from 414, its length in 413; the tally from
+// 615, its length in 614.
 use crate::given::positions_of;
 use crate::given::registers_of;
 use crate::given::stack_of;
@@ -61,7 +63,9 @@ const VALUES: usize = 399;
 
 const FRAGMENT: usize = 414;
 
-// A finish of the tracer on the fragment, given the parts of an input, and the input for how many numbers of each are lent and for all else.
+const TALLY: usize = 615;
+
+// A finish of the tracer on the tally and the fragment, given the parts of an input, and the input for how many numbers of each are lent and for all else.
 fn finish_on(
     nodes: &[u32],
     digests: &[u64],
@@ -73,6 +77,7 @@ fn finish_on(
     ends: &[u64],
     input: &[u64],
     tracer: CoreTraceGenerationTracer,
+    tally: &mut [u64],
     fragment: &mut [u64],
 ) -> Finished {
     let node_numbers = lent(input, NODES, nodes.len());
@@ -84,6 +89,7 @@ fn finish_on(
     let parent_count = lent(input, PARENTS, parents.len());
     let end_cells = lent(input, ENDS, ends.len());
     let cells = lent(input, FRAGMENT, fragment.len());
+    let numbers = lent(input, TALLY, tally.len());
     finalize_clock_cycle(
         &nodes[..node_numbers],
         &digests[..digest_cells],
@@ -98,14 +104,16 @@ fn finish_on(
         stack_of(input, STACK),
         registers_of(input, REGISTERS),
         tracer,
+        &mut tally[..numbers],
         &mut fragment[..cells],
     )
 }
 
-// A finish of the tracer on the fragment, with the rest of what it is given from the input.
+// A finish of the tracer on the tally and the fragment, with the rest of what it is given from the input.
 fn finish_given(
     input: &[u64],
     tracer: CoreTraceGenerationTracer,
+    tally: &mut [u64],
     fragment: &mut [u64],
 ) -> Finished {
     let mut nodes = [0u32; 96];
@@ -135,6 +143,7 @@ fn finish_given(
         &ends,
         input,
         tracer,
+        tally,
         fragment,
     )
 }
@@ -237,10 +246,12 @@ fn finish_right(input: &mut [u64], v: &[u64], at: usize) -> bool
     let following = at + 96;
     let rows = item(input, TRACER, 1);
     let mut fragment = [0u64; 200];
+    let mut tally = [0u64; 514];
     copy(input, FRAGMENT, &mut fragment);
+    copy(input, TALLY, &mut tally);
     let tracer = tracer_of(input, TRACER);
     let before = tracer_numbers(tracer);
-    let done = finish_given(input, tracer, &mut fragment);
+    let done = finish_given(input, tracer, &mut tally, &mut fragment);
     let number = done.refusal as u64;
     let moved = done.tracer;
     let after = tracer_numbers(moved);
@@ -248,8 +259,31 @@ fn finish_right(input: &mut [u64], v: &[u64], at: usize) -> bool
     let written = fragment_right(number, rows, input, &fragment, v, row);
     put_all(&after, input, TRACER);
     put_all(&fragment, input, FRAGMENT);
+    put_all(&tally, input, TALLY);
     let followed = done.following == expected_following(number, v, following);
     (item(v, at, 0) == number) & (kept & (written & followed))
+}
+
+// The tally that is expected after a finish: as it was, but for the two numbers that stand in the list at `at` where it is accepted.
+fn expected_tally(number: u64, v: &[u64], at: usize, expected: &mut [u64]) {
+    if number != 0 {
+        return;
+    }
+    put(item(v, at, 1), expected, item(v, at, 0) as usize, 0);
+    put(item(v, at, 3), expected, item(v, at, 2) as usize, 0);
+}
+
+fn tallied_right(input: &mut [u64], v: &[u64], at: usize) -> bool
+    requires { ⌜ at < 8192 ⌝ }
+{
+    let counted = at + 97;
+    let mut expected = [0u64; 514];
+    copy(input, TALLY, &mut expected);
+    expected_tally(item(v, at, 0), v, counted, &mut expected);
+    let finished = finish_right(input, v, at);
+    let mut after = [0u64; 514];
+    copy(input, TALLY, &mut after);
+    finished & same(&after, &expected)
 }
 
 fn final_right(input: &[u64], v: &[u64], at: usize) -> bool
@@ -274,13 +308,15 @@ fn call_right(call: u64, input: &mut [u64], v: &[u64], at: usize) -> bool
         0 => new_right(input, v, at),
         1 => store_right(input, v, at),
         2 => finish_right(input, v, at),
-        _ => final_right(input, v, at),
+        3 => final_right(input, v, at),
+        4 => tallied_right(input, v, at),
+        _ => true,
     }
 }
 
 // How many numbers follow the answer's number.
 fn answer_length(call: u64, number: u64) -> usize
-    ensures { λ r. ⌜ r ≤ 96 ⌝ }
+    ensures { λ r. ⌜ r ≤ 100 ⌝ }
 {
     if number != 0 {
         return 0;
@@ -289,7 +325,9 @@ fn answer_length(call: u64, number: u64) -> usize
         0 => 46,
         1 => 46,
         2 => 96,
-        _ => 27,
+        3 => 27,
+        4 => 100,
+        _ => 0,
     }
 }
 
@@ -309,12 +347,17 @@ fn change(v: &[u64], at: usize, count: usize, input: &mut [u64])
     }
 }
 
-// Puts the base input, unless the vector goes on.
+// Puts the base input and a tally of zeros, unless the vector goes on.
 fn restart(goes_on: u64, v: &[u64], input: &mut [u64]) {
     if goes_on != 0 {
         return;
     }
-    copy(v, 1, input);
+    let mut base = [0u64; 614];
+    let zeros = [0u64; 514];
+    copy(v, 1, &mut base);
+    put_all(&base, input, 0);
+    put_all(&zeros, input, TALLY);
+    put(512, input, TALLY - 1, 0);
 }
 
 // The vector that begins at `at`.
@@ -333,7 +376,7 @@ fn vector(v: &[u64], at: usize, input: &mut [u64]) -> Step
 
 // How many of the first `all` vectors of the list come out right.
 pub fn right(v: &[u64], all: u64) -> u64 {
-    let mut input = [0u64; 614];
+    let mut input = [0u64; 1129];
     let mut right: u64 = 0;
     let mut k: u64 = 0;
     let mut at: usize = 615;

@@ -26,6 +26,8 @@ fn main() {
     vectors(b"tracers_b");
     vectors(b"inputs");
     vectors(b"refusals");
+    vectors(b"tallies_a");
+    vectors(b"tallies_b");
     vectors(b"orders");
     vectors(b"runs_a");
     vectors(b"runs_b");

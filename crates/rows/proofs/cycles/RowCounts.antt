@@ -44,7 +44,7 @@ room-then : {A : Type 0} (rows : ℕ) (found : Answer A) (next : A → Answer Ma
 room-then rows (accepted a) next h = h a
 room-then rows (refused n) next h = tt
 
-in-fragment : (large : Bool) (cells rows : ℕ) → (large || fragmentWrong cells rows) ≡ false → leb (cells / 49) rows ≡ false → rows < 16777216
+pub in-fragment : (large : Bool) (cells rows : ℕ) → (large || fragmentWrong cells rows) ≡ false → leb (cells / 49) rows ≡ false → rows < 16777216
 unfolding fragmentWrong
 in-fragment large cells rows e h =
     let lengths = neither large _ e .1 in

@@ -7,7 +7,7 @@ use Rattle.rows.specs.cycles.Cycles.{storedIn, cycle, tracerAfter, fragm
 use Rattle.rows.specs.replay.Calls.{Setting, forestOf, refusing}
 use Rattle.rows.specs.records.CallRecords.{RecordedCall, stores, finishes, callIn, recordAt}
 
--- the tracer after a call: that of `start_clock_cycle` or `finalize_clock_cycle`. The scan of the setting is not used
+-- the tracer after a call: that of `start_clock_cycle`, or of a finish without a tally. The scan of the setting is not used
 unfoldable pub singleDone : Setting → CoreTraceGenerationTracer → Answer RecordedCall → CoreTraceGenerationTracer
 singleDone s t (refused n) = refusing n t
 singleDone s t (accepted (stores values)) = storedIn t values

@@ -1,6 +1,6 @@
 -- What inner functions of the crate promise, and no public contract names.
-use Prim.Native.Nat.{ℕ, _/_, _<_, _*_}
-use Rattle.groups.specs.Constants.{rowWidth}
+use Prim.Native.Nat.{ℕ, _/_, _≤_, _<_, _*_}
+use Rattle.groups.specs.Constants.{rowWidth, mostRows}
 use Rattle.rows.specs.declared.cycles.made.Made.{Made}
 use lib.Dec.{ltb}
 use Rattle.groups.specs.Answer.{Answer, accepted, refused, pick}
@@ -8,6 +8,7 @@ use Rattle.rows.specs.declared.records.continuation.StoredValues.{Stored
 use Rattle.rows.specs.declared.cycles.tracer.CoreTraceGenerationTracer.{CoreTraceGenerationTracer}
 use Rattle.rows.specs.cycles.Cycles.{storedIn}
 use Rattle.rows.specs.replay.Calls.{refusing}
+use mathlib.Core.Bool.{Bool, false}
 use mathlib.Core.List.{List}
 use mathlib.Core.Path.{_≡_}
 use lib.ListN.{getD}
@@ -20,6 +21,16 @@ use Rattle.rows.specs.records.Forests.{isSlot, nodeOf, nodeEntry}
 abbrev pub HasRoom : Made → (cells rows : ℕ) → Type 0
 HasRoom (Made.Row m) cells rows = rows < cells / rowWidth
 HasRoom (Made.Refused n) cells rows = Unit {0}
+
+-- where a row is made, nothing was too large, and it is one of 2^24
+abbrev pub InLimits : Made → (large : Bool) → (rows : ℕ) → Type 0
+InLimits (Made.Row m) large rows = (large ≡ false) × (rows < mostRows)
+InLimits (Made.Refused n) large rows = Unit {0}
+
+-- a row that is made is one of 2^24, and the tally has all its places
+abbrev pub Countable : Made → (numbers rows : ℕ) → Type 0
+Countable (Made.Row m) numbers rows = (rows < mostRows) × (512 ≤ numbers)
+Countable (Made.Refused n) numbers rows = Unit {0}
 
 -- the smaller of the two
 unfoldable pub clipped : (limit n : ℕ) → ℕ

@@ -4,6 +4,8 @@ use crate::cycles::made::MadeRow;
 use crate::cycles::made::make;
 use crate::cycles::scan::Scan;
 use crate::cycles::scan::scan_lent;
+use crate::cycles::tally::count_row;
+use crate::cycles::tally::with_tally;
 use crate::cycles::tracer::CoreTraceGenerationTracer;
 use crate::cycles::tracer::StoredContinuation;
 use crate::records::continuation::CalleeWord;
@@ -30,8 +32,9 @@ ghost use Rattle.groups.specs.Constants.{rowWidth};
 ghost use Rattle.rows.specs.records.Lent.{lentForest, lentQueues};
 ghost use Rattle.rows.specs.cycles.Made.{toldMade};
 ghost use Rattle.rows.specs.records.Cells.{rowCells, putRow};
-ghost use Rattle.rows.specs.cycles.Cycles.{cycleWith, cycle, leftAfter, keeping, tracerAfter, followingOf, lastSystem, lastStack, fragmentAfter};
-ghost use Rattle.rows.specs.ways.Inner.{HasRoom};
+ghost use Rattle.rows.specs.cycles.Cycles.{cycleWith, leftAfter, keeping, tracerAfter, followingOf, lastSystem, lastStack, fragmentAfter};
+ghost use Rattle.rows.specs.cycles.Tallies.{talliedCycle, tallyAfter};
+ghost use Rattle.rows.specs.ways.Inner.{HasRoom, InLimits};
 
 // What a finish answers: 0 or the refusal's number, the tracer, and how many operations follow in the operation's group (0 where none was
 // resumed, and on a refusal).
@@ -88,6 +91,7 @@ fn checked(
     ensures { λ r. ⌜ toldMade r ≡ cycleWith scan profile (lentForest nodes digests batches groups ops)
         (lentQueues addresses parents ends) stack registers cells tracer ⌝ }
     ensures { λ r. ⌜ HasRoom r cells (tracer .«row_write_index») ⌝ }
+    ensures { λ r. ⌜ InLimits r (scan .«too_large») (tracer .«row_write_index») ⌝ }
 {
     if tracer.refusal != 0 {
         return Made::Refused(tracer.refusal);
@@ -212,6 +216,39 @@ fn put_row(
     }
 }
 
+// What a row that was made, or a refusal, leaves; `write` says whether the row is written.
+fn finish_made(
+    write: bool,
+    made: Made,
+    system: SystemState,
+    stack: StackState,
+    tracer: CoreTraceGenerationTracer,
+    fragment: &mut [u64],
+) -> Finished
+    requires { ⌜ HasRoom made (length (now fragment)) (tracer .«row_write_index») ⌝ }
+    ensures { λ r. ⌜ r .refusal ≡ refusal (toldMade made) ⌝ }
+    ensures { λ r. ⌜ r .tracer ≡ tracerAfter system stack tracer (toldMade made) ⌝ }
+    ensures { λ r. ⌜ r .following ≡ followingOf (toldMade made) ⌝ }
+    ensures { λ _. ⌜ now (fragment .exit) ≡ pick write (fragmentAfter (now (fragment .entry)) tracer (toldMade made)) (now (fragment .entry)) ⌝ }
+{
+    let Made::Row(row) = made else {
+        let n = made_refusal(made);
+        return Finished {
+            refusal: n,
+            tracer: kept(n, tracer),
+            following: 0,
+        };
+    };
+    let decoder = row.row;
+    let following = row.following;
+    put_row(write, decoder, tracer, fragment);
+    Finished {
+        refusal: 0,
+        tracer: moved(row, system, stack, tracer),
+        following,
+    }
+}
+
 // One finish, given what the scan found; `write` says whether its row is written. With another scan's answer it would not refuse, so it
 // stays inside the crate.
 pub(crate) fn cycle_with(
@@ -259,25 +296,10 @@ pub(crate) fn cycle_with(
         registers,
         tracer,
     );
-    let Made::Row(row) = made else {
-        let n = made_refusal(made);
-        return Finished {
-            refusal: n,
-            tracer: kept(n, tracer),
-            following: 0,
-        };
-    };
-    let decoder = row.row;
-    let following = row.following;
-    put_row(write, decoder, tracer, fragment);
-    Finished {
-        refusal: 0,
-        tracer: moved(row, system, stack, tracer),
-        following,
-    }
+    finish_made(write, made, system, stack, tracer, fragment)
 }
 
-// One finish: it writes one row of the fragment, or keeps a refusal's number.
+// One finish: it writes one row of the fragment and counts in the tally, or keeps a refusal's number.
 pub fn finalize_clock_cycle(
     nodes: &[u32],
     digests: &[u64],
@@ -292,21 +314,26 @@ pub fn finalize_clock_cycle(
     stack: StackState,
     registers: OperationHelperRegisters,
     tracer: CoreTraceGenerationTracer,
+    tally: &mut [u64],
     fragment: &mut [u64],
 ) -> Finished
-    ensures { λ r. ⌜ r .refusal ≡ refusal (cycle profile (lentForest nodes digests batches groups ops)
-        (lentQueues addresses parents ends) stack registers (length (now (fragment .entry))) tracer) ⌝ }
-    ensures { λ r. ⌜ r .tracer ≡ tracerAfter system stack tracer (cycle profile (lentForest nodes digests batches groups ops)
-        (lentQueues addresses parents ends) stack registers (length (now (fragment .entry))) tracer) ⌝ }
-    ensures { λ r. ⌜ r .following ≡ followingOf (cycle profile (lentForest nodes digests batches groups ops)
-        (lentQueues addresses parents ends) stack registers (length (now (fragment .entry))) tracer) ⌝ }
-    ensures { λ _. ⌜ now (fragment .exit) ≡ fragmentAfter (now (fragment .entry)) tracer (cycle profile (lentForest nodes digests batches groups ops)
-        (lentQueues addresses parents ends) stack registers (length (now (fragment .entry))) tracer) ⌝ }
+    ensures { λ r. ⌜ r .refusal ≡ refusal (talliedCycle profile (lentForest nodes digests batches groups ops)
+        (lentQueues addresses parents ends) stack registers (now (tally .entry)) (now (fragment .entry)) tracer) ⌝ }
+    ensures { λ r. ⌜ r .tracer ≡ tracerAfter system stack tracer (talliedCycle profile (lentForest nodes digests batches groups ops)
+        (lentQueues addresses parents ends) stack registers (now (tally .entry)) (now (fragment .entry)) tracer) ⌝ }
+    ensures { λ r. ⌜ r .following ≡ followingOf (talliedCycle profile (lentForest nodes digests batches groups ops)
+        (lentQueues addresses parents ends) stack registers (now (tally .entry)) (now (fragment .entry)) tracer) ⌝ }
+    ensures { λ _. ⌜ now (tally .exit) ≡ tallyAfter profile (now (tally .entry)) (now (fragment .entry)) (tracer .«row_write_index»)
+        (talliedCycle profile (lentForest nodes digests batches groups ops)
+        (lentQueues addresses parents ends) stack registers (now (tally .entry)) (now (fragment .entry)) tracer) ⌝ }
+    ensures { λ _. ⌜ now (fragment .exit) ≡ fragmentAfter (now (fragment .entry)) tracer (talliedCycle profile (lentForest nodes digests batches groups ops)
+        (lentQueues addresses parents ends) stack registers (now (tally .entry)) (now (fragment .entry)) tracer) ⌝ }
 {
     let found = scan_lent(profile, nodes, batches, ops);
-    cycle_with(
-        true,
-        found,
+    let scan = with_tally(tally.len(), found);
+    let made = checked(
+        scan,
+        fragment.len(),
         nodes,
         digests,
         batches,
@@ -316,10 +343,10 @@ pub fn finalize_clock_cycle(
         parents,
         ends,
         profile,
-        system,
         stack,
         registers,
         tracer,
-        fragment,
-    )
+    );
+    let counted = count_row(profile, tally, fragment, tracer.row_write_index, made);
+    finish_made(true, counted, system, stack, tracer, fragment)
 }

@@ -36,7 +36,7 @@ fn is_loop(profile: Profile, buffer: &[u64], i: usize) -> bool
     decode_opcode(buffer, i) == profile.loop_op as u64
 }
 
-fn is_flagged_end(profile: Profile, buffer: &[u64], i: usize) -> bool
+pub(crate) fn is_flagged_end(profile: Profile, buffer: &[u64], i: usize) -> bool
     requires { ⌜ i < mostRows ⌝ }
     ensures { λ r. ⌜ r ≡ flaggedEnd profile (bufferRow i (now (buffer .entry))) ⌝ }
 {

@@ -7,7 +7,7 @@ use Rattle.vectors_rows.proofs.list.right.Statement.{statement}
 use Rattle.vectors_rows.proofs.list.right.Tie as tie
 
 abbrev Inv-loop : tie.InvT-loop
-Inv-loop v all input₀ right₀ k₀ at₀ input right k at = (right ≤ k) × (length input ≡ 614)
+Inv-loop v all input₀ right₀ k₀ at₀ input right k at = (right ≤ k) × (length input ≡ 1129)
 
 abbrev μ-loop : tie.MeasureT-loop
 μ-loop v all input₀ right₀ k₀ at₀ input right k at = all - k
