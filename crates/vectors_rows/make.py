@@ -1073,6 +1073,7 @@ def tallies():
     cycle("the row behind them", store("StartNode", BLOCK), goes_on=True)
     # 256 addresses
     for words, last, change, number in (("no place left", 256, {}, 32), ("one place left", 255, {}, 0), ("no place left, and the address in use", 256, place(100, addr, 1), 0),
+                                        ("no place left, and the address in the last", 256, place(255, addr, 1), 0),
                                         ("no place left, behind no END", 256, {at("fragment", 18): 0}, 0), ("no place left but behind them", 256, {at("tally") - 1: 514}, 32)):
         filled = {}
         for k in range(last):

@@ -10,8 +10,8 @@ use lib.ListN.{length}
 use Rattle.rows.specs.declared.records.profile.Profile.{Profile}
 use Rattle.rows.specs.records.Forests.{Forest}
 use Rattle.rows.specs.records.Addresses.{Queues}
-use Rattle.rows.specs.records.Buffers.{bufferRow}
-use Rattle.rows.specs.passes.Passes.{sumOf}
+use Rattle.rows.specs.records.Buffers.{rowsOf, bufferRow, onRows}
+use Rattle.rows.specs.passes.Passes.{multiplied, sumOf, refusal2}
 use Rattle.rows.specs.cycles.Made.{Cursor}
 use Rattle.theory_readings.specs.Readings.{Block, programRows, Trace}
 use Rattle.theory_readings.specs.Answers.{ReaderAnswer, accepted, Right}
@@ -23,15 +23,16 @@ use Rattle.reader.proofs.ReaderExact.{one-read, some-read, is-right-answer, rea
 use Rattle.theory_runs.specs.Calls.{Fragment, AllAccepted, finalStates, cellsOf, countsOf, builtCells, OneSize}
 use Rattle.theory_runs.specs.Happened.{cyclesOf}
 use Rattle.theory_runs.specs.Finished.{Runs, nesting, writtenByFive, writtenByFinisher, FivePass, FinisherPasses}
-use Rattle.theory_runs.specs.LiveCalls.{LiveFragment, ownOf, LentCall, liveFresh, liveAfterEach, AllLiveAccepted, liveFinals}
-use Rattle.theory_runs.specs.LiveFinished.{LiveRuns, liveNesting, liveByFive, liveByFinisher, LiveFivePass, LiveFinisherPasses}
-use Rattle.theory_runs.specs.Tallies.{TallyTells, overFragments, LoopCounts}
+use Rattle.theory_runs.specs.LiveCalls.{LiveFragment, plainAll, AllLiveAccepted, liveEnds, liveFinals, LentAsZeros, FreshFragment, endOf, endsOf}
+use Rattle.theory_runs.specs.LiveFinished.{SameRun, liveByFive, liveByFinisher, LiveFivePass, LiveFinisherPasses}
+use Rattle.theory_runs.specs.Tallies.{TallyTells, overFragments, rowsOfAll, NoneEmpty, CountsSet}
 use Rattle.theory_runs.specs.Overflow.{OverflowRule, DepthInRange, AllDepths32}
 use Rattle.theory_runs.specs.WithoutSyscall.{NoSyscallStarts, WithoutSyscall, NoSyscallRows}
 use Rattle.theory_runs.proofs.TraceOfRun.{finisher-trace, five-trace}
-use Rattle.theory_runs.proofs.LiveTraces.{own-runs, live-finisher-trace, live-five-trace}
-use Rattle.theory_runs.proofs.TallyTheorems.{tally-tells}
-use Rattle.theory_runs.proofs.TallySums.{finisher-tallies, five-tallies}
+use Rattle.theory_runs.proofs.LiveRuns as lives
+use Rattle.theory_runs.proofs.LiveTraces as lives-finished
+use Rattle.theory_runs.proofs.TallyTheorems as tellings
+use Rattle.theory_runs.proofs.TallySums as sums
 use Rattle.theory_runs.proofs.ReadRun as runs
 use Rattle.theory_runs.proofs.OverflowTheorems.{finisher-overflow, five-overflow, finisher-depths, five-depths}
 use Rattle.theory_runs.proofs.OneNesting.{one-tree-ran}
@@ -132,36 +133,54 @@ module _ (p : Profile) (q : Queues) (size : ℕ) (fragments : List Fragment) (he
 
 -- WITH TALLIES
 
--- N9: the same of the calls with a tally lent to each fragment's cycles, no call being refused
-module _ (p : Profile) (q : Queues) (size : ℕ) (fragments : List LiveFragment) (here : Cursor) (run : LiveRuns p q size fragments here) where
-  pub live-read : (others top : List ℕ) (height : ℕ) → LiveFinisherPasses p q size fragments here others top height → ReadBack p (liveByFinisher p q size fragments here others top height) (liveNesting run)
-  live-read others top height e = read-back p _ _ (live-finisher-trace p q size fragments here run others top height e)
+-- N9: the calls as they are, a tally lent to each cycle, whatever it holds. Where no call is refused the same is done without tallies: no call is
+-- refused, and the passes are handed the same final states and cells
+pub live-as-calls : (p : Profile) (q : Queues) (fragments : List LiveFragment) (here : Cursor) → AllLiveAccepted p q fragments here → SameRun p q fragments here
+live-as-calls = lives.live-as-calls
 
-  pub live-by-five-read : (others top : List ℕ) (height : ℕ) → LiveFivePass p q size fragments here others top height → ReadBack p (liveByFive p q size fragments here others top height) (liveNesting run)
-  live-by-five-read others top height e = read-back p _ _ (live-five-trace p q size fragments here run others top height e)
+-- so what is said here of the cells written without tallies is so of those written with them: `Q` is any of it
+module _ (p : Profile) (q : Queues) (size : ℕ) (fragments : List LiveFragment) (here : Cursor) (none-refused : AllLiveAccepted p q fragments here) (others top : List ℕ) (height : ℕ) (Q : List ℕ → Type 0) where
+  pub live-written : (FinisherPasses p q size (plainAll fragments) here others top height → Q (writtenByFinisher p q size (plainAll fragments) here others top height)) →
+      LiveFinisherPasses p q size fragments here others top height → Q (liveByFinisher p q size fragments here others top height)
+  live-written = lives-finished.live-written p q size fragments here none-refused others top height Q
 
-  pub live-program-rows : programRows (liveNesting run) ≡ length (cyclesOf q (ownOf fragments) (here .at))
-  unfolding own-runs
-  live-program-rows = runs.program-rows p q size (ownOf fragments) here (own-runs p q size fragments here run)
+  pub live-written-by-five : (FivePass p q size (plainAll fragments) here others top height → Q (writtenByFive p q size (plainAll fragments) here others top height)) →
+      LiveFivePass p q size fragments here others top height → Q (liveByFive p q size fragments here others top height)
+  live-written-by-five = lives-finished.live-written-by-five p q size fragments here none-refused others top height Q
 
-  pub live-one-nesting : (run′ : LiveRuns p q size fragments here) → liveNesting run ≡ liveNesting run′
-  live-one-nesting run′ = one-tree-ran p 0 (run .proper) (run′ .proper)
+-- it is read back
+module _ (p : Profile) (q : Queues) (size : ℕ) (fragments : List LiveFragment) (here : Cursor) (run : Runs p q size (plainAll fragments) here) (none-refused : AllLiveAccepted p q fragments here) where
+  pub live-read : (others top : List ℕ) (height : ℕ) → LiveFinisherPasses p q size fragments here others top height → ReadBack p (liveByFinisher p q size fragments here others top height) (nesting run)
+  live-read others top height =
+      live-written p q size fragments here none-refused others top height (λ cells. ReadBack p cells (nesting run)) (written-read p q size (plainAll fragments) here run others top height)
+
+  pub live-by-five-read : (others top : List ℕ) (height : ℕ) → LiveFivePass p q size fragments here others top height → ReadBack p (liveByFive p q size fragments here others top height) (nesting run)
+  live-by-five-read others top height =
+      live-written-by-five p q size fragments here none-refused others top height (λ cells. ReadBack p cells (nesting run)) (written-by-five-read p q size (plainAll fragments) here run others top height)
 
 -- "Lent as zeros to a fresh tracer, with one profile and nobody else storing to it or the rows, the tally holds after every cycle, for the rows
--- written so far in this fragment, exactly each successor address of a flagged END, with its number, in order of first appearance"
-pub tally-told : (p : Profile) (here : Cursor) (cells : List ℕ) (numbers : ℕ) (calls : List LentCall) → TallyTells p (liveAfterEach p calls (liveFresh here cells numbers))
-tally-told = tally-tells
+-- written so far in this fragment, exactly each successor address of a flagged END, with its number, in order of first appearance": after any
+-- calls, refused or not
+pub tally-told : (p : Profile) (fragment : FreshFragment) → TallyTells p (endOf p fragment)
+tally-told = tellings.tally-told
 
 -- "The fragments' tallies, with 1 more for each flagged END that ends a fragment and has its successor in the next, must add up to every count it
--- sets." No proper run is asked for
-module _ (p : Profile) (q : Queues) (size : ℕ) (fragments : List LiveFragment) (here : Cursor) (none-refused : AllLiveAccepted p q fragments here) (one-size : OneSize size (ownOf fragments) (countsOf (liveFinals p q fragments here))) where
-  pub tallies-add-up : (others top : List ℕ) (height : ℕ) → LiveFinisherPasses p q size fragments here others top height →
-      LoopCounts p (overFragments p q fragments here) (sumOf (countsOf (liveFinals p q fragments here))) (liveByFinisher p q size fragments here others top height)
-  tallies-add-up others top height = finisher-tallies p q size fragments here none-refused others top height one-size
+-- sets": of pass 2 by itself, whatever fragments on fresh tracers with tallies of zeros, each with rows, these standing one after another in the
+-- buffer
+pub tallies-add-up : (p : Profile) (fragments : List FreshFragment) (buffer : List ℕ) → NoneEmpty (endsOf p fragments) → rowsOf (length (rowsOfAll (endsOf p fragments))) buffer ≡ rowsOfAll (endsOf p fragments) →
+    refusal2 p buffer (length (rowsOfAll (endsOf p fragments))) ≡ 0 →
+    CountsSet p (overFragments p (endsOf p fragments)) (length (rowsOfAll (endsOf p fragments))) (onRows (length (rowsOfAll (endsOf p fragments))) (multiplied p) buffer)
+tallies-add-up = sums.tallies-add-up
+
+-- and of what is then written, where no call and no pass is refused. No proper run is asked for
+module _ (p : Profile) (q : Queues) (size : ℕ) (fragments : List LiveFragment) (here : Cursor) (zeros : LentAsZeros fragments) (none-refused : AllLiveAccepted p q fragments here) (one-size : OneSize size (plainAll fragments) (countsOf (liveFinals (liveEnds p q fragments here)))) where
+  pub tallies-add-up-finished : (others top : List ℕ) (height : ℕ) → LiveFinisherPasses p q size fragments here others top height →
+      CountsSet p (overFragments p (liveEnds p q fragments here)) (sumOf (countsOf (liveFinals (liveEnds p q fragments here)))) (liveByFinisher p q size fragments here others top height)
+  tallies-add-up-finished others top height = sums.tallies-add-up-finished p q size fragments here zeros none-refused others top height one-size
 
   pub tallies-add-up-five : (others top : List ℕ) (height : ℕ) → LiveFivePass p q size fragments here others top height →
-      LoopCounts p (overFragments p q fragments here) (sumOf (countsOf (liveFinals p q fragments here))) (liveByFive p q size fragments here others top height)
-  tallies-add-up-five others top height = five-tallies p q size fragments here none-refused others top height one-size
+      CountsSet p (overFragments p (liveEnds p q fragments here)) (sumOf (countsOf (liveFinals (liveEnds p q fragments here)))) (liveByFive p q size fragments here others top height)
+  tallies-add-up-five others top height = sums.tallies-add-up-five p q size fragments here zeros none-refused others top height one-size
 
 -- OVER REPLAY
 

@@ -28,7 +28,7 @@ use Rattle.rows.specs.records.Cells.{rowCells, putRow}
 use Rattle.rows.specs.passes.Passes.{flaggedEnd}
 use Rattle.rows.specs.cycles.Scans.{scanOf}
 use Rattle.rows.specs.cycles.Cycles.{refuseIf, cycleWith, tracerAfter, followingOf, fragmentAfter}
-use Rattle.rows.specs.cycles.Tallies.{countIn, isFree, isOf, firstFrom, placeFor, countedAt, noPlace, countsNext, rowAddr, withTally, tallied, tallyAfter, talliedCycle}
+use Rattle.rows.specs.cycles.Tallies.{countIn, isFree, isOf, firstFrom, placeFor, countedAt, cannotCount, countsNext, rowAddr, withTally, tallied, tallyAfter, talliedCycle}
 use Rattle.theory_reductions.specs.Inputs.{readForest, readQueues, readSystemState, readStackState, readTracer, readRow, readMade, readAnswer, readPlaces, tallyCell, readTally}
 use Rattle.theory_reductions.specs.Left.{Kept}
 use Rattle.theory_reductions.proofs.StatesRead.{Gives, if-gives}
@@ -64,8 +64,8 @@ module _ (tally : List ℕ) where
   unfolding readTally
   length-read = places-length tallyCell tally 0
 
-  none-read : (place : ℕ) → noPlace (readTally tally) place ≡ noPlace tally place
-  unfolding noPlace
+  none-read : (place : ℕ) → cannotCount (readTally tally) place ≡ cannotCount tally place
+  unfolding cannotCount
   none-read place = rw (count-read place)
 
 first-same : (a b : ℕ → Bool) → ((k : ℕ) → a k ≡ b k) → (place n : ℕ) → firstFrom a place n ≡ firstFrom b place n
@@ -142,7 +142,7 @@ module _ (p : Profile) (tally fragment : List ℕ) (rows : ℕ) where
   tallied-alike (accepted m) (accepted m′) h =
       let e : readMade m ≡ readMade m′ = cc in
       rw (counts-reduced p fragment rows, same-addr m m′ e, place-for-read tally (rowAddr m′), none-read tally (placeFor tally (rowAddr m′)))
-      (if-alike (countsNext p fragment rows && noPlace tally (placeFor tally (rowAddr m′))) 32 (accepted m) (accepted m′) h)
+      (if-alike (countsNext p fragment rows && cannotCount tally (placeFor tally (rowAddr m′))) 32 (accepted m) (accepted m′) h)
   tallied-alike (accepted m) (refused n) h = cc
   tallied-alike (refused n) (accepted m) h = cc
   tallied-alike (refused n) (refused n′) h = h
@@ -163,8 +163,8 @@ module _ (p : Profile) (tally fragment : List ℕ) (rows : ℕ) where
 
   -- WHAT IS WRITTEN
 
-  counted-kept : (counts : Bool) (addr place : ℕ) → addr < P → (counts && noPlace tally place) ≡ false → Kept tally (pick counts (countedAt tally addr place) tally)
-  unfolding countedAt noPlace
+  counted-kept : (counts : Bool) (addr place : ℕ) → addr < P → (counts && cannotCount tally place) ≡ false → Kept tally (pick counts (countedAt tally addr place) tally)
+  unfolding countedAt cannotCount
   counted-kept true addr place h e = one (isFree tally place)
     where
       few : countIn tally place < 16777216
@@ -178,15 +178,15 @@ module _ (p : Profile) (tally fragment : List ℕ) (rows : ℕ) where
   left-kept : (a : Answer MadeRow) → Kept tally (tallyAfter p tally fragment rows (tallied p tally fragment rows a))
   unfolding tallied tallyAfter
   left-kept (refused n) = stays tally
-  left-kept (accepted m) = one (countsNext p fragment rows && noPlace tally (placeFor tally (rowAddr m))) refl
+  left-kept (accepted m) = one (countsNext p fragment rows && cannotCount tally (placeFor tally (rowAddr m))) refl
     where
-      one : (full : Bool) → (countsNext p fragment rows && noPlace tally (placeFor tally (rowAddr m))) ≡ full → Kept tally (tallyAfter p tally fragment rows (refuseIf full 32 (accepted m)))
+      one : (full : Bool) → (countsNext p fragment rows && cannotCount tally (placeFor tally (rowAddr m))) ≡ full → Kept tally (tallyAfter p tally fragment rows (refuseIf full 32 (accepted m)))
       one true e = stays tally
       one false e = counted-kept (countsNext p fragment rows) (rowAddr m) (placeFor tally (rowAddr m)) (read-below (m .row .addr)) e
 
   tallied-room : (cells : ℕ) (t : CoreTraceGenerationTracer) (a : Answer MadeRow) → Gives (Room cells t) a → Gives (Room cells t) (tallied p tally fragment rows a)
   unfolding tallied
-  tallied-room cells t (accepted m) h = if-gives (Room cells t) (countsNext p fragment rows && noPlace tally (placeFor tally (rowAddr m))) 32 (accepted m) h
+  tallied-room cells t (accepted m) h = if-gives (Room cells t) (countsNext p fragment rows && cannotCount tally (placeFor tally (rowAddr m))) 32 (accepted m) h
   tallied-room cells t (refused n) h = h
 
 -- THE CALL

@@ -4,7 +4,7 @@ use mathlib.Core.Bool.{Bool, true, false}
 use mathlib.Core.List.{List, [], _∷_, _++_, map}
 use Prim.Native.Nat.{ℕ}
 use native.Mathlib.Omega.{arith}
-use lib.ListN.{take, replicate}
+use lib.ListN.{take, drop, replicate}
 use Rattle.field.specs.Inverse.{euclid, inverseOf}
 use Rattle.field.specs.Cells.{cellAt, reduced}
 use Rattle.groups.specs.Words.{wordAt}
@@ -31,20 +31,24 @@ use Rattle.rows.specs.records.Cells.{rowCells, putRow}
 use Rattle.rows.specs.cycles.Scans.{anyBigOpcode, anyLongBlock, anyLargeBatch, forestTooLarge, scanOf}
 use Rattle.rows.specs.records.Cells.{fragmentWrong}
 use Rattle.rows.specs.cycles.Cycles.{fresh, storedIn, cycleWith, cycle, leftAfter, tracerAfter, lastSystem, lastStack, fragmentAfter, finalState, forPasses}
-use Rattle.rows.specs.cycles.Tallies.{isFree, isOf, firstFrom, placeFor, countedAt, noPlace, countsNext, tallied, tallyAfter, talliedCycle}
+use Rattle.rows.specs.cycles.Tallies.{isFree, isOf, firstFrom, placeFor, countedAt, cannotCount, countsNext, tallied, tallyAfter, talliedCycle}
 use Rattle.rows.specs.records.Buffers.{rowsOf, bufferRow, flat, onRows, lastRow, addrOf, lowBits, opcodeOf, bufferWrong, fewerRows}
 use Rattle.rows.specs.passes.Passes.{withSides, firstRow, laterRows, fixedUp, builtOf, flaggedEnd, bodyEnds, withCounts, anyWithoutBody, multiplied, loopWithoutBody, inverted, haltDecoder, haltStack, haltRow, halted, paddingRow, paddingRows, padded, sumOf, anyAbove, notFull, fragmentsWrong, heightWrong, refusal1, refusal2, refusal3, refusal4, refusal5, refusalAll, lastBuilt, allPasses}
 use Rattle.groups.specs.Answer.{firstOf}
+use Rattle.rows.proofs.passes.Tallies.{zero-at}
 use Rattle.theory_readings.specs.Tokens.{controls, controlOpcodes, isOpOpcode, countOf}
 use Rattle.theory_readings.specs.Readings.{Ops, Block, Passes, depthOf, allRows, Trace}
 use Rattle.theory_readings.proofs.Examples.{profile}
 use Rattle.theory_runs.specs.Calls.{Call, store, finish, Fragment, after, callRefusal, afterAll, Accepted, AllAccepted, finalStates, cellsOf, countsOf, builtCells, OneSize}
-use Rattle.theory_runs.specs.LiveCalls.{LiveFragment, liveRefusal, liveAfter, liveAfterAll, LiveAccepted, AllLiveAccepted, tallies}
-use Rattle.theory_runs.specs.Tallies.{talliedAt, talliesAt, rowsEach, crossings}
+use Rattle.theory_runs.specs.LiveCalls.{LiveCall, call, lend, LiveFragment, callsOf, plainAll, liveRefusal, liveAfter, liveAfterAll, LiveAccepted, AllLiveAccepted, liveEnds, liveFinals, liveCells, NoneLent, LentAsZeros}
+use Rattle.theory_runs.specs.LiveFinished.{liveByFinisher, LiveFinisherPasses}
+use Rattle.theory_runs.specs.Tallies.{talliedAt, talliesAt, crossing, crossings, overFragments, CountsSet}
 use Rattle.theory_runs.specs.Happened.{nothingStored, startOf, operationAt, finishOf, didBy, didStored, usedBy, positionsAfter, stored, leftBy, inForceAfter, inForceAfterAll, cyclesIn, cyclesOf}
 use Rattle.theory_runs.specs.ProperRuns.{Holds, HasOperations, HasOpcode, withLoop, loopStarts, InBlock, Run, RunPasses, opsFrom, treeFrom}
 use Rattle.theory_runs.specs.Finished.{Runs, nesting, buffer1, buffer2, buffer3, buffer4, finisherBuffer, writtenByFive, writtenByFinisher, FivePass, FinisherPasses}
 use Rattle.theory_runs.proofs.TraceOfRun.{finisher-trace, five-trace}
+use Rattle.theory_runs.proofs.LiveTraces.{live-written}
+use Rattle.theory_runs.proofs.TallySums.{tallies-add-up-finished}
 
 -- slot 0 a loop, slot 1 its body, a block of one batch with the operation 5
 unfoldable forestA : Forest
@@ -158,28 +162,80 @@ listing : fields (allRows (writtenByFinisher profile queued 4 fragments begin []
 unfolding forestA queued begin storeOf cycleOf calls1 calls2 calls3 fragments AllAccepted Accepted callRefusal after afterAll finalState cycle cycleWith scanOf anyBigOpcode forestTooLarge anyLongBlock anyLargeBatch readRegisters helpersOfCells systemCells stackCells anyFrom profileWrong opcodes twoEqual isOneOf lacksBits fragmentWrong made startNode startKind startBlock startOne madeEnd madeRepeat finishLoop bodyOf blockKind entryKind operationMade resumed nodeAt nodeOf isSlot digestAt opcodeAt blockOf startedAt entryAt endAt batchAt isBatch startsAt batchFlags flagsUpTo8 contextAtOp groupOf falling groupFrom placeIn contextInGroup consumed counts doubled roundUp groupsOf sumGroups anyAbove8 groupSum pushes opContext tooLarge helpersAnswer allBelow u32Values helpersOf tracerAfter leftAfter storedIn fragmentAfter putRow rowCells decoderCells fresh builtSystem builtStack noSystem noStack lastSystem lastStack controlFlow basicBlockBatch operation wordAt finalStates countsOf forPasses builtCells cellsOf refusalAll firstOf sumOf fragmentsWrong bufferWrong fewerRows anyAbove heightWrong notFull loopWithoutBody anyWithoutBody bodyEnds rowsOf opcodeOf lowBits flaggedEnd finisherBuffer allPasses onRows flat fixedUp firstRow withSides laterRows builtOf multiplied withCounts inverted inverseOf euclid lastBuilt halted lastRow haltRow haltDecoder haltStack padded paddingRows paddingRow allRows fields cellAt reduced readSystem readStack readState readCaptured
 listing = refl
 
--- WITH A TALLY
+-- WITH TALLIES
 
--- the run in one fragment, with a tally (N9)
-unfoldable allCalls : List Call
-allCalls = calls1 ++ calls2 ++ calls3
+-- a run without tallies, each cycle then lent what the one before left, the first one zeros
+unfoldable withZeros : Fragment → LiveFragment
+withZeros fragment = record { calls = map call (fragment .calls); cells = fragment .cells; tally = replicate 512 0 }
 
-unfoldable live : List LiveFragment
-live = record { own = record { calls = allCalls; cells = replicate 441 9 }; numbers = 512 } ∷ []
+with-zeros : (fragments : List Fragment) → LentAsZeros (map withZeros fragments)
+unfolding withZeros LentAsZeros NoneLent
+with-zeros [] = tt
+with-zeros (fragment ∷ fragments) = ((λ i h. zero-at 512 i), none (fragment .calls), with-zeros fragments)
+  where
+    none : (calls : List Call) → NoneLent (map call calls)
+    none [] = tt
+    none (c ∷ calls) = none calls
 
-live-free : AllLiveAccepted profile queued live begin
-unfolding forestA queued begin storeOf cycleOf calls1 calls2 calls3 finalState cycleWith scanOf anyBigOpcode forestTooLarge anyLongBlock anyLargeBatch readRegisters helpersOfCells systemCells stackCells anyFrom profileWrong opcodes twoEqual isOneOf lacksBits fragmentWrong made startNode startKind startBlock startOne madeEnd madeRepeat finishLoop bodyOf blockKind entryKind operationMade resumed nodeAt nodeOf isSlot digestAt opcodeAt blockOf startedAt entryAt endAt batchAt isBatch startsAt batchFlags flagsUpTo8 contextAtOp groupOf falling groupFrom placeIn contextInGroup consumed counts doubled roundUp groupsOf sumGroups anyAbove8 groupSum pushes opContext tooLarge helpersAnswer allBelow u32Values helpersOf tracerAfter leftAfter storedIn fragmentAfter putRow rowCells decoderCells fresh builtSystem builtStack noSystem noStack lastSystem lastStack controlFlow basicBlockBatch operation wordAt cellAt reduced readSystem readStack readState readCaptured allCalls live AllLiveAccepted LiveAccepted liveRefusal liveAfter liveAfterAll talliedCycle tallied tallyAfter countsNext placeFor firstFrom isOf isFree noPlace countedAt bufferRow opcodeOf lowBits flaggedEnd
-live-free = ((refl, (refl, (refl, (refl, (refl, (refl, (refl, (refl, (refl, (refl, (refl, (refl, (refl, (refl, (refl, (refl, (refl, (refl, refl)))))))))))))))))), tt)
+-- in one fragment both passes are counted at the address behind their ENDs, the loop's
+unfoldable live9 : List LiveFragment
+live9 = map withZeros (record { calls = calls1 ++ calls2 ++ calls3; cells = replicate 441 9 } ∷ [])
 
--- both passes are counted at the address behind their ENDs, the loop's
-counted : map (take 4) (tallies profile queued live begin) ≡ (1 ∷ 2 ∷ 0 ∷ 0 ∷ []) ∷ []
-unfolding forestA queued begin storeOf cycleOf calls1 calls2 calls3 finalState cycleWith scanOf anyBigOpcode forestTooLarge anyLongBlock anyLargeBatch readRegisters helpersOfCells systemCells stackCells anyFrom profileWrong opcodes twoEqual isOneOf lacksBits fragmentWrong made startNode startKind startBlock startOne madeEnd madeRepeat finishLoop bodyOf blockKind entryKind operationMade resumed nodeAt nodeOf isSlot digestAt opcodeAt blockOf startedAt entryAt endAt batchAt isBatch startsAt batchFlags flagsUpTo8 contextAtOp groupOf falling groupFrom placeIn contextInGroup consumed counts doubled roundUp groupsOf sumGroups anyAbove8 groupSum pushes opContext tooLarge helpersAnswer allBelow u32Values helpersOf tracerAfter leftAfter storedIn fragmentAfter putRow rowCells decoderCells fresh builtSystem builtStack noSystem noStack lastSystem lastStack controlFlow basicBlockBatch operation wordAt cellAt reduced readSystem readStack readState readCaptured allCalls live AllLiveAccepted LiveAccepted liveRefusal liveAfter liveAfterAll talliedCycle tallied tallyAfter countsNext placeFor firstFrom isOf isFree noPlace countedAt bufferRow opcodeOf lowBits flaggedEnd tallies
+counted : map (λ z. take 4 (z .tally)) (liveEnds profile queued live9 begin) ≡ (1 ∷ 2 ∷ 0 ∷ 0 ∷ []) ∷ []
+unfolding forestA queued begin storeOf cycleOf calls1 calls2 calls3 finalState cycleWith scanOf anyBigOpcode forestTooLarge anyLongBlock anyLargeBatch readRegisters helpersOfCells systemCells stackCells anyFrom profileWrong opcodes twoEqual isOneOf lacksBits fragmentWrong made startNode startKind startBlock startOne madeEnd madeRepeat finishLoop bodyOf blockKind entryKind operationMade resumed nodeAt nodeOf isSlot digestAt opcodeAt blockOf startedAt entryAt endAt batchAt isBatch startsAt batchFlags flagsUpTo8 contextAtOp groupOf falling groupFrom placeIn contextInGroup consumed counts doubled roundUp groupsOf sumGroups anyAbove8 groupSum pushes opContext tooLarge helpersAnswer allBelow u32Values helpersOf tracerAfter leftAfter storedIn fragmentAfter putRow rowCells decoderCells fresh builtSystem builtStack noSystem noStack lastSystem lastStack controlFlow basicBlockBatch operation wordAt cellAt reduced readSystem readStack readState readCaptured AllLiveAccepted LiveAccepted liveRefusal liveAfter liveAfterAll talliedCycle tallied tallyAfter countsNext placeFor firstFrom isOf isFree cannotCount countedAt bufferRow opcodeOf lowBits flaggedEnd live9 withZeros liveEnds
 counted = refl
 
--- in fragments of 4 each END of a body ends a fragment
-unfoldable live4 : List LiveFragment
-live4 = map (λ fragment. record { own = fragment; numbers = 512 }) fragments
+-- in fragments of 8 the second END of a body ends a fragment
+unfoldable fragments8 : List Fragment
+fragments8 = record { calls = calls1 ++ calls2; cells = replicate 392 9 } ∷ record { calls = calls3; cells = replicate 392 9 } ∷ []
 
-crossed : (talliesAt 1 (tallies profile queued live4 begin) ≡ 0) × (crossings profile 1 (rowsEach profile queued live4 begin) ≡ 2)
-unfolding forestA queued begin storeOf cycleOf calls1 calls2 calls3 finalState cycleWith scanOf anyBigOpcode forestTooLarge anyLongBlock anyLargeBatch readRegisters helpersOfCells systemCells stackCells anyFrom profileWrong opcodes twoEqual isOneOf lacksBits fragmentWrong made startNode startKind startBlock startOne madeEnd madeRepeat finishLoop bodyOf blockKind entryKind operationMade resumed nodeAt nodeOf isSlot digestAt opcodeAt blockOf startedAt entryAt endAt batchAt isBatch startsAt batchFlags flagsUpTo8 contextAtOp groupOf falling groupFrom placeIn contextInGroup consumed counts doubled roundUp groupsOf sumGroups anyAbove8 groupSum pushes opContext tooLarge helpersAnswer allBelow u32Values helpersOf tracerAfter leftAfter storedIn fragmentAfter putRow rowCells decoderCells fresh builtSystem builtStack noSystem noStack lastSystem lastStack controlFlow basicBlockBatch operation wordAt cellAt reduced readSystem readStack readState readCaptured fragments live4 AllLiveAccepted LiveAccepted liveRefusal liveAfter liveAfterAll talliedCycle tallied tallyAfter countsNext placeFor firstFrom isOf isFree noPlace countedAt bufferRow opcodeOf lowBits flaggedEnd tallies talliesAt talliedAt rowsEach crossings rowsOf lastRow
+abbrev live8 : List LiveFragment
+live8 = map withZeros fragments8
+
+crossed : (talliesAt 1 (liveEnds profile queued live8 begin) ≡ 1) × (crossings profile 1 (liveEnds profile queued live8 begin) ≡ 1)
+unfolding forestA queued begin storeOf cycleOf calls1 calls2 calls3 finalState cycleWith scanOf anyBigOpcode forestTooLarge anyLongBlock anyLargeBatch readRegisters helpersOfCells systemCells stackCells anyFrom profileWrong opcodes twoEqual isOneOf lacksBits fragmentWrong made startNode startKind startBlock startOne madeEnd madeRepeat finishLoop bodyOf blockKind entryKind operationMade resumed nodeAt nodeOf isSlot digestAt opcodeAt blockOf startedAt entryAt endAt batchAt isBatch startsAt batchFlags flagsUpTo8 contextAtOp groupOf falling groupFrom placeIn contextInGroup consumed counts doubled roundUp groupsOf sumGroups anyAbove8 groupSum pushes opContext tooLarge helpersAnswer allBelow u32Values helpersOf tracerAfter leftAfter storedIn fragmentAfter putRow rowCells decoderCells fresh builtSystem builtStack noSystem noStack lastSystem lastStack controlFlow basicBlockBatch operation wordAt cellAt reduced readSystem readStack readState readCaptured AllLiveAccepted LiveAccepted liveRefusal liveAfter liveAfterAll talliedCycle tallied tallyAfter countsNext placeFor firstFrom isOf isFree cannotCount countedAt bufferRow opcodeOf lowBits flaggedEnd fragments8 withZeros liveEnds talliesAt talliedAt crossing crossings rowsOf lastRow
 crossed = (refl, refl)
+
+free8 : AllLiveAccepted profile queued live8 begin
+unfolding forestA queued begin storeOf cycleOf calls1 calls2 calls3 finalState cycleWith scanOf anyBigOpcode forestTooLarge anyLongBlock anyLargeBatch readRegisters helpersOfCells systemCells stackCells anyFrom profileWrong opcodes twoEqual isOneOf lacksBits fragmentWrong made startNode startKind startBlock startOne madeEnd madeRepeat finishLoop bodyOf blockKind entryKind operationMade resumed nodeAt nodeOf isSlot digestAt opcodeAt blockOf startedAt entryAt endAt batchAt isBatch startsAt batchFlags flagsUpTo8 contextAtOp groupOf falling groupFrom placeIn contextInGroup consumed counts doubled roundUp groupsOf sumGroups anyAbove8 groupSum pushes opContext tooLarge helpersAnswer allBelow u32Values helpersOf tracerAfter leftAfter storedIn fragmentAfter putRow rowCells decoderCells fresh builtSystem builtStack noSystem noStack lastSystem lastStack controlFlow basicBlockBatch operation wordAt cellAt reduced readSystem readStack readState readCaptured AllLiveAccepted LiveAccepted liveRefusal liveAfter liveAfterAll talliedCycle tallied tallyAfter countsNext placeFor firstFrom isOf isFree cannotCount countedAt bufferRow opcodeOf lowBits flaggedEnd fragments8 withZeros
+free8 = (
+  (refl, (refl, (refl, (refl, (refl, (refl, (refl, (refl, (refl, (refl, (refl, (refl, (refl, (refl, (refl, (refl, refl)))))))))))))))),
+  ((refl, (refl, refl)), tt),
+)
+
+passes8 : LiveFinisherPasses profile queued 8 live8 begin [] (replicate 16 0) 10
+unfolding forestA queued begin storeOf cycleOf calls1 calls2 calls3 finalState cycleWith scanOf anyBigOpcode forestTooLarge anyLongBlock anyLargeBatch readRegisters helpersOfCells systemCells stackCells anyFrom profileWrong opcodes twoEqual isOneOf lacksBits fragmentWrong made startNode startKind startBlock startOne madeEnd madeRepeat finishLoop bodyOf blockKind entryKind operationMade resumed nodeAt nodeOf isSlot digestAt opcodeAt blockOf startedAt entryAt endAt batchAt isBatch startsAt batchFlags flagsUpTo8 contextAtOp groupOf falling groupFrom placeIn contextInGroup consumed counts doubled roundUp groupsOf sumGroups anyAbove8 groupSum pushes opContext tooLarge helpersAnswer allBelow u32Values helpersOf tracerAfter leftAfter storedIn fragmentAfter putRow rowCells decoderCells fresh builtSystem builtStack noSystem noStack lastSystem lastStack controlFlow basicBlockBatch operation wordAt countsOf forPasses builtCells refusalAll firstOf sumOf fragmentsWrong bufferWrong fewerRows anyAbove heightWrong notFull loopWithoutBody anyWithoutBody bodyEnds rowsOf opcodeOf lowBits flaggedEnd cellAt reduced readSystem readStack readState readCaptured AllLiveAccepted LiveAccepted liveRefusal liveAfter liveAfterAll talliedCycle tallied tallyAfter countsNext placeFor firstFrom isOf isFree cannotCount countedAt bufferRow fragments8 withZeros liveEnds liveFinals liveCells
+passes8 = refl
+
+-- so its count is the sum
+sum8 : CountsSet profile (overFragments profile (liveEnds profile queued live8 begin)) 9 (liveByFinisher profile queued 8 live8 begin [] (replicate 16 0) 10)
+unfolding forestA queued begin storeOf cycleOf calls1 calls2 calls3 finalState cycleWith scanOf anyBigOpcode forestTooLarge anyLongBlock anyLargeBatch readRegisters helpersOfCells systemCells stackCells anyFrom profileWrong opcodes twoEqual isOneOf lacksBits fragmentWrong made startNode startKind startBlock startOne madeEnd madeRepeat finishLoop bodyOf blockKind entryKind operationMade resumed nodeAt nodeOf isSlot digestAt opcodeAt blockOf startedAt entryAt endAt batchAt isBatch startsAt batchFlags flagsUpTo8 contextAtOp groupOf falling groupFrom placeIn contextInGroup consumed counts doubled roundUp groupsOf sumGroups anyAbove8 groupSum pushes opContext tooLarge helpersAnswer allBelow u32Values helpersOf tracerAfter leftAfter storedIn fragmentAfter putRow rowCells decoderCells fresh builtSystem builtStack noSystem noStack lastSystem lastStack controlFlow basicBlockBatch operation wordAt countsOf forPasses builtCells refusalAll firstOf sumOf fragmentsWrong bufferWrong fewerRows anyAbove heightWrong notFull loopWithoutBody anyWithoutBody bodyEnds rowsOf opcodeOf lowBits flaggedEnd cellAt reduced readSystem readStack readState readCaptured AllLiveAccepted LiveAccepted liveRefusal liveAfter liveAfterAll talliedCycle tallied tallyAfter countsNext placeFor firstFrom isOf isFree cannotCount countedAt bufferRow fragments8 withZeros plainAll callsOf liveEnds liveFinals OneSize
+sum8 = tallies-add-up-finished profile queued 8 live8 begin (with-zeros fragments8) free8 [] (replicate 16 0) 10 (refl, refl, tt) passes8
+
+-- in fragments of 4 with other numbers in the tallies, one of them lent between two cycles
+unfoldable live4 : List LiveFragment
+live4 =
+    record { calls = map call calls1; cells = replicate 196 9; tally = 7 ∷ 1 ∷ replicate 511 0 }
+    ∷ record { calls = map call (take 4 calls2) ++ (lend (replicate 512 6) ∷ map call (drop 4 calls2)); cells = replicate 196 9; tally = replicate 600 5 }
+    ∷ record { calls = map call calls3; cells = replicate 196 9; tally = replicate 512 0 } ∷ []
+
+plain4 : plainAll live4 ≡ fragments
+unfolding live4 calls1 calls2 calls3 fragments plainAll callsOf
+plain4 = refl
+
+free4 : AllLiveAccepted profile queued live4 begin
+unfolding forestA queued begin storeOf cycleOf calls1 calls2 calls3 finalState cycleWith scanOf anyBigOpcode forestTooLarge anyLongBlock anyLargeBatch readRegisters helpersOfCells systemCells stackCells anyFrom profileWrong opcodes twoEqual isOneOf lacksBits fragmentWrong made startNode startKind startBlock startOne madeEnd madeRepeat finishLoop bodyOf blockKind entryKind operationMade resumed nodeAt nodeOf isSlot digestAt opcodeAt blockOf startedAt entryAt endAt batchAt isBatch startsAt batchFlags flagsUpTo8 contextAtOp groupOf falling groupFrom placeIn contextInGroup consumed counts doubled roundUp groupsOf sumGroups anyAbove8 groupSum pushes opContext tooLarge helpersAnswer allBelow u32Values helpersOf tracerAfter leftAfter storedIn fragmentAfter putRow rowCells decoderCells fresh builtSystem builtStack noSystem noStack lastSystem lastStack controlFlow basicBlockBatch operation wordAt cellAt reduced readSystem readStack readState readCaptured AllLiveAccepted LiveAccepted liveRefusal liveAfter liveAfterAll talliedCycle tallied tallyAfter countsNext placeFor firstFrom isOf isFree cannotCount countedAt bufferRow opcodeOf lowBits flaggedEnd live4
+free4 = (
+  (refl, (refl, (refl, (refl, (refl, (refl, (refl, (refl, refl)))))))),
+  ((refl, (refl, (refl, (refl, (refl, (refl, (refl, (refl, refl)))))))), ((refl, (refl, refl)), tt)),
+)
+
+passes4 : LiveFinisherPasses profile queued 4 live4 begin [] (replicate 16 0) 10
+unfolding forestA queued begin storeOf cycleOf calls1 calls2 calls3 finalState cycleWith scanOf anyBigOpcode forestTooLarge anyLongBlock anyLargeBatch readRegisters helpersOfCells systemCells stackCells anyFrom profileWrong opcodes twoEqual isOneOf lacksBits fragmentWrong made startNode startKind startBlock startOne madeEnd madeRepeat finishLoop bodyOf blockKind entryKind operationMade resumed nodeAt nodeOf isSlot digestAt opcodeAt blockOf startedAt entryAt endAt batchAt isBatch startsAt batchFlags flagsUpTo8 contextAtOp groupOf falling groupFrom placeIn contextInGroup consumed counts doubled roundUp groupsOf sumGroups anyAbove8 groupSum pushes opContext tooLarge helpersAnswer allBelow u32Values helpersOf tracerAfter leftAfter storedIn fragmentAfter putRow rowCells decoderCells fresh builtSystem builtStack noSystem noStack lastSystem lastStack controlFlow basicBlockBatch operation wordAt countsOf forPasses builtCells refusalAll firstOf sumOf fragmentsWrong bufferWrong fewerRows anyAbove heightWrong notFull loopWithoutBody anyWithoutBody bodyEnds rowsOf opcodeOf lowBits flaggedEnd cellAt reduced readSystem readStack readState readCaptured AllLiveAccepted LiveAccepted liveRefusal liveAfter liveAfterAll talliedCycle tallied tallyAfter countsNext placeFor firstFrom isOf isFree cannotCount countedAt bufferRow live4 liveEnds liveFinals liveCells
+passes4 = refl
+
+-- what is written is read as the run
+trace4 : Trace profile (liveByFinisher profile queued 4 live4 begin [] (replicate 16 0) 10) (nesting runs)
+trace4 =
+    live-written profile queued 4 live4 begin free4 [] (replicate 16 0) 10 (λ cells. Trace profile cells (nesting runs))
+    (rw plain4 (finisher-trace profile queued 4 fragments begin runs [] (replicate 16 0) 10)) passes4

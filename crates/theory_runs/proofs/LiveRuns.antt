@@ -21,10 +21,11 @@ use Rattle.rows.specs.records.Cells.{fragmentWrong}
 use Rattle.rows.specs.cycles.Scans.{scanOf}
 use Rattle.rows.specs.cycles.Made.{Cursor, cursor, made}
 use Rattle.rows.specs.cycles.Cycles.{continuationOf, refuseIf, cycleWith, cycle, finalState}
-use Rattle.rows.specs.cycles.Tallies.{placeFor, noPlace, countsNext, rowAddr, withTally, tallied, talliedCycle}
+use Rattle.rows.specs.cycles.Tallies.{placeFor, cannotCount, countsNext, rowAddr, withTally, tallied, talliedCycle}
 use Rattle.groups.proofs.OneGroup.{neither}
 use Rattle.theory_runs.specs.Calls.{Handed, Call, store, finish, answered, after, callRefusal, afterAll, Accepted, closed, cursorOf, AllAccepted, finalStates, cellsOf}
-use Rattle.theory_runs.specs.LiveCalls.{Live, LiveFragment, ownOf, liveAnswered, liveAfter, liveRefusal, liveAfterAll, LiveAccepted, liveOpened, liveClosed, liveCursor, AllLiveAccepted, liveFinals, liveCells}
+use Rattle.theory_runs.specs.LiveCalls.{Live, LiveCall, call, lend, LiveFragment, callsOf, plainOf, plainAll, liveAnswered, liveAfter, liveRefusal, liveAfterAll, LiveAccepted, liveOpened, liveClosed, liveCursor, AllLiveAccepted, liveEnds, liveFinals, liveCells}
+use Rattle.theory_runs.specs.LiveFinished.{SameRun}
 use Rattle.theory_runs.proofs.Answers.{Numbered, accepted-of, then-numbered, if-numbered, cycle-with-numbered, then-accepted, if-accepted}
 
 -- ONE CYCLE
@@ -58,14 +59,14 @@ module _ (p : Profile) (f : Forest) (q : Queues) (stack : StackState) (registers
     pub record LiveCame (m : MadeRow) : Type 0 where
       pub plain : cycle p f q stack registers (length cells) t ≡ accepted m
       pub places : 512 ≤ length tally
-      pub counts : (countsNext p cells (t .«row_write_index») && noPlace tally (placeFor tally (rowAddr m))) ≡ false
+      pub counts : (countsNext p cells (t .«row_write_index») && cannotCount tally (placeFor tally (rowAddr m))) ≡ false
 
     pub live-came : (m : MadeRow) → talliedCycle p f q stack registers tally cells t ≡ accepted m → LiveCame m
     unfolding talliedCycle tallied cycle
     live-came m e =
         let scan : Scan = scanOf p (f .nodes) (f .batches) (f .ops) in
         let (row, e1, e2) = then-accepted (cycleWith (withTally (length tally) scan) p f q stack registers (length cells) t) _ m e in
-        let (e3, e4) = if-accepted (countsNext p cells (t .«row_write_index») && noPlace tally (placeFor tally (rowAddr row))) 32 (accepted row) m e2 in
+        let (e3, e4) = if-accepted (countsNext p cells (t .«row_write_index») && cannotCount tally (placeFor tally (rowAddr row))) 32 (accepted row) m e2 in
         let same : row ≡ m = cc in
         let (plain, places) = without-tally scan (length tally) (length cells) t row e1 in
         record { plain = rw same at plain; places = places; counts = rw same at e3 }
@@ -75,7 +76,7 @@ module _ (p : Profile) (f : Forest) (q : Queues) (stack : StackState) (registers
     live-numbered =
         then-numbered (cycleWith (withTally (length tally) (scanOf p (f .nodes) (f .batches) (f .ops))) p f q stack registers (length cells) t) _
         (cycle-with-numbered p f q stack registers (length cells) t (withTally (length tally) (scanOf p (f .nodes) (f .batches) (f .ops))))
-        (λ m. if-numbered (countsNext p cells (t .«row_write_index») && noPlace tally (placeFor tally (rowAddr m))) 31 (accepted m) tt)
+        (λ m. if-numbered (countsNext p cells (t .«row_write_index») && cannotCount tally (placeFor tally (rowAddr m))) 31 (accepted m) tt)
 
     pub live-answer : refusal (talliedCycle p f q stack registers tally cells t) ≡ 0 → (m : MadeRow) × (talliedCycle p f q stack registers tally cells t ≡ accepted m)
     live-answer e = accepted-of (talliedCycle p f q stack registers tally cells t) live-numbered e
@@ -99,38 +100,35 @@ module _ (p : Profile) (q : Queues) where
   unfolding liveAfter after
   live-stored z values = refl
 
-  pub live-calls : (calls : List Call) (z : Live) → LiveAccepted p q calls z →
-      Accepted p q calls (z .held) × (liveAfterAll p q calls z .held ≡ afterAll p q calls (z .held))
-  unfolding LiveAccepted Accepted liveRefusal callRefusal liveAfterAll afterAll
+  -- whatever tallies are lent
+  pub live-calls : (calls : List LiveCall) (z : Live) → LiveAccepted p q calls z →
+      Accepted p q (callsOf calls) (z .held) × (liveAfterAll p q calls z .held ≡ afterAll p q (callsOf calls) (z .held))
+  unfolding LiveAccepted Accepted liveRefusal callRefusal liveAfterAll afterAll callsOf
   live-calls [] z a = (a, refl)
-  live-calls (store values ∷ calls) z a =
+  live-calls (call (store values) ∷ calls) z a =
       let same = live-stored z values in
       let r = live-calls calls (liveAfter p q z (store values)) (a .1) in
-      ((a .0, rw same at (r .0)), r .1 ∙ ap (afterAll p q calls) same)
-  live-calls (finish i ∷ calls) z a =
+      ((a .0, rw same at (r .0)), r .1 ∙ ap (afterAll p q (callsOf calls)) same)
+  live-calls (call (finish i) ∷ calls) z a =
       let (m, e) = live-answer p (i .forest) q (i .stack) (i .registers) (z .tally) (z .held .cells) (z .held .tracer) (a .0) in
       let (plain, same) = live-same z i m e in
       let r = live-calls calls (liveAfter p q z (finish i)) (a .1) in
-      ((ap refusal plain, rw same at (r .0)), r .1 ∙ ap (afterAll p q calls) same)
+      ((ap refusal plain, rw same at (r .0)), r .1 ∙ ap (afterAll p q (callsOf calls)) same)
+  live-calls (lend tally ∷ calls) z a = live-calls calls (record { held = z .held; tally = tally }) a
 
-  live-closed : (here : Cursor) (fragment : LiveFragment) → LiveAccepted p q (fragment .own .calls) (liveOpened p q here fragment) → liveClosed p q here fragment .held ≡ closed p q here (fragment .own)
-  live-closed here fragment a = live-calls (fragment .own .calls) (liveOpened p q here fragment) a .1
+  live-closed : (here : Cursor) (fragment : LiveFragment) → LiveAccepted p q (fragment .calls) (liveOpened p q here fragment) → liveClosed p q here fragment .held ≡ closed p q here (plainOf fragment)
+  live-closed here fragment a = live-calls (fragment .calls) (liveOpened p q here fragment) a .1
 
   -- so a run with tallies is the run without, and the passes are handed the same
-  pub record SameRun (fragments : List LiveFragment) (here : Cursor) : Type 0 where
-    pub none-refused : AllAccepted p q (ownOf fragments) here
-    pub same-finals : liveFinals p q fragments here ≡ finalStates p q (ownOf fragments) here
-    pub same-cells : liveCells p q fragments here ≡ cellsOf p q (ownOf fragments) here
-
-  pub live-run : (fragments : List LiveFragment) (here : Cursor) → AllLiveAccepted p q fragments here → SameRun fragments here
-  unfolding AllLiveAccepted ownOf AllAccepted liveFinals finalStates liveCells cellsOf
-  live-run [] here a = record { none-refused = tt; same-finals = refl; same-cells = refl }
-  live-run (fragment ∷ fragments) here a =
+  pub live-as-calls : (fragments : List LiveFragment) (here : Cursor) → AllLiveAccepted p q fragments here → SameRun p q fragments here
+  unfolding AllLiveAccepted plainAll AllAccepted liveEnds liveFinals finalStates liveCells cellsOf
+  live-as-calls [] here a = record { none-refused = tt; same-finals = refl; same-cells = refl }
+  live-as-calls (fragment ∷ fragments) here a =
       let e = live-closed here fragment (a .0) in
-      let there : liveCursor p q here fragment ≡ cursorOf p q (closed p q here (fragment .own)) = ap (cursorOf p q) e in
-      let r = live-run fragments (liveCursor p q here fragment) (a .1) in
+      let there : liveCursor p q here fragment ≡ cursorOf p q (closed p q here (plainOf fragment)) = ap (cursorOf p q) e in
+      let r = live-as-calls fragments (liveCursor p q here fragment) (a .1) in
       record {
-        none-refused = (live-calls (fragment .own .calls) (liveOpened p q here fragment) (a .0) .0, rw there at (r .none-refused));
-        same-finals = ap₂ (λ z l. finalState (z .tracer) ∷ l) e (r .same-finals ∙ ap (finalStates p q (ownOf fragments)) there);
-        same-cells = ap₂ (λ z l. z .cells ++ l) e (r .same-cells ∙ ap (cellsOf p q (ownOf fragments)) there);
+        none-refused = (live-calls (fragment .calls) (liveOpened p q here fragment) (a .0) .0, rw there at (r .none-refused));
+        same-finals = ap₂ (λ z l. finalState (z .tracer) ∷ l) e (r .same-finals ∙ ap (finalStates p q (plainAll fragments)) there);
+        same-cells = ap₂ (λ z l. z .cells ++ l) e (r .same-cells ∙ ap (cellsOf p q (plainAll fragments)) there);
       }

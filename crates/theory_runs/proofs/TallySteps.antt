@@ -7,15 +7,15 @@ use Prim.Native.Nat.{ℕ, zero, suc, _+_, _*_, _%_, _≤_, _<_}
 use native.Mathlib.Omega.{arith}
 use native.Mathlib.Decide.{ℕ-discrete, decLt}
 use borrow.Author.Tests.{lt-ltb, le-ltb, eq-eqb, ne-eqb}
-use lib.ListN.{length, getD, set, replicate, length-append, length-set, List·getD-append}
+use lib.ListN.{length, getD, set, length-append, length-set, List·getD-append}
 use lib.Seq.{getD-append-seam, getD-set-same, getD-set-other}
 use Rattle.field.specs.Modulus.{P}
 use Rattle.field.specs.Cells.{cellAt}
 use Rattle.rows.specs.ways.Order.{hit, occurrences}
-use Rattle.rows.specs.cycles.Tallies.{countIn, isFree, isOf, firstFrom, first, placeFor, countedAt, noPlace}
+use Rattle.rows.specs.cycles.Tallies.{countIn, isFree, isOf, firstFrom, first, placeFor, countedAt, cannotCount}
 use Rattle.rows.proofs.passes.Occurrences.{hit-same, hit-other, occurrences-append}
-use Rattle.rows.proofs.passes.Tallies.{zero-at}
 use Rattle.rows.proofs.cycles.Tallying.{place-in-use, place-free, place-left}
+use Rattle.theory_runs.specs.LiveCalls.{Zeros}
 use Rattle.theory_runs.specs.Tallies.{withNew, onceFrom, onceEach, Tells, talliedAt}
 
 -- THE FIRST PLACE
@@ -29,11 +29,6 @@ first-is : (test : ℕ → Bool) (i from n : ℕ) → ((j : ℕ) → j < i → t
 first-is test i from zero none here l h = absurd (omega arith)
 first-is test i from (suc n) none here l h =
     first-or test i from n (ℕ-discrete from i) here (λ d. none from (omega arith)) (λ d. first-is test i (suc from) n none here (omega arith) (omega arith))
-
-first-none : (test : ℕ → Bool) (from n : ℕ) → ((j : ℕ) → test j ≡ false) → firstFrom test from n ≡ from + n
-unfolding firstFrom
-first-none test from zero none = omega arith
-first-none test from (suc n) none = rw (none from) (first-none test (suc from) n none ∙ omega arith)
 
 -- none before i: from i on, or all n
 first-past : (test : ℕ → Bool) (i from n : ℕ) → ((j : ℕ) → j < i → test j ≡ false) → from + n ≤ i → firstFrom test from n ≡ from + n
@@ -93,12 +88,12 @@ pub record Standing (l addrs tally : List ℕ) : Type 0 where
   pub few : length l ≤ 256
   pub address : (k : ℕ) → k < length l → getD tally (2 * k) 0 ≡ getD l k 0
   pub number : (k : ℕ) → k < length l → getD tally (2 * k + 1) 0 ≡ occurrences (getD l k 0) addrs
-  pub zeros : (i : ℕ) → 2 * length l ≤ i → getD tally i 0 ≡ 0
+  pub zeros : (i : ℕ) → 2 * length l ≤ i → i < 512 → getD tally i 0 ≡ 0
 
 -- a tally of zeros
-pub standing-none : (n : ℕ) → Standing [] [] (replicate n 0)
+pub standing-none : (tally : List ℕ) → Zeros tally → Standing [] [] tally
 unfolding occurrences
-standing-none n = record {
+standing-none tally zeros = record {
   apart = λ j k h i e. absurd (omega arith);
   from = λ k h. absurd (omega arith);
   all = λ x n. refl;
@@ -106,7 +101,7 @@ standing-none n = record {
   few = omega arith;
   address = λ k h. absurd (omega arith);
   number = λ k h. absurd (omega arith);
-  zeros = λ i h. zero-at n i;
+  zeros = λ i h. zeros i;
 }
 
 pub standing-tells : (addrs tally : List ℕ) → Standing (onceEach addrs) addrs tally → Tells addrs tally
@@ -117,9 +112,9 @@ module _ (l addrs tally : List ℕ) (s : Standing l addrs tally) where
   unfolding isFree
   in-use k h = ne-eqb (countIn tally k) 0 (λ e. omega (arith, s .number k h, s .from k h))
 
-  free-behind : (k : ℕ) → length l ≤ k → isFree tally k ≡ true
+  free-behind : (k : ℕ) → length l ≤ k → k < 256 → isFree tally k ≡ true
   unfolding isFree
-  free-behind k h = eq-eqb (countIn tally k) 0 (s .zeros (2 * k + 1) (omega arith))
+  free-behind k h g = eq-eqb (countIn tally k) 0 (s .zeros (2 * k + 1) (omega arith) (omega arith))
 
   cell-is : (k : ℕ) → k < length l → cellAt tally (2 * k) ≡ getD l k 0
   unfolding cellAt
@@ -133,9 +128,9 @@ module _ (l addrs tally : List ℕ) (s : Standing l addrs tally) where
   unfolding isOf
   of-other x k h d = rw (in-use k h, ne-eqb (cellAt tally (2 * k)) x (λ e. d (sym (cell-is k h) ∙ e)))
 
-  of-behind : (x k : ℕ) → length l ≤ k → isOf tally x k ≡ false
+  of-behind : (x k : ℕ) → length l ≤ k → k < 256 → isOf tally x k ≡ false
   unfolding isOf
-  of-behind x k h = rw (free-behind k h)
+  of-behind x k h g = rw (free-behind k h g)
 
   -- AN ADDRESS THAT HAS A PLACE
 
@@ -179,18 +174,18 @@ module _ (l addrs tally : List ℕ) (s : Standing l addrs tally) where
       few = s .few;
       address = λ k g. getD-set-other tally (2 * i + 1) (2 * k) (countIn tally i + 1) 0 (λ y. omega arith) ∙ s .address k g;
       number = λ k g. raised-number long k g (ℕ-discrete k i);
-      zeros = λ j g. getD-set-other tally (2 * i + 1) j (countIn tally i + 1) 0 (λ y. omega arith) ∙ s .zeros j g;
+      zeros = λ j g m. getD-set-other tally (2 * i + 1) j (countIn tally i + 1) 0 (λ y. omega arith) ∙ s .zeros j g m;
     }
 
   -- A NEW ADDRESS
 
   module _ (x : ℕ) (new : NotIn l x) where
-    of-none : (k : ℕ) → Dec (k < length l) → isOf tally x k ≡ false
-    of-none k (yes h) = of-other x k h (new k h)
-    of-none k (no d) = of-behind x k (omega arith)
+    of-none : (k : ℕ) → k < 256 → Dec (k < length l) → isOf tally x k ≡ false
+    of-none k g (yes h) = of-other x k h (new k h)
+    of-none k g (no d) = of-behind x k (omega arith) g
 
     none-of : first (isOf tally x) ≡ 256
-    none-of = first-none (isOf tally x) 0 256 (λ k. of-none k (decLt k (length l))) ∙ omega arith
+    none-of = first-past (isOf tally x) 256 0 256 (λ k g. of-none k g (decLt k (length l))) (omega arith) ∙ omega arith
 
     none-tallied : talliedAt x tally ≡ occurrences x addrs
     unfolding talliedAt
@@ -204,7 +199,7 @@ module _ (l addrs tally : List ℕ) (s : Standing l addrs tally) where
     new-seen = rw (le-ltb 0 (occurrences x l) (omega (arith, occurs-not l x new)))
 
     -- there is room for it
-    new-room : noPlace tally (placeFor tally x) ≡ false → Dec (length l < 256) → length l < 256
+    new-room : cannotCount tally (placeFor tally x) ≡ false → Dec (length l < 256) → length l < 256
     new-room left (yes h) = h
     new-room left (no d) =
         let full : first (isFree tally) ≡ 0 + 256 = first-past (isFree tally) (length l) 0 256 (λ j g. in-use j g) (omega arith) in
@@ -212,14 +207,14 @@ module _ (l addrs tally : List ℕ) (s : Standing l addrs tally) where
 
     module _ (room : length l < 256) where
       first-free : first (isFree tally) ≡ length l
-      first-free = first-is (isFree tally) (length l) 0 256 (λ j g. in-use j g) (free-behind (length l) (omega arith)) (omega arith) (omega arith)
+      first-free = first-is (isFree tally) (length l) 0 256 (λ j g. in-use j g) (free-behind (length l) (omega arith) room) (omega arith) (omega arith)
 
       abbrev taken : List ℕ
       taken = set (set tally (2 * length l) x) (2 * length l + 1) 1
 
       new-counted : countedAt tally x (length l) ≡ taken
       unfolding countedAt
-      new-counted = rw (free-behind (length l) (omega arith))
+      new-counted = rw (free-behind (length l) (omega arith) room)
 
       module _ (long : 512 ≤ length tally) (cell : x % P ≡ x) where
         kept-at : (j : ℕ) → (j ≡ 2 * length l → ⊥) → (j ≡ 2 * length l + 1 → ⊥) → getD taken j 0 ≡ getD tally j 0
@@ -260,12 +255,12 @@ module _ (l addrs tally : List ℕ) (s : Standing l addrs tally) where
           number = each-one (λ k v. getD taken (2 * k + 1) 0 ≡ occurrences v (addrs ++ (x ∷ [])))
               (λ k h. kept-at (2 * k + 1) (λ e. omega arith) (λ e. omega arith) ∙ omega (arith, s .number k h, occurs-snoc (getD l k 0) x addrs, hit-other x (getD l k 0) (λ e. new k h (sym e))))
               (getD-set-same (set tally (2 * length l) x) (2 * length l + 1) 1 0 (rw (length-set tally (2 * length l) x) (omega arith)) ∙ omega (arith, occurs-snoc x x addrs, hit-same x x refl, s .all x new));
-          zeros = λ i h. kept-at i (λ e. omega (arith, length-append l (x ∷ []))) (λ e. omega (arith, length-append l (x ∷ []))) ∙ s .zeros i (omega (arith, length-append l (x ∷ [])));
+          zeros = λ i h m. kept-at i (λ e. omega (arith, length-append l (x ∷ []))) (λ e. omega (arith, length-append l (x ∷ []))) ∙ s .zeros i (omega (arith, length-append l (x ∷ []))) m;
         }
 
   -- ONE ADDRESS MORE
 
-  step : (x : ℕ) → 512 ≤ length tally → x % P ≡ x → noPlace tally (placeFor tally x) ≡ false → In l x ⊎ NotIn l x →
+  step : (x : ℕ) → 512 ≤ length tally → x % P ≡ x → cannotCount tally (placeFor tally x) ≡ false → In l x ⊎ NotIn l x →
       Standing (withNew l x) (addrs ++ (x ∷ [])) (countedAt tally x (placeFor tally x))
   step x long cell left (inl (i, h, e)) = rw (there-place x i h e, there-seen x i h e, there-counted x i h e) (there-stands x i h e long)
   step x long cell left (inr new) =
@@ -273,7 +268,7 @@ module _ (l addrs tally : List ℕ) (s : Standing l addrs tally) where
       let at : placeFor tally x ≡ length l = new-place x new ∙ first-free x new room in
       rw (at, new-seen x new, new-counted x new room) (new-stands x new room long cell)
 
-  pub standing-more : (x : ℕ) → 512 ≤ length tally → x % P ≡ x → noPlace tally (placeFor tally x) ≡ false → Standing (withNew l x) (addrs ++ (x ∷ [])) (countedAt tally x (placeFor tally x))
+  pub standing-more : (x : ℕ) → 512 ≤ length tally → x % P ≡ x → cannotCount tally (placeFor tally x) ≡ false → Standing (withNew l x) (addrs ++ (x ∷ [])) (countedAt tally x (placeFor tally x))
   standing-more x long cell left = step x long cell left (find l x)
 
   told : (x : ℕ) → In l x ⊎ NotIn l x → talliedAt x tally ≡ occurrences x addrs
@@ -285,6 +280,6 @@ module _ (l addrs tally : List ℕ) (s : Standing l addrs tally) where
   standing-count x = told x (find l x)
 
 -- the same with each address once
-pub standing-once : (addrs tally : List ℕ) (x : ℕ) → Standing (onceEach addrs) addrs tally → 512 ≤ length tally → x % P ≡ x → noPlace tally (placeFor tally x) ≡ false →
+pub standing-once : (addrs tally : List ℕ) (x : ℕ) → Standing (onceEach addrs) addrs tally → 512 ≤ length tally → x % P ≡ x → cannotCount tally (placeFor tally x) ≡ false →
     Standing (onceEach (addrs ++ (x ∷ []))) (addrs ++ (x ∷ [])) (countedAt tally x (placeFor tally x))
 standing-once addrs tally x s long cell left = rw (once-snoc [] addrs x) (standing-more (onceEach addrs) addrs tally s x long cell left)

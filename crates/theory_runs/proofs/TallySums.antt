@@ -1,8 +1,8 @@
 -- Change request N9: the tallies of a run's fragments, with the flagged ENDs that end a fragment, add up to every count that pass 2 sets.
 use mathlib.Core.Path.{_≡_, _∙_, refl, sym, ap, ap₂}
-use mathlib.Core.Bool.{Bool, true, false, _&&_}
+use mathlib.Core.Bool.{Bool, true, false, _&&_, _||_}
 use mathlib.Core.List.{List, [], _∷_, _++_, append-nil}
-use Prim.Native.Nat.{ℕ, zero, suc, _+_, _-_, _*_, _<_}
+use Prim.Native.Nat.{ℕ, zero, suc, _+_, _-_, _*_, _/_, _≤_, _<_}
 use native.Mathlib.Omega.{arith}
 use borrow.Author.Tests.{ltb-false, eqb-false, eq-eqb}
 use lib.Dec.{ltb, eqb}
@@ -16,24 +16,26 @@ use Rattle.rows.specs.ways.Order.{hit, occurrences}
 use Rattle.rows.specs.declared.records.profile.Profile.{Profile}
 use Rattle.rows.specs.declared.cycles.tracer.TracerFinalState.{TracerFinalState}
 use Rattle.rows.specs.records.Addresses.{Queues}
-use Rattle.rows.specs.records.Buffers.{rowsOf, bufferRow, flat, lastRow, addrOf, lowBits, opcodeOf}
-use Rattle.rows.specs.passes.Passes.{fixedUp, builtOf, flaggedEnd, bodyEnds, withCounts, multiplied, inverted, haltRow, halted, padded, sumOf, notFull}
+use Rattle.rows.specs.records.Buffers.{rowsOf, bufferRow, flat, onRows, lastRow, addrOf, lowBits, opcodeOf, bufferWrong, fewerRows}
+use Rattle.rows.specs.passes.Passes.{fixedUp, builtOf, flaggedEnd, bodyEnds, withCounts, multiplied, inverted, haltRow, halted, padded, sumOf, notFull, refusal2}
 use Rattle.rows.specs.cycles.Made.{Cursor}
 use Rattle.rows.specs.cycles.Cycles.{finalState, forPasses}
+use Rattle.rows.proofs.passes.Checks.{none-first}
 use Rattle.rows.proofs.passes.Occurrences.{occurrences-append}
-use Rattle.rows.proofs.passes.RowLists.{Wide, row-at, rows-flat}
+use Rattle.rows.proofs.passes.RowLists.{Wide, wide-rows, length-rows, row-at, rows-flat}
 use Rattle.theory_reductions.proofs.CellsBelow.{ends-most}
 use Rattle.theory_runs.specs.Calls.{Fragment, opened, closed, cursorOf, AllAccepted, finalStates, countsOf, builtCells, OneSize}
-use Rattle.theory_runs.specs.LiveCalls.{LiveFragment, ownOf, LiveAccepted, liveOpened, liveClosed, liveCursor, AllLiveAccepted, liveFinals, tallies}
+use Rattle.theory_runs.specs.LiveCalls.{Live, LiveCall, call, lend, LiveFragment, callsOf, plainOf, plainAll, liveAfter, liveAfterAll, LiveAccepted, liveOpened, liveClosed, liveCursor, AllLiveAccepted, liveEnds, liveFinals, NoneLent, LentAsZeros, LentCall, liveAfterEach, FreshFragment, endsOf}
 use Rattle.theory_runs.specs.Written.{rowsIn, rowsRun}
 use Rattle.theory_runs.specs.LiveFinished.{liveByFive, liveByFinisher, LiveFivePass, LiveFinisherPasses}
-use Rattle.theory_runs.specs.Tallies.{successors, talliesAt, rowsEach, headRow, crossings, overFragments, LoopCounts}
+use Rattle.theory_runs.specs.Tallies.{successors, writtenSoFar, talliesAt, crossing, crossings, overFragments, rowsOfAll, NoneEmpty, CountsSet}
 use Rattle.theory_runs.proofs.Folded.{fragment-holding, count-rows, rows-wide, sum-rows}
-use Rattle.theory_runs.proofs.LiveRuns.{live-calls, live-run}
+use Rattle.theory_runs.proofs.LiveRuns.{live-calls, live-as-calls}
+use Rattle.theory_runs.proofs.LiveTraces.{live-written, live-written-by-five}
 use Rattle.theory_runs.proofs.Tallied.{hits}
-use Rattle.theory_runs.proofs.PassLooks.{decoderOf, cell-by, bits-by, count-decoder, count-bits, cell-other, cell-set, helper-decoder, fixed-looks, fixed-wide, fixed-length, ends-hits, multiplied-length, inverted-length}
+use Rattle.theory_runs.proofs.PassLooks.{decoderOf, cell-by, bits-by, count-decoder, count-bits, cell-other, cell-set, helper-decoder, fixed-looks, fixed-wide, fixed-length, ends-hits, multiplied-wide, multiplied-length, inverted-length}
 use Rattle.theory_runs.proofs.TallyTheorems.{tally-count}
-use Rattle.theory_runs.proofs.TraceOfRun.{PassesChecked, run-rows, run-lasts, run-wide, run-length, by-finisher, by-five}
+use Rattle.theory_runs.proofs.TraceOfRun.{few-rows, PassesChecked, run-rows, run-lasts, run-wide, run-length, by-finisher, by-five}
 
 -- THE ENDS OF SOME ROWS
 
@@ -51,94 +53,120 @@ module _ (p : Profile) (addr : ℕ) where
   ends-are (row ∷ next ∷ rows) =
       omega (arith, one-successor (flaggedEnd p row) (addrOf next) addr, ends-are (next ∷ rows), occurrences-append addr (pick (flaggedEnd p row) (addrOf next ∷ []) []) (successors p (next ∷ rows)))
 
-  abbrev crossing : List (List ℕ) → List (List ℕ) → ℕ
-  crossing rows more = pick (flaggedEnd p (lastRow rows) && eqb (addrOf (headRow more)) addr) 1 0
+  crossing-cons : (row second : List ℕ) (rows next : List (List ℕ)) → crossing p addr (row ∷ second ∷ rows) next ≡ crossing p addr (second ∷ rows) next
+  unfolding crossing lastRow
+  crossing-cons row second rows [] = refl
+  crossing-cons row second rows (successor ∷ next) = refl
+
+  crossing-more : (rows next more : List (List ℕ)) → 0 < length next → crossing p addr rows (next ++ more) ≡ crossing p addr rows next
+  unfolding crossing
+  crossing-more rows [] more h = absurd (omega arith)
+  crossing-more rows (successor ∷ next) more h = refl
 
   -- those of rows and more rows
-  ends-app : (rows more : List (List ℕ)) → 0 < length rows → 0 < length more → bodyEnds p addr (rows ++ more) ≡ bodyEnds p addr rows + crossing rows more + bodyEnds p addr more
-  unfolding bodyEnds lastRow
-  ends-app [] more h k = absurd (omega arith)
-  ends-app (row ∷ []) [] h k = absurd (omega arith)
-  ends-app (row ∷ []) (next ∷ more) h k = omega arith
-  ends-app (row ∷ second ∷ rows) more h k = omega (arith, ends-app (second ∷ rows) more (omega arith) k)
+  ends-app : (rows more : List (List ℕ)) → 0 < length rows → bodyEnds p addr (rows ++ more) ≡ bodyEnds p addr rows + crossing p addr rows more + bodyEnds p addr more
+  unfolding bodyEnds lastRow crossing
+  ends-app [] more h = absurd (omega arith)
+  ends-app (row ∷ []) [] h = refl
+  ends-app (row ∷ []) (next ∷ more) h = omega arith
+  ends-app (row ∷ second ∷ rows) more h = omega (arith, ends-app (second ∷ rows) more (omega arith), crossing-cons row second rows more)
 
 -- ALL FRAGMENTS
 
--- no fragment is without rows
-unfoldable NoneEmpty : List (List (List ℕ)) → Type 0
-NoneEmpty [] = Unit {0}
-NoneEmpty (rows ∷ more) = (0 < length rows) × NoneEmpty more
-
-unfoldable joined : List (List (List ℕ)) → List (List ℕ)
-joined [] = []
-joined (rows ∷ more) = rows ++ joined more
-
-unfoldable endsEach : Profile → (addr : ℕ) → List (List (List ℕ)) → ℕ
+unfoldable endsEach : Profile → (addr : ℕ) → List Live → ℕ
 endsEach p addr [] = 0
-endsEach p addr (rows ∷ more) = bodyEnds p addr rows + endsEach p addr more
-
-head-joined : (rows more : List (List ℕ)) → 0 < length rows → headRow (rows ++ more) ≡ headRow rows
-head-joined [] more h = absurd (omega arith)
-head-joined (row ∷ rows) more h = refl
+endsEach p addr (z ∷ more) = bodyEnds p addr (writtenSoFar z) + endsEach p addr more
 
 module _ (p : Profile) (addr : ℕ) where
-  ends-joined : (all : List (List (List ℕ))) → NoneEmpty all → bodyEnds p addr (joined all) ≡ endsEach p addr all + crossings p addr all
-  unfolding NoneEmpty joined endsEach crossings bodyEnds
+  some-rows : (z : Live) → 0 < z .held .tracer .«row_write_index» → 0 < length (writtenSoFar z)
+  some-rows z h = omega (arith, h, length-rows (z .held .tracer .«row_write_index») (z .held .cells))
+
+  ends-joined : (ends : List Live) → NoneEmpty ends → bodyEnds p addr (rowsOfAll ends) ≡ endsEach p addr ends + crossings p addr ends
+  unfolding NoneEmpty rowsOfAll endsEach crossings bodyEnds
   ends-joined [] n = refl
-  ends-joined (rows ∷ []) n = rw (append-nil rows) (omega arith)
-  ends-joined (rows ∷ next ∷ more) n =
+  ends-joined (z ∷ []) n = rw (append-nil (writtenSoFar z)) (omega arith)
+  ends-joined (z ∷ next ∷ more) n =
       omega (
         arith,
-        rw (head-joined next (joined more) (n .1 .0)) at (ends-app p addr rows (next ++ joined more) (n .0) (omega (arith, n .1 .0, length-append next (joined more)))),
+        ends-app p addr (writtenSoFar z) (rowsOfAll (next ∷ more)) (some-rows z (n .0)),
+        crossing-more p addr (writtenSoFar z) (writtenSoFar next) (rowsOfAll more) (some-rows next (n .1 .0)),
         ends-joined (next ∷ more) (n .1),
       )
 
-  module _ (q : Queues) where
-    ends-tallied : (fragments : List LiveFragment) (here : Cursor) → endsEach p addr (rowsEach p q fragments here) ≡ talliesAt addr (tallies p q fragments here)
-    unfolding endsEach rowsEach talliesAt tallies
-    ends-tallied [] here = refl
-    ends-tallied (fragment ∷ fragments) here =
-        ap₂ (λ a b. a + b) (ends-are p addr _ ∙ sym (tally-count p q here fragment (fragment .own .calls) addr)) (ends-tallied fragments (liveCursor p q here fragment))
+  ends-tallied : (fragments : List FreshFragment) → endsEach p addr (endsOf p fragments) ≡ talliesAt addr (endsOf p fragments)
+  unfolding endsEach endsOf talliesAt
+  ends-tallied [] = refl
+  ends-tallied (fragment ∷ fragments) = ap₂ (λ a b. a + b) (ends-are p addr _ ∙ sym (tally-count p fragment addr)) (ends-tallied fragments)
+
+  -- the body ENDs of all rows, by the tallies and the crossings
+  ends-over : (fragments : List FreshFragment) (ends : List Live) → endsOf p fragments ≡ ends → NoneEmpty ends → bodyEnds p addr (rowsOfAll ends) ≡ overFragments p ends addr
+  ends-over fragments ends e n =
+      ends-joined ends n ∙ ap (λ a. a + crossings p addr ends) (ap (endsEach p addr) (sym e) ∙ ends-tallied fragments ∙ ap (talliesAt addr) e)
+
+-- THE FRAGMENTS OF A RUN
+
+-- a fragment's calls, each with the run's queues
+unfoldable eachOf : Queues → List LiveCall → List LentCall
+eachOf q [] = []
+eachOf q (call c ∷ calls) = record { queues = q; called = c } ∷ eachOf q calls
+eachOf q (lend tally ∷ calls) = eachOf q calls
 
 module _ (p : Profile) (q : Queues) where
-  -- the rows that a fragment holds are those that its cycles wrote
-  rows-held : (here : Cursor) (fragment : LiveFragment) → LiveAccepted p q (fragment .own .calls) (liveOpened p q here fragment) →
-      rowsOf (liveClosed p q here fragment .held .tracer .«row_write_index») (liveClosed p q here fragment .held .cells) ≡ rowsIn p q (fragment .own .calls) (opened p q here (fragment .own))
-  rows-held here fragment a =
-      let (plain, same) = live-calls p q (fragment .own .calls) (liveOpened p q here fragment) a in
-      let h = fragment-holding p q here (fragment .own) plain in
-      rw same (ap₂ rowsOf (h .count-is) (h .cells-are) ∙ rows-flat (rowsIn p q (fragment .own .calls) (opened p q here (fragment .own))) _ (h .wide))
+  all-each : (calls : List LiveCall) (z : Live) → NoneLent calls → liveAfterEach p (eachOf q calls) z ≡ liveAfterAll p q calls z
+  unfolding NoneLent eachOf liveAfterEach liveAfterAll
+  all-each [] z n = refl
+  all-each (call c ∷ calls) z n = all-each calls (liveAfter p q z c) n
+  all-each (lend tally ∷ calls) z n = absurd n
 
-  rows-joined : (fragments : List LiveFragment) (here : Cursor) → AllLiveAccepted p q fragments here → joined (rowsEach p q fragments here) ≡ rowsRun p q (ownOf fragments) here
-  unfolding joined rowsEach rowsRun ownOf AllLiveAccepted
+  unfoldable freshOf : (fragments : List LiveFragment) → LentAsZeros fragments → Cursor → List FreshFragment
+  unfolding LentAsZeros
+  freshOf [] l here = []
+  freshOf (fragment ∷ fragments) l here =
+      record { here = here; cells = fragment .cells; tally = fragment .tally; zeros = l .0; calls = eachOf q (fragment .calls) } ∷ freshOf fragments (l .2) (liveCursor p q here fragment)
+
+  fresh-ends : (fragments : List LiveFragment) (l : LentAsZeros fragments) (here : Cursor) → endsOf p (freshOf fragments l here) ≡ liveEnds p q fragments here
+  unfolding LentAsZeros freshOf endsOf liveEnds
+  fresh-ends [] l here = refl
+  fresh-ends (fragment ∷ fragments) l here =
+      ap₂ (λ z more. z ∷ more) (all-each (fragment .calls) (liveOpened p q here fragment) (l .1)) (fresh-ends fragments (l .2) (liveCursor p q here fragment))
+
+  -- the rows that a fragment holds are those that its cycles wrote
+  rows-held : (here : Cursor) (fragment : LiveFragment) → LiveAccepted p q (fragment .calls) (liveOpened p q here fragment) →
+      writtenSoFar (liveClosed p q here fragment) ≡ rowsIn p q (callsOf (fragment .calls)) (opened p q here (plainOf fragment))
+  rows-held here fragment a =
+      let (plain, same) = live-calls p q (fragment .calls) (liveOpened p q here fragment) a in
+      let h = fragment-holding p q here (plainOf fragment) plain in
+      rw same (ap₂ rowsOf (h .count-is) (h .cells-are) ∙ rows-flat (rowsIn p q (callsOf (fragment .calls)) (opened p q here (plainOf fragment))) _ (h .wide))
+
+  rows-joined : (fragments : List LiveFragment) (here : Cursor) → AllLiveAccepted p q fragments here → rowsOfAll (liveEnds p q fragments here) ≡ rowsRun p q (plainAll fragments) here
+  unfolding rowsOfAll liveEnds rowsRun plainAll AllLiveAccepted
   rows-joined [] here a = refl
   rows-joined (fragment ∷ fragments) here a =
-      let same = live-calls p q (fragment .own .calls) (liveOpened p q here fragment) (a .0) .1 in
-      ap₂ (λ x y. x ++ y) (rows-held here fragment (a .0)) (rows-joined fragments (liveCursor p q here fragment) (a .1) ∙ ap (λ z. rowsRun p q (ownOf fragments) (cursorOf p q z)) same)
+      let same = live-calls p q (fragment .calls) (liveOpened p q here fragment) (a .0) .1 in
+      ap₂ (λ x y. x ++ y) (rows-held here fragment (a .0)) (rows-joined fragments (liveCursor p q here fragment) (a .1) ∙ ap (λ z. rowsRun p q (plainAll fragments) (cursorOf p q z)) same)
 
   abbrev handed : Cursor → LiveFragment → ℕ
-  handed here fragment = forPasses (finalState (closed p q here (fragment .own) .tracer)) .count
+  handed here fragment = forPasses (finalState (closed p q here (plainOf fragment) .tracer)) .count
 
-  count-held : (here : Cursor) (fragment : LiveFragment) → LiveAccepted p q (fragment .own .calls) (liveOpened p q here fragment) →
-      length (rowsOf (liveClosed p q here fragment .held .tracer .«row_write_index») (liveClosed p q here fragment .held .cells)) ≡ handed here fragment
+  count-held : (here : Cursor) (fragment : LiveFragment) → LiveAccepted p q (fragment .calls) (liveOpened p q here fragment) →
+      liveClosed p q here fragment .held .tracer .«row_write_index» ≡ handed here fragment
   count-held here fragment a =
-      ap length (rows-held here fragment a) ∙ sym (count-rows p q here (fragment .own) (live-calls p q (fragment .own .calls) (liveOpened p q here fragment) a .0))
+      sym (length-rows (liveClosed p q here fragment .held .tracer .«row_write_index») (liveClosed p q here fragment .held .cells)) ∙ ap length (rows-held here fragment a)
+      ∙ sym (count-rows p q here (plainOf fragment) (live-calls p q (fragment .calls) (liveOpened p q here fragment) a .0))
 
-  none-empty : (size : ℕ) (fragments : List LiveFragment) (here : Cursor) → 0 < size → AllLiveAccepted p q fragments here → notFull size (countsOf (finalStates p q (ownOf fragments) here)) ≡ false → NoneEmpty (rowsEach p q fragments here)
-  unfolding NoneEmpty rowsEach notFull countsOf finalStates ownOf AllLiveAccepted
+  none-empty : (size : ℕ) (fragments : List LiveFragment) (here : Cursor) → 0 < size → AllLiveAccepted p q fragments here → notFull size (countsOf (finalStates p q (plainAll fragments) here)) ≡ false → NoneEmpty (liveEnds p q fragments here)
+  unfolding NoneEmpty liveEnds notFull countsOf finalStates plainAll AllLiveAccepted
   none-empty size [] here some a e = tt
   none-empty size (fragment ∷ []) here some a e = (omega (arith, count-held here fragment (a .0), eqb-false (handed here fragment) 0 e), tt)
   none-empty size (fragment ∷ next ∷ fragments) here some a e =
-      let there : liveCursor p q here fragment ≡ cursorOf p q (closed p q here (fragment .own)) = ap (cursorOf p q) (live-calls p q (fragment .own .calls) (liveOpened p q here fragment) (a .0) .1) in
-      let (full, rest) = neither (ltb (handed here fragment) size) (notFull size (countsOf (finalStates p q (ownOf (next ∷ fragments)) (cursorOf p q (closed p q here (fragment .own)))))) e in
+      let there : liveCursor p q here fragment ≡ cursorOf p q (closed p q here (plainOf fragment)) = ap (cursorOf p q) (live-calls p q (fragment .calls) (liveOpened p q here fragment) (a .0) .1) in
+      let (full, rest) = neither (ltb (handed here fragment) size) (notFull size (countsOf (finalStates p q (plainAll (next ∷ fragments)) (cursorOf p q (closed p q here (plainOf fragment)))))) e in
       (omega (arith, count-held here fragment (a .0), ltb-false (handed here fragment) size full), none-empty size (next ∷ fragments) (liveCursor p q here fragment) some (a .1) (rw there rest))
 
-  -- the body ENDs of all rows, by the tallies and the crossings
-  pub ends-over : (size : ℕ) (fragments : List LiveFragment) (here : Cursor) → 0 < size → AllLiveAccepted p q fragments here → notFull size (countsOf (finalStates p q (ownOf fragments) here)) ≡ false →
-      (addr : ℕ) → bodyEnds p addr (rowsRun p q (ownOf fragments) here) ≡ overFragments p q fragments here addr
-  ends-over size fragments here some a full addr =
-      ap (bodyEnds p addr) (sym (rows-joined fragments here a)) ∙ ends-joined p addr (rowsEach p q fragments here) (none-empty size fragments here some a full)
-      ∙ ap (λ n. n + crossings p addr (rowsEach p q fragments here)) (ends-tallied p addr q fragments here)
+  run-over : (size : ℕ) (fragments : List LiveFragment) (here : Cursor) → LentAsZeros fragments → 0 < size → AllLiveAccepted p q fragments here → notFull size (countsOf (finalStates p q (plainAll fragments) here)) ≡ false →
+      (addr : ℕ) → bodyEnds p addr (rowsRun p q (plainAll fragments) here) ≡ overFragments p (liveEnds p q fragments here) addr
+  run-over size fragments here l some a full addr =
+      ap (bodyEnds p addr) (sym (rows-joined fragments here a)) ∙ ends-over p addr (freshOf fragments l here) (liveEnds p q fragments here) (fresh-ends fragments l here) (none-empty size fragments here some a full)
 
 -- THE COUNTS THAT PASS 2 SETS
 
@@ -198,6 +226,40 @@ module _ (p : Profile) (count : ℕ → ℕ) where
         let wide : length row ≡ 49 = wide-at rows i w (omega arith) in
         rw (counts-addr rows (i + 1), at, eq-eqb (opcodeOf row) (p .«loop_op») is) (cell-set row 23 v (omega arith) (low (addrOf (getD rows (i + 1) []))))
 
+-- PASS 2 BY ITSELF
+
+in-buffer : (cells rows : ℕ) → (bufferWrong cells || fewerRows cells rows) ≡ false → (49 * rows ≤ cells) × (rows ≤ 16777216)
+unfolding fewerRows
+in-buffer cells rows e =
+    let (a, b) = neither (bufferWrong cells) (ltb (cells / 49) rows) e in
+    let c = ltb-false (cells / 49) rows b in
+    (omega arith, omega (arith, few-rows cells a))
+
+-- what a pass by itself sets, of rows that stand in front of a buffer
+set-alone : (p : Profile) (rows : List (List ℕ)) (buffer : List ℕ) → rowsOf (length rows) buffer ≡ rows → refusal2 p buffer (length rows) ≡ 0 →
+    CountsSet p (λ addr. bodyEnds p addr rows) (length rows) (onRows (length rows) (multiplied p) buffer)
+unfolding bufferRow multiplied onRows refusal2
+set-alone p rows buffer front e i h is =
+    let (long, few) = in-buffer (length buffer) (length rows) (none-first _ _ _ (none-first _ _ _ e .1) .0) in
+    let wide : Wide rows = rw front at (wide-rows (length rows) buffer long) in
+    let count : ℕ → ℕ = λ x. bodyEnds p x rows in
+    let set2 : List (List ℕ) = multiplied p rows in
+    let rest : List ℕ = drop (49 * length set2) buffer in
+    let wide2 : Wide set2 = multiplied-wide p rows wide in
+    let long2 : length set2 ≡ length rows = multiplied-length p rows in
+    let all : onRows (length rows) (multiplied p) buffer ≡ flat set2 ++ rest = ap (λ r. flat (multiplied p r) ++ drop (49 * length (multiplied p r)) buffer) front in
+    let at : (k : ℕ) → k < length rows → bufferRow k (onRows (length rows) (multiplied p) buffer) ≡ getD set2 k [] = λ k g. ap (λ x. take 49 (drop (49 * k) x)) all ∙ row-at set2 rest k wide2 (omega arith) in
+    let this = at i (omega arith) in
+    let next = at (i + 1) h in
+    ap (λ x. cellAt x 23) this ∙ counts-set p count (λ x. omega (arith, ends-most p x rows)) rows i wide h (sym (ap opcodeOf this) ∙ is) ∙ ap (λ x. count (addrOf x)) (sym next)
+
+-- fragments by themselves, whose rows stand one after another in a buffer
+pub tallies-add-up : (p : Profile) (fragments : List FreshFragment) (buffer : List ℕ) → NoneEmpty (endsOf p fragments) → rowsOf (length (rowsOfAll (endsOf p fragments))) buffer ≡ rowsOfAll (endsOf p fragments) →
+    refusal2 p buffer (length (rowsOfAll (endsOf p fragments))) ≡ 0 →
+    CountsSet p (overFragments p (endsOf p fragments)) (length (rowsOfAll (endsOf p fragments))) (onRows (length (rowsOfAll (endsOf p fragments))) (multiplied p) buffer)
+tallies-add-up p fragments buffer some front e i h is =
+    set-alone p (rowsOfAll (endsOf p fragments)) buffer front e i h is ∙ ends-over p (addrOf (bufferRow (i + 1) (onRows (length (rowsOfAll (endsOf p fragments))) (multiplied p) buffer))) fragments (endsOf p fragments) refl some
+
 -- pass 3 leaves the decoder cells
 inverted-decoder : (rows : List (List ℕ)) (i : ℕ) → decoderOf (getD (inverted rows) i []) ≡ decoderOf (getD rows i [])
 unfolding inverted
@@ -214,33 +276,36 @@ front p built height rows i h =
 
 -- AFTER THE PASSES
 
-module _ (p : Profile) (q : Queues) (size : ℕ) (fragments : List LiveFragment) (here : Cursor) (none-refused : AllLiveAccepted p q fragments here) where
-  abbrev own : List Fragment
-  own = ownOf fragments
+module _ (p : Profile) (q : Queues) (size : ℕ) (fragments : List LiveFragment) (here : Cursor) (zeros : LentAsZeros fragments) (none-refused : AllLiveAccepted p q fragments here) where
+  abbrev plain : List Fragment
+  plain = plainAll fragments
+
+  abbrev ends : List Live
+  ends = liveEnds p q fragments here
 
   abbrev finals : List TracerFinalState
-  finals = finalStates p q own here
+  finals = finalStates p q plain here
 
-  plain : AllAccepted p q own here
-  plain = live-run p q fragments here none-refused .none-refused
+  accepted : AllAccepted p q plain here
+  accepted = live-as-calls p q fragments here none-refused .none-refused
 
-  module _ (one-size : OneSize size own (countsOf finals)) (others top : List ℕ) (height : ℕ) where
-    run-set : PassesChecked p q size own here plain one-size others top height → LoopCounts p (overFragments p q fragments here) (sumOf (countsOf finals)) (flat (run-rows p q size own here plain one-size others top height))
+  module _ (one-size : OneSize size plain (countsOf finals)) (others top : List ℕ) (height : ℕ) where
+    run-set : PassesChecked p q size plain here accepted one-size others top height → CountsSet p (overFragments p ends) (sumOf (countsOf finals)) (flat (run-rows p q size plain here accepted one-size others top height))
     unfolding bufferRow multiplied
     run-set c i h is =
-        let rows : List (List ℕ) = rowsRun p q own here in
+        let rows : List (List ℕ) = rowsRun p q plain here in
         let lasts : List (List ℕ) = builtOf (length (countsOf finals) - 1) (builtCells finals) in
-        let lasts-25 = run-lasts p q size own here plain one-size others top height c in
-        let wide : Wide rows = rows-wide p q own here plain in
+        let lasts-25 = run-lasts p q size plain here accepted one-size others top height c in
+        let wide : Wide rows = rows-wide p q plain here accepted in
         let rows1 : List (List ℕ) = fixedUp size top lasts rows in
         let rows2 : List (List ℕ) = multiplied p rows1 in
         let rows3 : List (List ℕ) = inverted rows2 in
-        let all : List (List ℕ) = run-rows p q size own here plain one-size others top height in
-        let sum : sumOf (countsOf finals) ≡ length rows = sum-rows p q own here plain in
+        let all : List (List ℕ) = run-rows p q size plain here accepted one-size others top height in
+        let sum : sumOf (countsOf finals) ≡ length rows = sum-rows p q plain here accepted in
         let long1 : length rows1 ≡ length rows = fixed-length rows lasts size top in
         let long3 : length rows3 ≡ length rows = inverted-length rows2 ∙ multiplied-length p rows1 ∙ long1 in
-        let all-wide = run-wide p q size own here plain one-size others top height c in
-        let all-long : length all ≡ height = run-length p q size own here plain one-size others top height c in
+        let all-wide = run-wide p q size plain here accepted one-size others top height c in
+        let all-long : length all ≡ height = run-length p q size plain here accepted one-size others top height c in
         let few = c .few in
         let room = c .room in
         let this : bufferRow i (flat all) ≡ getD rows3 i [] =
@@ -253,31 +318,29 @@ module _ (p : Profile) (q : Queues) (size : ℕ) (fragments : List LiveFragment)
         counts-set p count (λ x. omega (arith, ends-most p x rows1)) rows1 i (fixed-wide rows lasts size top lasts-25 wide) (omega arith) loop in
         let addr : ℕ = addrOf (bufferRow (i + 1) (flat all)) in
         let at : addrOf (getD rows2 (i + 1) []) ≡ addr = sym (ap addrOf next ∙ same-cell (getD rows3 (i + 1) []) (getD rows2 (i + 1) []) 0 (omega arith) (inverted-decoder rows2 (i + 1))) in
-        let over : count addr ≡ overFragments p q fragments here addr =
+        let over : count addr ≡ overFragments p ends addr =
         ends-hits p addr rows1 ∙ ap (hits addr) (fixed-looks p rows lasts size top lasts-25 wide) ∙ sym (ends-hits p addr rows)
-        ∙ ends-over p q size fragments here (c .some-size) none-refused (c .full) addr in
+        ∙ run-over p q size fragments here zeros (c .some-size) none-refused (c .full) addr in
         ap (λ x. cellAt x 23) this ∙ same-cell (getD rows3 i []) (getD rows2 i []) 17 (omega arith) (inverted-decoder rows2 i) ∙ was ∙ ap count at ∙ over
 
   -- "The fragments' tallies, with 1 more for each flagged END that ends a fragment and has its successor in the next, must add up to every count it
   -- sets": of fragments on fresh tracers with tallies of zeros, no call refused, all full but the last (no proper run is asked for), after the
   -- finisher
-  pub finisher-tallies : (others top : List ℕ) (height : ℕ) → OneSize size own (countsOf (liveFinals p q fragments here)) → LiveFinisherPasses p q size fragments here others top height →
-      LoopCounts p (overFragments p q fragments here) (sumOf (countsOf (liveFinals p q fragments here))) (liveByFinisher p q size fragments here others top height)
-  finisher-tallies others top height one-size e =
-      let same = live-run p q fragments here none-refused in
+  pub tallies-add-up-finished : (others top : List ℕ) (height : ℕ) → OneSize size plain (countsOf (liveFinals ends)) → LiveFinisherPasses p q size fragments here others top height →
+      CountsSet p (overFragments p ends) (sumOf (countsOf (liveFinals ends))) (liveByFinisher p q size fragments here others top height)
+  tallies-add-up-finished others top height one-size =
+      let same = live-as-calls p q fragments here none-refused in
       let sizes = rw (same .same-finals) at one-size in
-      rw (same .same-finals, same .same-cells)
-      (by-finisher p q size own here plain sizes others top height (λ cells. LoopCounts p (overFragments p q fragments here) (sumOf (countsOf finals)) cells)
-      (run-set sizes others top height)
-      (rw (same .same-finals, same .same-cells) at e))
+      let Q : List ℕ → Type 0 = CountsSet p (overFragments p ends) (sumOf (countsOf (liveFinals ends))) in
+      live-written p q size fragments here none-refused others top height Q
+      (by-finisher p q size plain here accepted sizes others top height Q (λ c. rw (same .same-finals) (run-set sizes others top height c)))
 
   -- and after the five calls, one after another
-  pub five-tallies : (others top : List ℕ) (height : ℕ) → OneSize size own (countsOf (liveFinals p q fragments here)) → LiveFivePass p q size fragments here others top height →
-      LoopCounts p (overFragments p q fragments here) (sumOf (countsOf (liveFinals p q fragments here))) (liveByFive p q size fragments here others top height)
-  five-tallies others top height one-size e =
-      let same = live-run p q fragments here none-refused in
+  pub tallies-add-up-five : (others top : List ℕ) (height : ℕ) → OneSize size plain (countsOf (liveFinals ends)) → LiveFivePass p q size fragments here others top height →
+      CountsSet p (overFragments p ends) (sumOf (countsOf (liveFinals ends))) (liveByFive p q size fragments here others top height)
+  tallies-add-up-five others top height one-size =
+      let same = live-as-calls p q fragments here none-refused in
       let sizes = rw (same .same-finals) at one-size in
-      rw (same .same-finals, same .same-cells)
-      (by-five p q size own here plain sizes others top height (λ cells. LoopCounts p (overFragments p q fragments here) (sumOf (countsOf finals)) cells)
-      (run-set sizes others top height)
-      (rw (same .same-finals, same .same-cells) at e))
+      let Q : List ℕ → Type 0 = CountsSet p (overFragments p ends) (sumOf (countsOf (liveFinals ends))) in
+      live-written-by-five p q size fragments here none-refused others top height Q
+      (by-five p q size plain here accepted sizes others top height Q (λ c. rw (same .same-finals) (run-set sizes others top height c)))

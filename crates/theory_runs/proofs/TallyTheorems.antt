@@ -24,10 +24,10 @@ use Rattle.rows.specs.records.Built.{systemCells, stackCells}
 use Rattle.rows.specs.passes.Passes.{flaggedEnd}
 use Rattle.rows.specs.cycles.Made.{Cursor}
 use Rattle.rows.specs.cycles.Cycles.{fresh, storingOf, storedIn, tracerAfter, fragmentAfter, lastSystem, lastStack}
-use Rattle.rows.specs.cycles.Tallies.{placeFor, countedAt, noPlace, countsNext, rowAddr, tallyAfter}
+use Rattle.rows.specs.cycles.Tallies.{placeFor, countedAt, cannotCount, countsNext, rowAddr, tallyAfter}
 use Rattle.rows.proofs.passes.RowLists.{Wide, wide-rows, length-rows, wide-app, as-rows, rows-flat, put-behind, drop-rows}
 use Rattle.theory_runs.specs.Calls.{Handed, Call, store, finish}
-use Rattle.theory_runs.specs.LiveCalls.{Live, LiveFragment, LentCall, liveFresh, liveAnswered, liveAfter, liveAfterAll, liveAfterEach, liveOpened}
+use Rattle.theory_runs.specs.LiveCalls.{Live, LentCall, FreshFragment, Zeros, liveFresh, liveAnswered, liveAfter, liveAfterEach, endOf}
 use Rattle.theory_runs.specs.Tallies.{successors, onceFrom, onceEach, writtenSoFar, TallyTells, talliedAt}
 use Rattle.theory_runs.proofs.Answers.{accepted-came}
 use Rattle.theory_runs.proofs.Folded.{row-wide}
@@ -66,7 +66,7 @@ module _ (p : Profile) where
 
   -- ONE CYCLE
 
-  flagged : (b : Bool) (addrs tally : List ℕ) (addr : ℕ) → 512 ≤ length tally → addr % P ≡ addr → (b && noPlace tally (placeFor tally addr)) ≡ false → Standing (onceEach addrs) addrs tally →
+  flagged : (b : Bool) (addrs tally : List ℕ) (addr : ℕ) → 512 ≤ length tally → addr % P ≡ addr → (b && cannotCount tally (placeFor tally addr)) ≡ false → Standing (onceEach addrs) addrs tally →
       Standing (onceEach (addrs ++ pick b (addr ∷ []) [])) (addrs ++ pick b (addr ∷ []) []) (pick b (countedAt tally addr (placeFor tally addr)) tally)
   flagged true addrs tally addr long cell left s = standing-once addrs tally addr s long cell left
   flagged false addrs tally addr long cell left s = rw (append-nil addrs) s
@@ -75,7 +75,7 @@ module _ (p : Profile) where
   abbrev Stands : (rows : List (List ℕ)) → (tally : List ℕ) → Type 0
   Stands rows tally = Standing (onceEach (successors p rows)) (successors p rows) tally
 
-  row-more : (cells tally x : List ℕ) (m : MadeRow) (r : ℕ) → addrOf x ≡ rowAddr m → 512 ≤ length tally → (countsNext p cells r && noPlace tally (placeFor tally (rowAddr m))) ≡ false →
+  row-more : (cells tally x : List ℕ) (m : MadeRow) (r : ℕ) → addrOf x ≡ rowAddr m → 512 ≤ length tally → (countsNext p cells r && cannotCount tally (placeFor tally (rowAddr m))) ≡ false →
       Stands (rowsOf r cells) tally → Stands (rowsOf r cells ++ (x ∷ [])) (tallyAfter p tally cells r (accepted m))
   unfolding tallyAfter countsNext rowsOf successors
   row-more cells tally x m zero e long left s = s
@@ -118,28 +118,25 @@ module _ (p : Profile) where
     stands-call z (store values) s = stands-store z values s
     stands-call z (finish i) s = stands-finish z i (liveAnswered p q z i) refl s
 
-    stands-all : (calls : List Call) (z : Live) → StandsLive z → StandsLive (liveAfterAll p q calls z)
-    unfolding liveAfterAll
-    stands-all [] z s = s
-    stands-all (c ∷ calls) z s = stands-all calls (liveAfter p q z c) (stands-call z c s)
-
   stands-each : (calls : List LentCall) (z : Live) → StandsLive z → StandsLive (liveAfterEach p calls z)
   unfolding liveAfterEach
   stands-each [] z s = s
-  stands-each (c ∷ calls) z s = stands-each calls (liveAfter p (c .queues) z (c .call)) (stands-call (c .queues) z (c .call) s)
+  stands-each (c ∷ calls) z s = stands-each calls (liveAfter p (c .queues) z (c .called)) (stands-call (c .queues) z (c .called) s)
 
-  stands-fresh : (here : Cursor) (cells : List ℕ) (numbers : ℕ) → StandsLive (liveFresh here cells numbers)
+  stands-fresh : (here : Cursor) (cells tally : List ℕ) → Zeros tally → StandsLive (liveFresh here cells tally)
   unfolding fresh rowsOf successors onceFrom
-  stands-fresh here cells numbers = standing-none numbers
+  stands-fresh here cells tally zeros = standing-none tally zeros
+
+  stands-end : (fragment : FreshFragment) → StandsLive (endOf p fragment)
+  stands-end fragment =
+      stands-each (fragment .calls) (liveFresh (fragment .here) (fragment .cells) (fragment .tally)) (stands-fresh (fragment .here) (fragment .cells) (fragment .tally) (fragment .zeros))
 
   -- "Lent as zeros to a fresh tracer, with one profile and nobody else storing to it or the rows, the tally holds after every cycle, for the rows
   -- written so far in this fragment, exactly each successor address of a flagged END, with its number, in order of first appearance": after any
   -- calls, refused or not
-  pub tally-tells : (here : Cursor) (cells : List ℕ) (numbers : ℕ) (calls : List LentCall) → TallyTells p (liveAfterEach p calls (liveFresh here cells numbers))
-  tally-tells here cells numbers calls = standing-tells _ _ (stands-each calls (liveFresh here cells numbers) (stands-fresh here cells numbers))
+  pub tally-told : (fragment : FreshFragment) → TallyTells p (endOf p fragment)
+  tally-told fragment = standing-tells _ _ (stands-end fragment)
 
-  -- so, in a run, the count of an address is its number
-  pub tally-count : (q : Queues) (here : Cursor) (fragment : LiveFragment) (calls : List Call) (addr : ℕ) →
-      talliedAt addr (liveAfterAll p q calls (liveOpened p q here fragment) .tally) ≡ occurrences addr (successors p (writtenSoFar (liveAfterAll p q calls (liveOpened p q here fragment))))
-  tally-count q here fragment calls addr =
-      standing-count _ _ _ (stands-all q calls (liveOpened p q here fragment) (stands-fresh here (fragment .own .cells) (fragment .numbers))) addr
+  -- so the count of an address is its number
+  pub tally-count : (fragment : FreshFragment) (addr : ℕ) → talliedAt addr (endOf p fragment .tally) ≡ occurrences addr (successors p (writtenSoFar (endOf p fragment)))
+  tally-count fragment addr = standing-count _ _ _ (stands-end fragment) addr

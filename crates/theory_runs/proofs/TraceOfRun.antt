@@ -171,7 +171,7 @@ some-counts : (counts : List ℕ) → noFragment counts ≡ false → 0 < length
 some-counts [] e = let z : _≡_ {A = ℕ} 0 1 = cc in absurd (omega arith)
 some-counts (count ∷ counts) e = omega arith
 
-few-rows : (cells : ℕ) → bufferWrong cells ≡ false → cells / 49 ≤ 16777216
+pub few-rows : (cells : ℕ) → bufferWrong cells ≡ false → cells / 49 ≤ 16777216
 unfolding bufferWrong
 few-rows cells e = ltb-false 16777216 (cells / 49) (neither (ltb 0 (cells % 49)) (ltb 16777216 (cells / 49)) e .1)
 

@@ -1,5 +1,6 @@
 -- The calls of a run: storings and cycles, each fragment's on a fresh tracer and ended by its final state. Everything that they do is by
--- the definitions that the contracts of these calls cite, a cycle being one without a tally (`LiveCalls` has those with one).
+-- the definitions that the contracts of these calls cite, but that a cycle is one without a tally, as replay carries it out: what a finish with a
+-- tally comes to where it accepts (`LiveCalls`, `live-as-calls`).
 use mathlib.Core.Path.{_≡_}
 use mathlib.Core.List.{List, [], _∷_, _++_}
 use Prim.Native.Nat.{ℕ, _*_}

@@ -1,9 +1,9 @@
--- Change request N9: the calls of a run with a tally lent to each fragment's cycles. Everything that they do is what the contracts of these calls
--- cite; `Calls` has the same without a tally.
+-- Change request N9: the calls of a run whose cycles are lent tallies. Everything that they do is what the contracts of these calls cite; `Calls`
+-- has the same without a tally.
 use mathlib.Core.Path.{_≡_}
 use mathlib.Core.List.{List, [], _∷_, _++_}
-use Prim.Native.Nat.{ℕ}
-use lib.ListN.{replicate}
+use Prim.Native.Nat.{ℕ, _*_, _<_}
+use lib.ListN.{getD}
 use Rattle.groups.specs.Answer.{Answer, refusal}
 use Rattle.rows.specs.declared.records.profile.Profile.{Profile}
 use Rattle.rows.specs.declared.cycles.made.MadeRow.{MadeRow}
@@ -11,7 +11,7 @@ use Rattle.rows.specs.declared.cycles.tracer.TracerFinalState.{TracerFinalState
 use Rattle.rows.specs.records.Addresses.{Queues}
 use Rattle.rows.specs.cycles.Made.{Cursor}
 use Rattle.rows.specs.cycles.Cycles.{fresh, storedIn, tracerAfter, fragmentAfter, finalState}
-use Rattle.rows.specs.cycles.Tallies.{talliedCycle, tallyAfter}
+use Rattle.rows.specs.cycles.Tallies.{mostPlaces, talliedCycle, tallyAfter}
 use Rattle.theory_runs.specs.Calls.{Handed, Call, store, finish, Fragment, Held, cursorOf}
 
 -- a tracer, its fragment, and the tally
@@ -19,19 +19,33 @@ pub record Live : Type 0 where
   pub held : Held
   pub tally : List ℕ
 
--- "Lent as zeros to a fresh tracer": at an address state and queue positions, with a fragment's cells and so many numbers of the tally
-abbrev pub liveFresh : Cursor → (cells : List ℕ) → (numbers : ℕ) → Live
-liveFresh here cells numbers = record { held = record { tracer = fresh (here .state) (here .at); cells = cells }; tally = replicate numbers 0 }
+-- a fresh tracer at an address state and queue positions, with a fragment's cells and a tally
+abbrev pub liveFresh : Cursor → (cells tally : List ℕ) → Live
+liveFresh here cells tally = record { held = record { tracer = fresh (here .state) (here .at); cells = cells }; tally = tally }
 
--- a fragment, and how many numbers its tally has
+-- a call; or another tally is lent from here on (so too where someone else stores to it)
+pub data LiveCall : Type 0 where
+  call : Call → LiveCall
+  lend : (tally : List ℕ) → LiveCall
+
+-- the calls of a fragment, the cells that the fragment lent to them held before, and the tally that is lent first
 pub record LiveFragment : Type 0 where
-  pub own : Fragment
-  pub numbers : ℕ
+  pub calls : List LiveCall
+  pub cells : List ℕ
+  pub tally : List ℕ
 
--- the fragments without their tallies
-unfoldable pub ownOf : List LiveFragment → List Fragment
-ownOf [] = []
-ownOf (fragment ∷ fragments) = fragment .own ∷ ownOf fragments
+-- the calls and the fragments without their tallies
+unfoldable pub callsOf : List LiveCall → List Call
+callsOf [] = []
+callsOf (call c ∷ calls) = c ∷ callsOf calls
+callsOf (lend tally ∷ calls) = callsOf calls
+
+abbrev pub plainOf : LiveFragment → Fragment
+plainOf fragment = record { calls = callsOf (fragment .calls); cells = fragment .cells }
+
+unfoldable pub plainAll : List LiveFragment → List Fragment
+plainAll [] = []
+plainAll (fragment ∷ fragments) = plainOf fragment ∷ plainAll fragments
 
 -- the profile and the queues of a run
 module _ (p : Profile) (q : Queues) where
@@ -39,7 +53,7 @@ module _ (p : Profile) (q : Queues) where
   abbrev pub liveAnswered : Live → Handed → Answer MadeRow
   liveAnswered z i = talliedCycle p (i .forest) q (i .stack) (i .registers) (z .tally) (z .held .cells) (z .held .tracer)
 
-  -- what a call leaves; nobody else stores to the fragment or the tally
+  -- what a call leaves
   unfoldable pub liveAfter : Live → Call → Live
   liveAfter z (store values) =
       record { held = record { tracer = storedIn (z .held .tracer) values; cells = z .held .cells }; tally = z .tally }
@@ -56,20 +70,22 @@ module _ (p : Profile) (q : Queues) where
   liveRefusal z (store values) = z .held .tracer .refusal
   liveRefusal z (finish i) = refusal (liveAnswered z i)
 
-  unfoldable pub liveAfterAll : List Call → Live → Live
+  unfoldable pub liveAfterAll : List LiveCall → Live → Live
   liveAfterAll [] z = z
-  liveAfterAll (c ∷ calls) z = liveAfterAll calls (liveAfter z c)
+  liveAfterAll (call c ∷ calls) z = liveAfterAll calls (liveAfter z c)
+  liveAfterAll (lend tally ∷ calls) z = liveAfterAll calls (record { held = z .held; tally = tally })
 
   -- no call was refused, the final state neither
-  unfoldable pub LiveAccepted : List Call → Live → Type 0
+  unfoldable pub LiveAccepted : List LiveCall → Live → Type 0
   LiveAccepted [] z = finalState (z .held .tracer) .refusal ≡ 0
-  LiveAccepted (c ∷ calls) z = (liveRefusal z c ≡ 0) × LiveAccepted calls (liveAfter z c)
+  LiveAccepted (call c ∷ calls) z = (liveRefusal z c ≡ 0) × LiveAccepted calls (liveAfter z c)
+  LiveAccepted (lend tally ∷ calls) z = LiveAccepted calls (record { held = z .held; tally = tally })
 
   abbrev pub liveOpened : Cursor → LiveFragment → Live
-  liveOpened here fragment = liveFresh here (fragment .own .cells) (fragment .numbers)
+  liveOpened here fragment = liveFresh here (fragment .cells) (fragment .tally)
 
   abbrev pub liveClosed : Cursor → LiveFragment → Live
-  liveClosed here fragment = liveAfterAll (fragment .own .calls) (liveOpened here fragment)
+  liveClosed here fragment = liveAfterAll (fragment .calls) (liveOpened here fragment)
 
   abbrev pub liveCursor : Cursor → LiveFragment → Cursor
   liveCursor here fragment = cursorOf p q (liveClosed here fragment .held)
@@ -77,28 +93,58 @@ module _ (p : Profile) (q : Queues) where
   unfoldable pub AllLiveAccepted : List LiveFragment → Cursor → Type 0
   AllLiveAccepted [] here = Unit {0}
   AllLiveAccepted (fragment ∷ fragments) here =
-      LiveAccepted (fragment .own .calls) (liveOpened here fragment) × AllLiveAccepted fragments (liveCursor here fragment)
+      LiveAccepted (fragment .calls) (liveOpened here fragment) × AllLiveAccepted fragments (liveCursor here fragment)
 
-  -- what the fragments end with: the final states, the cells, and the tallies
-  unfoldable pub liveFinals : List LiveFragment → Cursor → List TracerFinalState
-  liveFinals [] here = []
-  liveFinals (fragment ∷ fragments) here =
-      finalState (liveClosed here fragment .held .tracer) ∷ liveFinals fragments (liveCursor here fragment)
+  -- what the fragments end with
+  unfoldable pub liveEnds : List LiveFragment → Cursor → List Live
+  liveEnds [] here = []
+  liveEnds (fragment ∷ fragments) here = liveClosed here fragment ∷ liveEnds fragments (liveCursor here fragment)
 
-  unfoldable pub liveCells : List LiveFragment → Cursor → List ℕ
-  liveCells [] here = []
-  liveCells (fragment ∷ fragments) here = liveClosed here fragment .held .cells ++ liveCells fragments (liveCursor here fragment)
+-- the final states of some, and their fragments' cells, one after another
+unfoldable pub liveFinals : List Live → List TracerFinalState
+liveFinals [] = []
+liveFinals (z ∷ more) = finalState (z .held .tracer) ∷ liveFinals more
 
-  unfoldable pub tallies : List LiveFragment → Cursor → List (List ℕ)
-  tallies [] here = []
-  tallies (fragment ∷ fragments) here = liveClosed here fragment .tally ∷ tallies fragments (liveCursor here fragment)
+unfoldable pub liveCells : List Live → List ℕ
+liveCells [] = []
+liveCells (z ∷ more) = z .held .cells ++ liveCells more
+
+-- "Lent as zeros": the 256 places, whatever is behind them
+abbrev pub Zeros : (tally : List ℕ) → Type 0
+Zeros tally = (i : ℕ) → i < 2 * mostPlaces → getD tally i 0 ≡ 0
+
+-- "nobody else storing to it"
+unfoldable pub NoneLent : List LiveCall → Type 0
+NoneLent [] = Unit {0}
+NoneLent (call c ∷ calls) = NoneLent calls
+NoneLent (lend tally ∷ calls) = ⊥
+
+-- both, of each fragment
+unfoldable pub LentAsZeros : List LiveFragment → Type 0
+LentAsZeros [] = Unit {0}
+LentAsZeros (fragment ∷ fragments) = Zeros (fragment .tally) × NoneLent (fragment .calls) × LentAsZeros fragments
 
 -- a call with the queues that it is lent
 pub record LentCall : Type 0 where
   pub queues : Queues
-  pub call : Call
+  pub called : Call
 
 -- "with one profile and nobody else storing to it or the rows": the queues may be others at each call
 unfoldable pub liveAfterEach : Profile → List LentCall → Live → Live
 liveAfterEach p [] z = z
-liveAfterEach p (c ∷ calls) z = liveAfterEach p calls (liveAfter p (c .queues) z (c .call))
+liveAfterEach p (c ∷ calls) z = liveAfterEach p calls (liveAfter p (c .queues) z (c .called))
+
+-- a fragment by itself: a fresh tracer with a tally lent as zeros, and calls, each with queues of its own, refused or not
+pub record FreshFragment : Type 0 where
+  pub here : Cursor
+  pub cells : List ℕ
+  pub tally : List ℕ
+  pub zeros : Zeros tally
+  pub calls : List LentCall
+
+abbrev pub endOf : Profile → FreshFragment → Live
+endOf p start = liveAfterEach p (start .calls) (liveFresh (start .here) (start .cells) (start .tally))
+
+unfoldable pub endsOf : Profile → List FreshFragment → List Live
+endsOf p [] = []
+endsOf p (start ∷ starts) = endOf p start ∷ endsOf p starts

@@ -10,12 +10,10 @@ use Rattle.groups.specs.Answer.{pick}
 use Rattle.groups.specs.Constants.{countColumn}
 use Rattle.rows.specs.ways.Order.{occurrences}
 use Rattle.rows.specs.declared.records.profile.Profile.{Profile}
-use Rattle.rows.specs.records.Addresses.{Queues}
 use Rattle.rows.specs.records.Buffers.{rowsOf, bufferRow, lastRow, addrOf, opcodeOf}
 use Rattle.rows.specs.passes.Passes.{flaggedEnd}
-use Rattle.rows.specs.cycles.Made.{Cursor}
 use Rattle.rows.specs.cycles.Tallies.{mostPlaces, countIn, isOf, first}
-use Rattle.theory_runs.specs.LiveCalls.{Live, LiveFragment, liveClosed, liveCursor, tallies}
+use Rattle.theory_runs.specs.LiveCalls.{Live}
 
 -- the addresses of the rows behind the flagged ENDs of some rows, one after another
 unfoldable pub successors : Profile → List (List ℕ) → List ℕ
@@ -35,11 +33,11 @@ onceFrom seen (addr ∷ addrs) = onceFrom (withNew seen addr) addrs
 abbrev pub onceEach : List ℕ → List ℕ
 onceEach addrs = onceFrom [] addrs
 
--- "exactly each successor address of a flagged END, with its number, in order of first appearance", and zeros behind
+-- "exactly each successor address of a flagged END, with its number, in order of first appearance", and zeros behind in the 256 places
 pub record Tells (addrs tally : List ℕ) : Type 0 where
   pub address : (place : ℕ) → place < length (onceEach addrs) → getD tally (2 * place) 0 ≡ getD (onceEach addrs) place 0
   pub number : (place : ℕ) → place < length (onceEach addrs) → getD tally (2 * place + 1) 0 ≡ occurrences (getD (onceEach addrs) place 0) addrs
-  pub zeros : (i : ℕ) → 2 * length (onceEach addrs) ≤ i → getD tally i 0 ≡ 0
+  pub zeros : (i : ℕ) → 2 * length (onceEach addrs) ≤ i → i < 2 * mostPlaces → getD tally i 0 ≡ 0
 
 -- "the rows written so far in this fragment"
 abbrev pub writtenSoFar : Live → List (List ℕ)
@@ -52,33 +50,35 @@ TallyTells p z = Tells (successors p (writtenSoFar z)) (z .tally)
 unfoldable pub talliedAt : (addr : ℕ) → (tally : List ℕ) → ℕ
 talliedAt addr tally = pick (ltb (first (isOf tally addr)) mostPlaces) (countIn tally (first (isOf tally addr))) 0
 
--- "The fragments' tallies ... must add up"
-unfoldable pub talliesAt : (addr : ℕ) → List (List ℕ) → ℕ
+-- what some fragments end with: "The fragments' tallies"
+unfoldable pub talliesAt : (addr : ℕ) → List Live → ℕ
 talliesAt addr [] = 0
-talliesAt addr (tally ∷ more) = talliedAt addr tally + talliesAt addr more
-
--- the rows of each fragment, as it holds them
-unfoldable pub rowsEach : Profile → Queues → List LiveFragment → Cursor → List (List (List ℕ))
-rowsEach p q [] here = []
-rowsEach p q (fragment ∷ fragments) here = writtenSoFar (liveClosed p q here fragment) ∷ rowsEach p q fragments (liveCursor p q here fragment)
-
--- the first of some rows, no cells where there is none
-abbrev pub headRow : List (List ℕ) → List ℕ
-headRow [] = []
-headRow (row ∷ rows) = row
+talliesAt addr (z ∷ more) = talliedAt addr (z .tally) + talliesAt addr more
 
 -- "1 more for each flagged END that ends a fragment and has its successor in the next", with this address
-unfoldable pub crossings : Profile → (addr : ℕ) → List (List (List ℕ)) → ℕ
+unfoldable pub crossing : Profile → (addr : ℕ) → (rows next : List (List ℕ)) → ℕ
+crossing p addr rows [] = 0
+crossing p addr rows (successor ∷ next) = pick (flaggedEnd p (lastRow rows) && eqb (addrOf successor) addr) 1 0
+
+unfoldable pub crossings : Profile → (addr : ℕ) → List Live → ℕ
 crossings p addr [] = 0
-crossings p addr (rows ∷ []) = 0
-crossings p addr (rows ∷ next ∷ more) =
-    pick (flaggedEnd p (lastRow rows) && eqb (addrOf (headRow next)) addr) 1 0 + crossings p addr (next ∷ more)
+crossings p addr (z ∷ []) = 0
+crossings p addr (z ∷ next ∷ more) = crossing p addr (writtenSoFar z) (writtenSoFar next) + crossings p addr (next ∷ more)
 
 -- the number of an address over all fragments
-abbrev pub overFragments : Profile → Queues → List LiveFragment → Cursor → (addr : ℕ) → ℕ
-overFragments p q fragments here addr = talliesAt addr (tallies p q fragments here) + crossings p addr (rowsEach p q fragments here)
+abbrev pub overFragments : Profile → List Live → (addr : ℕ) → ℕ
+overFragments p ends addr = talliesAt addr ends + crossings p addr ends
+
+-- all rows of some fragments, one after another; none of these without rows
+unfoldable pub rowsOfAll : List Live → List (List ℕ)
+rowsOfAll [] = []
+rowsOfAll (z ∷ more) = writtenSoFar z ++ rowsOfAll more
+
+unfoldable pub NoneEmpty : List Live → Type 0
+NoneEmpty [] = Unit {0}
+NoneEmpty (z ∷ more) = (0 < z .held .tracer .«row_write_index») × NoneEmpty more
 
 -- "every count it sets": each LOOP row but the last of the first `rows` rows has the count of the address behind it
-abbrev pub LoopCounts : Profile → (count : ℕ → ℕ) → (rows : ℕ) → (cells : List ℕ) → Type 0
-LoopCounts p count rows cells =
+abbrev pub CountsSet : Profile → (count : ℕ → ℕ) → (rows : ℕ) → (cells : List ℕ) → Type 0
+CountsSet p count rows cells =
     (i : ℕ) → i + 1 < rows → opcodeOf (bufferRow i cells) ≡ p .«loop_op» → cellAt (bufferRow i cells) countColumn ≡ count (addrOf (bufferRow (i + 1) cells))

@@ -14,7 +14,7 @@ use Rattle.rows.specs.declared.cycles.scan.Scan.{Scan}
 use Rattle.rows.specs.records.Buffers.{bufferRow}
 use Rattle.rows.specs.passes.Passes.{flaggedEnd}
 use Rattle.rows.specs.cycles.Made.{toldMade}
-use Rattle.rows.specs.cycles.Tallies.{countIn, isFree, isOf, first, placeFor, countedAt, noPlace, countsNext, rowAddr, withTally, tallied, tallyAfter}
+use Rattle.rows.specs.cycles.Tallies.{countIn, isFree, isOf, first, placeFor, countedAt, cannotCount, countsNext, rowAddr, withTally, tallied, tallyAfter}
 use Rattle.rows.specs.ways.Inner.{HasRoom, InLimits, Countable}
 use Rattle.rows.proofs.passes.Checks.{neither}
 
@@ -32,8 +32,8 @@ module _ (tally : List ℕ) (addr : ℕ) where
   place-free e = rw e
 
 -- there is a place, and its count can grow
-pub place-left : (tally : List ℕ) (place : ℕ) → noPlace tally place ≡ false → (place < 256) × (countIn tally place < 16777216)
-unfolding noPlace
+pub place-left : (tally : List ℕ) (place : ℕ) → cannotCount tally place ≡ false → (place < 256) × (countIn tally place < 16777216)
+unfolding cannotCount
 place-left tally place e =
     let (some, small) = neither (leb 256 place) _ e in
     (leb-false 256 place some, leb-false 16777216 (countIn tally place) small)
@@ -62,11 +62,11 @@ module _ (p : Profile) (tally fragment : List ℕ) (rows : ℕ) where
     unfolding tallied tallyAfter
     nothing-counted e = record { answers = rw e; leaves = rw (e, e) }
 
-    pub place-missing : countsNext p fragment rows ≡ true → noPlace tally (placeFor tally (rowAddr m)) ≡ true → Does (accepted m) (refused 32) tally
+    pub place-missing : countsNext p fragment rows ≡ true → cannotCount tally (placeFor tally (rowAddr m)) ≡ true → Does (accepted m) (refused 32) tally
     unfolding tallied tallyAfter
     place-missing e n = record { answers = rw (e, n); leaves = rw (e, n) }
 
-    pub counted-there : countsNext p fragment rows ≡ true → noPlace tally (placeFor tally (rowAddr m)) ≡ false → Does (accepted m) (accepted m) (countedAt tally (rowAddr m) (placeFor tally (rowAddr m)))
+    pub counted-there : countsNext p fragment rows ≡ true → cannotCount tally (placeFor tally (rowAddr m)) ≡ false → Does (accepted m) (accepted m) (countedAt tally (rowAddr m) (placeFor tally (rowAddr m)))
     unfolding tallied tallyAfter
     counted-there e n = record { answers = rw (e, n); leaves = rw (e, n, e) }
 

@@ -58,8 +58,8 @@ countedAt tally addr place =
     pick (isFree tally place) (set (set tally (2 * place) addr) (2 * place + 1) 1) (set tally (2 * place + 1) (countIn tally place + 1))
 
 -- "a 257th address or a count above 2^24"
-unfoldable pub noPlace : (tally : List ℕ) → (place : ℕ) → Bool
-noPlace tally place = leb mostPlaces place || leb mostRows (countIn tally place)
+unfoldable pub cannotCount : (tally : List ℕ) → (place : ℕ) → Bool
+cannotCount tally place = leb mostPlaces place || leb mostRows (countIn tally place)
 
 -- "A cycle counts its row's address exactly when the row before, as the fragment then holds it, is a flagged END to the multiplicity pass".
 -- `rows` are those before; a first row counts nothing
@@ -82,7 +82,7 @@ module _ (p : Profile) (tally fragment : List ℕ) (rows : ℕ) where
   unfoldable pub tallied : Answer MadeRow → Answer MadeRow
   tallied found =
       andThen found (λ m.
-      refuseIf (countsNext p fragment rows && noPlace tally (placeFor tally (rowAddr m))) tallyFull
+      refuseIf (countsNext p fragment rows && cannotCount tally (placeFor tally (rowAddr m))) tallyFull
       (accepted m))
 
   -- the tally after a finish

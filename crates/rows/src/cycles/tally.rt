@@ -13,7 +13,7 @@ ghost use Prim.Native.Nat.{_<_, _≤_};
 ghost use lib.ListN.{length};
 ghost use Rattle.groups.specs.Constants.{mostRows};
 ghost use Rattle.rows.specs.cycles.Made.{toldMade};
-ghost use Rattle.rows.specs.cycles.Tallies.{countIn, isFree, isOf, placeFor, countedAt, noPlace, countsNext, withTally, tallied, tallyAfter};
+ghost use Rattle.rows.specs.cycles.Tallies.{countIn, isFree, isOf, placeFor, countedAt, cannotCount, countsNext, withTally, tallied, tallyAfter};
 ghost use Rattle.rows.specs.ways.Inner.{Countable};
 
 // A scan's answer, and 11 for a tally of fewer places.
@@ -64,9 +64,9 @@ fn place_for(tally: &[u64], addr: u64) -> usize
 }
 
 // Refusal 32: no place is left, or the count at the place can't grow.
-fn no_place(tally: &[u64], place: usize) -> bool
+fn cannot_count(tally: &[u64], place: usize) -> bool
     requires { ⌜ place ≤ 256 ⌝ }
-    ensures { λ r. ⌜ r ≡ noPlace (now (tally .entry)) place ⌝ }
+    ensures { λ r. ⌜ r ≡ cannotCount (now (tally .entry)) place ⌝ }
 {
     (256 <= place) | (Row::MOST as u64 <= number_at(tally, 2 * place + 1))
 }
@@ -117,7 +117,7 @@ pub(crate) fn count_row(
     let decoder = row.row;
     let addr = reduce(decoder.addr);
     let place = place_for(tally, addr);
-    if no_place(tally, place) {
+    if cannot_count(tally, place) {
         return Made::Refused(Refusal::TALLY_FULL);
     }
     count_at(tally, addr, place);

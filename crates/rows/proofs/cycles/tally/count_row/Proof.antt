@@ -15,7 +15,7 @@ count-at-requires c κs =
     let n = c .before .before in
     let k = n .before .before .before .before .before .before .before .before .before in
     let s = k .before .before .before .before in
-    let left = place-left (now (s .args .tally)) (n .before .before .place-for .result) (sym (n .no-place .ensures) ∙ c .before .if2 .left) in
+    let left = place-left (now (s .args .tally)) (n .before .before .place-for .result) (sym (n .cannot-count .ensures) ∙ c .before .if2 .left) in
     (left .0, (rw (k .made .given .1) at (s .pre)) .1, left .1)
 
 returns : tie.Need-returns
@@ -39,7 +39,7 @@ returns-3 c =
     let i = r .before .before in
     let k = i .before .before .before in
     let a = k .before .before .before .before .args in
-    let d = place-missing (a .profile) (now (a .tally)) (now (a .fragment)) (a .rows) (k .made .given .0 .0) (sym (i .before .counts-next .ensures) ∙ not-false _ (i .if1 .left)) (rw (← (r .reduce .ensures), ← (f .place-for .ensures .0), ← (n .no-place .ensures)) (c .if2 .taken)) in
+    let d = place-missing (a .profile) (now (a .tally)) (now (a .fragment)) (a .rows) (k .made .given .0 .0) (sym (i .before .counts-next .ensures) ∙ not-false _ (i .if1 .left)) (rw (← (r .reduce .ensures), ← (f .place-for .ensures .0), ← (n .cannot-count .ensures)) (c .if2 .taken)) in
     rw (k .made .given .1) (d .answers, d .leaves)
 
 returns-4 : tie.Need-returns-4
@@ -51,7 +51,7 @@ returns-4 c =
     let i = r .before .before in
     let k = i .before .before .before in
     let a = k .before .before .before .before .args in
-    let d = counted-there (a .profile) (now (a .tally)) (now (a .fragment)) (a .rows) (k .made .given .0 .0) (sym (i .before .counts-next .ensures) ∙ not-false _ (i .if1 .left)) (rw (← (r .reduce .ensures), ← (f .place-for .ensures .0), ← (n .no-place .ensures)) (w .before .before .if2 .left)) in
+    let d = counted-there (a .profile) (now (a .tally)) (now (a .fragment)) (a .rows) (k .made .given .0 .0) (sym (i .before .counts-next .ensures) ∙ not-false _ (i .if1 .left)) (rw (← (r .reduce .ensures), ← (f .place-for .ensures .0), ← (n .cannot-count .ensures)) (w .before .before .if2 .left)) in
     rw (k .made .given .1) (d .answers, rw (← (r .reduce .ensures), ← (f .place-for .ensures .0)) (w .count-at .ensures) ∙ d .leaves)
 
 pub count-row-spec : {M : Type 1} → statement M
