@@ -172,7 +172,7 @@ def public_functions(path):
     """Of each public function of a file: its contract and signature as one text, and the names of its parameters."""
     text = re.sub(r"//.*", "", path.read_text())
     for m in re.finditer(r'^\s*pub (?:extern "C" )?fn ', text, re.M):
-        header = text[m.start():header_end(text, m.end())]
+        header = re.sub(r"<'[^<>]*>", " ", text[m.start():header_end(text, m.end())])  # without lifetimes
         yield header, set(re.findall(r"(\w+): ", re.sub(r"⌜.*?⌝", "", header, flags=re.S)))
 
 
