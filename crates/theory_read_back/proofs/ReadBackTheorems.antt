@@ -23,8 +23,8 @@ use Rattle.reader.proofs.ReaderExact.{one-read, some-read, is-right-answer, rea
 use Rattle.theory_runs.specs.Calls.{Fragment, AllAccepted, finalStates, cellsOf, countsOf, builtCells, OneSize}
 use Rattle.theory_runs.specs.Happened.{cyclesOf}
 use Rattle.theory_runs.specs.Finished.{Runs, nesting, writtenByFive, writtenByFinisher, FivePass, FinisherPasses}
-use Rattle.theory_runs.specs.LiveCalls.{LiveFragment, plainAll, AllLiveAccepted, liveEnds, liveFinals, LentAsZeros, FreshFragment, endOf, endsOf}
-use Rattle.theory_runs.specs.LiveFinished.{SameRun, liveByFive, liveByFinisher, LiveFivePass, LiveFinisherPasses}
+use Rattle.theory_runs.specs.LiveCalls.{LiveFragment, plainAll, AllLiveAccepted, liveEnds, liveFinals, LentAsZeros, FreshFragment, freshEnd, freshEnds}
+use Rattle.theory_runs.specs.LiveFinished.{SameAsPlain, liveByFive, liveByFinisher, LiveFivePass, LiveFinisherPasses}
 use Rattle.theory_runs.specs.Tallies.{TallyTells, overFragments, rowsOfAll, NoneEmpty, CountsSet}
 use Rattle.theory_runs.specs.Overflow.{OverflowRule, DepthInRange, AllDepths32}
 use Rattle.theory_runs.specs.WithoutSyscall.{NoSyscallStarts, WithoutSyscall, NoSyscallRows}
@@ -135,7 +135,7 @@ module _ (p : Profile) (q : Queues) (size : ℕ) (fragments : List Fragment) (he
 
 -- N9: the calls as they are, a tally lent to each cycle, whatever it holds. Where no call is refused the same is done without tallies: no call is
 -- refused, and the passes are handed the same final states and cells
-pub live-as-calls : (p : Profile) (q : Queues) (fragments : List LiveFragment) (here : Cursor) → AllLiveAccepted p q fragments here → SameRun p q fragments here
+pub live-as-calls : (p : Profile) (q : Queues) (fragments : List LiveFragment) (here : Cursor) → AllLiveAccepted p q fragments here → SameAsPlain p q fragments here
 live-as-calls = lives.live-as-calls
 
 -- so what is said here of the cells written without tallies is so of those written with them: `Q` is any of it
@@ -161,15 +161,15 @@ module _ (p : Profile) (q : Queues) (size : ℕ) (fragments : List LiveFragment)
 -- "Lent as zeros to a fresh tracer, with one profile and nobody else storing to it or the rows, the tally holds after every cycle, for the rows
 -- written so far in this fragment, exactly each successor address of a flagged END, with its number, in order of first appearance": after any
 -- calls, refused or not
-pub tally-told : (p : Profile) (fragment : FreshFragment) → TallyTells p (endOf p fragment)
+pub tally-told : (p : Profile) (fragment : FreshFragment) → TallyTells p (freshEnd p fragment)
 tally-told = tellings.tally-told
 
 -- "The fragments' tallies, with 1 more for each flagged END that ends a fragment and has its successor in the next, must add up to every count it
 -- sets": of pass 2 by itself, whatever fragments on fresh tracers with tallies of zeros, each with rows, these standing one after another in the
 -- buffer
-pub tallies-add-up : (p : Profile) (fragments : List FreshFragment) (buffer : List ℕ) → NoneEmpty (endsOf p fragments) → rowsOf (length (rowsOfAll (endsOf p fragments))) buffer ≡ rowsOfAll (endsOf p fragments) →
-    refusal2 p buffer (length (rowsOfAll (endsOf p fragments))) ≡ 0 →
-    CountsSet p (overFragments p (endsOf p fragments)) (length (rowsOfAll (endsOf p fragments))) (onRows (length (rowsOfAll (endsOf p fragments))) (multiplied p) buffer)
+pub tallies-add-up : (p : Profile) (fragments : List FreshFragment) (buffer : List ℕ) → NoneEmpty (freshEnds p fragments) → rowsOf (length (rowsOfAll (freshEnds p fragments))) buffer ≡ rowsOfAll (freshEnds p fragments) →
+    refusal2 p buffer (length (rowsOfAll (freshEnds p fragments))) ≡ 0 →
+    CountsSet p (overFragments p (freshEnds p fragments)) (length (rowsOfAll (freshEnds p fragments))) (onRows (length (rowsOfAll (freshEnds p fragments))) (multiplied p) buffer)
 tallies-add-up = sums.tallies-add-up
 
 -- and of what is then written, where no call and no pass is refused. No proper run is asked for

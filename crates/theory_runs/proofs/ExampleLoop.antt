@@ -40,7 +40,7 @@ use Rattle.theory_readings.specs.Tokens.{controls, controlOpcodes, isOpOpcode, 
 use Rattle.theory_readings.specs.Readings.{Ops, Block, Passes, depthOf, allRows, Trace}
 use Rattle.theory_readings.proofs.Examples.{profile}
 use Rattle.theory_runs.specs.Calls.{Call, store, finish, Fragment, after, callRefusal, afterAll, Accepted, AllAccepted, finalStates, cellsOf, countsOf, builtCells, OneSize}
-use Rattle.theory_runs.specs.LiveCalls.{LiveCall, call, lend, LiveFragment, callsOf, plainAll, liveRefusal, liveAfter, liveAfterAll, LiveAccepted, AllLiveAccepted, liveEnds, liveFinals, liveCells, NoneLent, LentAsZeros}
+use Rattle.theory_runs.specs.LiveCalls.{LiveCall, call, lend, LiveFragment, plainCalls, plainAll, liveRefusal, liveAfter, liveAfterAll, LiveAccepted, AllLiveAccepted, liveEnds, liveFinals, liveCells, NoneLent, LentAsZeros}
 use Rattle.theory_runs.specs.LiveFinished.{liveByFinisher, LiveFinisherPasses}
 use Rattle.theory_runs.specs.Tallies.{talliedAt, talliesAt, crossing, crossings, overFragments, CountsSet}
 use Rattle.theory_runs.specs.Happened.{nothingStored, startOf, operationAt, finishOf, didBy, didStored, usedBy, positionsAfter, stored, leftBy, inForceAfter, inForceAfterAll, cyclesIn, cyclesOf}
@@ -209,7 +209,7 @@ passes8 = refl
 
 -- so its count is the sum
 sum8 : CountsSet profile (overFragments profile (liveEnds profile queued live8 begin)) 9 (liveByFinisher profile queued 8 live8 begin [] (replicate 16 0) 10)
-unfolding forestA queued begin storeOf cycleOf calls1 calls2 calls3 finalState cycleWith scanOf anyBigOpcode forestTooLarge anyLongBlock anyLargeBatch readRegisters helpersOfCells systemCells stackCells anyFrom profileWrong opcodes twoEqual isOneOf lacksBits fragmentWrong made startNode startKind startBlock startOne madeEnd madeRepeat finishLoop bodyOf blockKind entryKind operationMade resumed nodeAt nodeOf isSlot digestAt opcodeAt blockOf startedAt entryAt endAt batchAt isBatch startsAt batchFlags flagsUpTo8 contextAtOp groupOf falling groupFrom placeIn contextInGroup consumed counts doubled roundUp groupsOf sumGroups anyAbove8 groupSum pushes opContext tooLarge helpersAnswer allBelow u32Values helpersOf tracerAfter leftAfter storedIn fragmentAfter putRow rowCells decoderCells fresh builtSystem builtStack noSystem noStack lastSystem lastStack controlFlow basicBlockBatch operation wordAt countsOf forPasses builtCells refusalAll firstOf sumOf fragmentsWrong bufferWrong fewerRows anyAbove heightWrong notFull loopWithoutBody anyWithoutBody bodyEnds rowsOf opcodeOf lowBits flaggedEnd cellAt reduced readSystem readStack readState readCaptured AllLiveAccepted LiveAccepted liveRefusal liveAfter liveAfterAll talliedCycle tallied tallyAfter countsNext placeFor firstFrom isOf isFree cannotCount countedAt bufferRow fragments8 withZeros plainAll callsOf liveEnds liveFinals OneSize
+unfolding forestA queued begin storeOf cycleOf calls1 calls2 calls3 finalState cycleWith scanOf anyBigOpcode forestTooLarge anyLongBlock anyLargeBatch readRegisters helpersOfCells systemCells stackCells anyFrom profileWrong opcodes twoEqual isOneOf lacksBits fragmentWrong made startNode startKind startBlock startOne madeEnd madeRepeat finishLoop bodyOf blockKind entryKind operationMade resumed nodeAt nodeOf isSlot digestAt opcodeAt blockOf startedAt entryAt endAt batchAt isBatch startsAt batchFlags flagsUpTo8 contextAtOp groupOf falling groupFrom placeIn contextInGroup consumed counts doubled roundUp groupsOf sumGroups anyAbove8 groupSum pushes opContext tooLarge helpersAnswer allBelow u32Values helpersOf tracerAfter leftAfter storedIn fragmentAfter putRow rowCells decoderCells fresh builtSystem builtStack noSystem noStack lastSystem lastStack controlFlow basicBlockBatch operation wordAt countsOf forPasses builtCells refusalAll firstOf sumOf fragmentsWrong bufferWrong fewerRows anyAbove heightWrong notFull loopWithoutBody anyWithoutBody bodyEnds rowsOf opcodeOf lowBits flaggedEnd cellAt reduced readSystem readStack readState readCaptured AllLiveAccepted LiveAccepted liveRefusal liveAfter liveAfterAll talliedCycle tallied tallyAfter countsNext placeFor firstFrom isOf isFree cannotCount countedAt bufferRow fragments8 withZeros plainAll plainCalls liveEnds liveFinals OneSize
 sum8 = tallies-add-up-finished profile queued 8 live8 begin (with-zeros fragments8) free8 [] (replicate 16 0) 10 (refl, refl, tt) passes8
 
 -- in fragments of 4 with other numbers in the tallies, one of them lent between two cycles
@@ -220,7 +220,7 @@ live4 =
     ∷ record { calls = map call calls3; cells = replicate 196 9; tally = replicate 512 0 } ∷ []
 
 plain4 : plainAll live4 ≡ fragments
-unfolding live4 calls1 calls2 calls3 fragments plainAll callsOf
+unfolding live4 calls1 calls2 calls3 fragments plainAll plainCalls
 plain4 = refl
 
 free4 : AllLiveAccepted profile queued live4 begin

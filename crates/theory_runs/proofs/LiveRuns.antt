@@ -24,8 +24,8 @@ use Rattle.rows.specs.cycles.Cycles.{continuationOf, refuseIf, cycleWith, cycle
 use Rattle.rows.specs.cycles.Tallies.{placeFor, cannotCount, countsNext, rowAddr, withTally, tallied, talliedCycle}
 use Rattle.groups.proofs.OneGroup.{neither}
 use Rattle.theory_runs.specs.Calls.{Handed, Call, store, finish, answered, after, callRefusal, afterAll, Accepted, closed, cursorOf, AllAccepted, finalStates, cellsOf}
-use Rattle.theory_runs.specs.LiveCalls.{Live, LiveCall, call, lend, LiveFragment, callsOf, plainOf, plainAll, liveAnswered, liveAfter, liveRefusal, liveAfterAll, LiveAccepted, liveOpened, liveClosed, liveCursor, AllLiveAccepted, liveEnds, liveFinals, liveCells}
-use Rattle.theory_runs.specs.LiveFinished.{SameRun}
+use Rattle.theory_runs.specs.LiveCalls.{Live, LiveCall, call, lend, LiveFragment, plainCalls, plainOf, plainAll, liveAnswered, liveAfter, liveRefusal, liveAfterAll, LiveAccepted, liveOpened, liveClosed, liveCursor, AllLiveAccepted, liveEnds, liveFinals, liveCells}
+use Rattle.theory_runs.specs.LiveFinished.{SameAsPlain}
 use Rattle.theory_runs.proofs.Answers.{Numbered, accepted-of, then-numbered, if-numbered, cycle-with-numbered, then-accepted, if-accepted}
 
 -- ONE CYCLE
@@ -102,25 +102,25 @@ module _ (p : Profile) (q : Queues) where
 
   -- whatever tallies are lent
   pub live-calls : (calls : List LiveCall) (z : Live) → LiveAccepted p q calls z →
-      Accepted p q (callsOf calls) (z .held) × (liveAfterAll p q calls z .held ≡ afterAll p q (callsOf calls) (z .held))
-  unfolding LiveAccepted Accepted liveRefusal callRefusal liveAfterAll afterAll callsOf
+      Accepted p q (plainCalls calls) (z .held) × (liveAfterAll p q calls z .held ≡ afterAll p q (plainCalls calls) (z .held))
+  unfolding LiveAccepted Accepted liveRefusal callRefusal liveAfterAll afterAll plainCalls
   live-calls [] z a = (a, refl)
   live-calls (call (store values) ∷ calls) z a =
       let same = live-stored z values in
       let r = live-calls calls (liveAfter p q z (store values)) (a .1) in
-      ((a .0, rw same at (r .0)), r .1 ∙ ap (afterAll p q (callsOf calls)) same)
+      ((a .0, rw same at (r .0)), r .1 ∙ ap (afterAll p q (plainCalls calls)) same)
   live-calls (call (finish i) ∷ calls) z a =
       let (m, e) = live-answer p (i .forest) q (i .stack) (i .registers) (z .tally) (z .held .cells) (z .held .tracer) (a .0) in
       let (plain, same) = live-same z i m e in
       let r = live-calls calls (liveAfter p q z (finish i)) (a .1) in
-      ((ap refusal plain, rw same at (r .0)), r .1 ∙ ap (afterAll p q (callsOf calls)) same)
+      ((ap refusal plain, rw same at (r .0)), r .1 ∙ ap (afterAll p q (plainCalls calls)) same)
   live-calls (lend tally ∷ calls) z a = live-calls calls (record { held = z .held; tally = tally }) a
 
   live-closed : (here : Cursor) (fragment : LiveFragment) → LiveAccepted p q (fragment .calls) (liveOpened p q here fragment) → liveClosed p q here fragment .held ≡ closed p q here (plainOf fragment)
   live-closed here fragment a = live-calls (fragment .calls) (liveOpened p q here fragment) a .1
 
   -- so a run with tallies is the run without, and the passes are handed the same
-  pub live-as-calls : (fragments : List LiveFragment) (here : Cursor) → AllLiveAccepted p q fragments here → SameRun p q fragments here
+  pub live-as-calls : (fragments : List LiveFragment) (here : Cursor) → AllLiveAccepted p q fragments here → SameAsPlain p q fragments here
   unfolding AllLiveAccepted plainAll AllAccepted liveEnds liveFinals finalStates liveCells cellsOf
   live-as-calls [] here a = record { none-refused = tt; same-finals = refl; same-cells = refl }
   live-as-calls (fragment ∷ fragments) here a =

@@ -25,7 +25,7 @@ use Rattle.rows.proofs.passes.Occurrences.{occurrences-append}
 use Rattle.rows.proofs.passes.RowLists.{Wide, wide-rows, length-rows, row-at, rows-flat}
 use Rattle.theory_reductions.proofs.CellsBelow.{ends-most}
 use Rattle.theory_runs.specs.Calls.{Fragment, opened, closed, cursorOf, AllAccepted, finalStates, countsOf, builtCells, OneSize}
-use Rattle.theory_runs.specs.LiveCalls.{Live, LiveCall, call, lend, LiveFragment, callsOf, plainOf, plainAll, liveAfter, liveAfterAll, LiveAccepted, liveOpened, liveClosed, liveCursor, AllLiveAccepted, liveEnds, liveFinals, NoneLent, LentAsZeros, LentCall, liveAfterEach, FreshFragment, endsOf}
+use Rattle.theory_runs.specs.LiveCalls.{Live, LiveCall, call, lend, LiveFragment, plainCalls, plainOf, plainAll, liveAfter, liveAfterAll, LiveAccepted, liveOpened, liveClosed, liveCursor, AllLiveAccepted, liveEnds, liveFinals, NoneLent, LentAsZeros, LentCall, liveAfterEach, FreshFragment, freshEnds}
 use Rattle.theory_runs.specs.Written.{rowsIn, rowsRun}
 use Rattle.theory_runs.specs.LiveFinished.{liveByFive, liveByFinisher, LiveFivePass, LiveFinisherPasses}
 use Rattle.theory_runs.specs.Tallies.{successors, writtenSoFar, talliesAt, crossing, crossings, overFragments, rowsOfAll, NoneEmpty, CountsSet}
@@ -93,13 +93,13 @@ module _ (p : Profile) (addr : ℕ) where
         ends-joined (next ∷ more) (n .1),
       )
 
-  ends-tallied : (fragments : List FreshFragment) → endsEach p addr (endsOf p fragments) ≡ talliesAt addr (endsOf p fragments)
-  unfolding endsEach endsOf talliesAt
+  ends-tallied : (fragments : List FreshFragment) → endsEach p addr (freshEnds p fragments) ≡ talliesAt addr (freshEnds p fragments)
+  unfolding endsEach freshEnds talliesAt
   ends-tallied [] = refl
   ends-tallied (fragment ∷ fragments) = ap₂ (λ a b. a + b) (ends-are p addr _ ∙ sym (tally-count p fragment addr)) (ends-tallied fragments)
 
   -- the body ENDs of all rows, by the tallies and the crossings
-  ends-over : (fragments : List FreshFragment) (ends : List Live) → endsOf p fragments ≡ ends → NoneEmpty ends → bodyEnds p addr (rowsOfAll ends) ≡ overFragments p ends addr
+  ends-over : (fragments : List FreshFragment) (ends : List Live) → freshEnds p fragments ≡ ends → NoneEmpty ends → bodyEnds p addr (rowsOfAll ends) ≡ overFragments p ends addr
   ends-over fragments ends e n =
       ends-joined ends n ∙ ap (λ a. a + crossings p addr ends) (ap (endsEach p addr) (sym e) ∙ ends-tallied fragments ∙ ap (talliesAt addr) e)
 
@@ -124,19 +124,19 @@ module _ (p : Profile) (q : Queues) where
   freshOf (fragment ∷ fragments) l here =
       record { here = here; cells = fragment .cells; tally = fragment .tally; zeros = l .0; calls = eachOf q (fragment .calls) } ∷ freshOf fragments (l .2) (liveCursor p q here fragment)
 
-  fresh-ends : (fragments : List LiveFragment) (l : LentAsZeros fragments) (here : Cursor) → endsOf p (freshOf fragments l here) ≡ liveEnds p q fragments here
-  unfolding LentAsZeros freshOf endsOf liveEnds
+  fresh-ends : (fragments : List LiveFragment) (l : LentAsZeros fragments) (here : Cursor) → freshEnds p (freshOf fragments l here) ≡ liveEnds p q fragments here
+  unfolding LentAsZeros freshOf freshEnds liveEnds
   fresh-ends [] l here = refl
   fresh-ends (fragment ∷ fragments) l here =
       ap₂ (λ z more. z ∷ more) (all-each (fragment .calls) (liveOpened p q here fragment) (l .1)) (fresh-ends fragments (l .2) (liveCursor p q here fragment))
 
   -- the rows that a fragment holds are those that its cycles wrote
   rows-held : (here : Cursor) (fragment : LiveFragment) → LiveAccepted p q (fragment .calls) (liveOpened p q here fragment) →
-      writtenSoFar (liveClosed p q here fragment) ≡ rowsIn p q (callsOf (fragment .calls)) (opened p q here (plainOf fragment))
+      writtenSoFar (liveClosed p q here fragment) ≡ rowsIn p q (plainCalls (fragment .calls)) (opened p q here (plainOf fragment))
   rows-held here fragment a =
       let (plain, same) = live-calls p q (fragment .calls) (liveOpened p q here fragment) a in
       let h = fragment-holding p q here (plainOf fragment) plain in
-      rw same (ap₂ rowsOf (h .count-is) (h .cells-are) ∙ rows-flat (rowsIn p q (callsOf (fragment .calls)) (opened p q here (plainOf fragment))) _ (h .wide))
+      rw same (ap₂ rowsOf (h .count-is) (h .cells-are) ∙ rows-flat (rowsIn p q (plainCalls (fragment .calls)) (opened p q here (plainOf fragment))) _ (h .wide))
 
   rows-joined : (fragments : List LiveFragment) (here : Cursor) → AllLiveAccepted p q fragments here → rowsOfAll (liveEnds p q fragments here) ≡ rowsRun p q (plainAll fragments) here
   unfolding rowsOfAll liveEnds rowsRun plainAll AllLiveAccepted
@@ -254,11 +254,11 @@ set-alone p rows buffer front e i h is =
     ap (λ x. cellAt x 23) this ∙ counts-set p count (λ x. omega (arith, ends-most p x rows)) rows i wide h (sym (ap opcodeOf this) ∙ is) ∙ ap (λ x. count (addrOf x)) (sym next)
 
 -- fragments by themselves, whose rows stand one after another in a buffer
-pub tallies-add-up : (p : Profile) (fragments : List FreshFragment) (buffer : List ℕ) → NoneEmpty (endsOf p fragments) → rowsOf (length (rowsOfAll (endsOf p fragments))) buffer ≡ rowsOfAll (endsOf p fragments) →
-    refusal2 p buffer (length (rowsOfAll (endsOf p fragments))) ≡ 0 →
-    CountsSet p (overFragments p (endsOf p fragments)) (length (rowsOfAll (endsOf p fragments))) (onRows (length (rowsOfAll (endsOf p fragments))) (multiplied p) buffer)
+pub tallies-add-up : (p : Profile) (fragments : List FreshFragment) (buffer : List ℕ) → NoneEmpty (freshEnds p fragments) → rowsOf (length (rowsOfAll (freshEnds p fragments))) buffer ≡ rowsOfAll (freshEnds p fragments) →
+    refusal2 p buffer (length (rowsOfAll (freshEnds p fragments))) ≡ 0 →
+    CountsSet p (overFragments p (freshEnds p fragments)) (length (rowsOfAll (freshEnds p fragments))) (onRows (length (rowsOfAll (freshEnds p fragments))) (multiplied p) buffer)
 tallies-add-up p fragments buffer some front e i h is =
-    set-alone p (rowsOfAll (endsOf p fragments)) buffer front e i h is ∙ ends-over p (addrOf (bufferRow (i + 1) (onRows (length (rowsOfAll (endsOf p fragments))) (multiplied p) buffer))) fragments (endsOf p fragments) refl some
+    set-alone p (rowsOfAll (freshEnds p fragments)) buffer front e i h is ∙ ends-over p (addrOf (bufferRow (i + 1) (onRows (length (rowsOfAll (freshEnds p fragments))) (multiplied p) buffer))) fragments (freshEnds p fragments) refl some
 
 -- pass 3 leaves the decoder cells
 inverted-decoder : (rows : List (List ℕ)) (i : ℕ) → decoderOf (getD (inverted rows) i []) ≡ decoderOf (getD rows i [])

@@ -27,7 +27,7 @@ use Rattle.rows.specs.cycles.Cycles.{fresh, storingOf, storedIn, tracerAfter, f
 use Rattle.rows.specs.cycles.Tallies.{placeFor, countedAt, cannotCount, countsNext, rowAddr, tallyAfter}
 use Rattle.rows.proofs.passes.RowLists.{Wide, wide-rows, length-rows, wide-app, as-rows, rows-flat, put-behind, drop-rows}
 use Rattle.theory_runs.specs.Calls.{Handed, Call, store, finish}
-use Rattle.theory_runs.specs.LiveCalls.{Live, LentCall, FreshFragment, Zeros, liveFresh, liveAnswered, liveAfter, liveAfterEach, endOf}
+use Rattle.theory_runs.specs.LiveCalls.{Live, LentCall, FreshFragment, Zeros, liveFresh, liveAnswered, liveAfter, liveAfterEach, freshEnd}
 use Rattle.theory_runs.specs.Tallies.{successors, onceFrom, onceEach, writtenSoFar, TallyTells, talliedAt}
 use Rattle.theory_runs.proofs.Answers.{accepted-came}
 use Rattle.theory_runs.proofs.Folded.{row-wide}
@@ -127,16 +127,16 @@ module _ (p : Profile) where
   unfolding fresh rowsOf successors onceFrom
   stands-fresh here cells tally zeros = standing-none tally zeros
 
-  stands-end : (fragment : FreshFragment) → StandsLive (endOf p fragment)
+  stands-end : (fragment : FreshFragment) → StandsLive (freshEnd p fragment)
   stands-end fragment =
       stands-each (fragment .calls) (liveFresh (fragment .here) (fragment .cells) (fragment .tally)) (stands-fresh (fragment .here) (fragment .cells) (fragment .tally) (fragment .zeros))
 
   -- "Lent as zeros to a fresh tracer, with one profile and nobody else storing to it or the rows, the tally holds after every cycle, for the rows
   -- written so far in this fragment, exactly each successor address of a flagged END, with its number, in order of first appearance": after any
   -- calls, refused or not
-  pub tally-told : (fragment : FreshFragment) → TallyTells p (endOf p fragment)
+  pub tally-told : (fragment : FreshFragment) → TallyTells p (freshEnd p fragment)
   tally-told fragment = standing-tells _ _ (stands-end fragment)
 
   -- so the count of an address is its number
-  pub tally-count : (fragment : FreshFragment) (addr : ℕ) → talliedAt addr (endOf p fragment .tally) ≡ occurrences addr (successors p (writtenSoFar (endOf p fragment)))
+  pub tally-count : (fragment : FreshFragment) (addr : ℕ) → talliedAt addr (freshEnd p fragment .tally) ≡ occurrences addr (successors p (writtenSoFar (freshEnd p fragment)))
   tally-count fragment addr = standing-count _ _ _ (stands-end fragment) addr

@@ -35,13 +35,13 @@ pub record LiveFragment : Type 0 where
   pub tally : List ℕ
 
 -- the calls and the fragments without their tallies
-unfoldable pub callsOf : List LiveCall → List Call
-callsOf [] = []
-callsOf (call c ∷ calls) = c ∷ callsOf calls
-callsOf (lend tally ∷ calls) = callsOf calls
+unfoldable pub plainCalls : List LiveCall → List Call
+plainCalls [] = []
+plainCalls (call c ∷ calls) = c ∷ plainCalls calls
+plainCalls (lend tally ∷ calls) = plainCalls calls
 
 abbrev pub plainOf : LiveFragment → Fragment
-plainOf fragment = record { calls = callsOf (fragment .calls); cells = fragment .cells }
+plainOf fragment = record { calls = plainCalls (fragment .calls); cells = fragment .cells }
 
 unfoldable pub plainAll : List LiveFragment → List Fragment
 plainAll [] = []
@@ -142,9 +142,9 @@ pub record FreshFragment : Type 0 where
   pub zeros : Zeros tally
   pub calls : List LentCall
 
-abbrev pub endOf : Profile → FreshFragment → Live
-endOf p start = liveAfterEach p (start .calls) (liveFresh (start .here) (start .cells) (start .tally))
+abbrev pub freshEnd : Profile → FreshFragment → Live
+freshEnd p start = liveAfterEach p (start .calls) (liveFresh (start .here) (start .cells) (start .tally))
 
-unfoldable pub endsOf : Profile → List FreshFragment → List Live
-endsOf p [] = []
-endsOf p (start ∷ starts) = endOf p start ∷ endsOf p starts
+unfoldable pub freshEnds : Profile → List FreshFragment → List Live
+freshEnds p [] = []
+freshEnds p (start ∷ starts) = freshEnd p start ∷ freshEnds p starts

@@ -14,7 +14,7 @@ use Rattle.theory_runs.specs.Finished.{buffer5, finisherBuffer, FiveAcce
 use Rattle.theory_runs.specs.LiveCalls.{LiveFragment, plainAll, liveEnds, liveFinals, liveCells}
 
 -- a run with tallies does what the same run does without them, where no call is refused either
-pub record SameRun (p : Profile) (q : Queues) (fragments : List LiveFragment) (here : Cursor) : Type 0 where
+pub record SameAsPlain (p : Profile) (q : Queues) (fragments : List LiveFragment) (here : Cursor) : Type 0 where
   pub none-refused : AllAccepted p q (plainAll fragments) here
   pub same-finals : liveFinals (liveEnds p q fragments here) ≡ finalStates p q (plainAll fragments) here
   pub same-cells : liveCells (liveEnds p q fragments here) ≡ cellsOf p q (plainAll fragments) here
