@@ -1,4 +1,3 @@
-pub mod Occurrences
 pub mod Checks
 pub mod Counts
 pub mod Finishing

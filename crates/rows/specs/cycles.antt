@@ -1,4 +1,4 @@
 pub mod Made
 pub mod Scans
 pub mod Cycles
-pub mod Tallies
+pub mod LentTally

@@ -10,7 +10,7 @@ use lib.ListN.{length}
 use Rattle.rows.specs.declared.records.profile.Profile.{Profile}
 use Rattle.rows.specs.records.Forests.{Forest}
 use Rattle.rows.specs.records.Addresses.{Queues}
-use Rattle.rows.specs.records.Buffers.{rowsOf, bufferRow, onRows}
+use Rattle.rows.specs.records.Buffers.{bufferRow, onRows}
 use Rattle.rows.specs.passes.Passes.{multiplied, sumOf, refusal2}
 use Rattle.rows.specs.cycles.Made.{Cursor}
 use Rattle.theory_readings.specs.Readings.{Block, programRows, Trace}
@@ -25,7 +25,7 @@ use Rattle.theory_runs.specs.Happened.{cyclesOf}
 use Rattle.theory_runs.specs.Finished.{Runs, nesting, writtenByFive, writtenByFinisher, FivePass, FinisherPasses}
 use Rattle.theory_runs.specs.LiveCalls.{LiveFragment, plainAll, AllLiveAccepted, liveEnds, liveFinals, LentAsZeros, FreshFragment, freshEnd, freshEnds}
 use Rattle.theory_runs.specs.LiveFinished.{SameAsPlain, liveByFive, liveByFinisher, LiveFivePass, LiveFinisherPasses}
-use Rattle.theory_runs.specs.Tallies.{TallyTells, overFragments, rowsOfAll, NoneEmpty, CountsSet}
+use Rattle.theory_runs.specs.TallyClaims.{TallyTells, overFragments, rowsOfAll, NoneEmpty, HoldsDecoders, CountsSet}
 use Rattle.theory_runs.specs.Overflow.{OverflowRule, DepthInRange, AllDepths32}
 use Rattle.theory_runs.specs.WithoutSyscall.{NoSyscallStarts, WithoutSyscall, NoSyscallRows}
 use Rattle.theory_runs.proofs.TraceOfRun.{finisher-trace, five-trace}
@@ -165,9 +165,9 @@ pub tally-told : (p : Profile) (fragment : FreshFragment) → TallyTells p (fres
 tally-told = tellings.tally-told
 
 -- "The fragments' tallies, with 1 more for each flagged END that ends a fragment and has its successor in the next, must add up to every count it
--- sets": of pass 2 by itself, whatever fragments on fresh tracers with tallies of zeros, each with rows, these standing one after another in the
--- buffer
-pub tallies-add-up : (p : Profile) (fragments : List FreshFragment) (buffer : List ℕ) → NoneEmpty (freshEnds p fragments) → rowsOf (length (rowsOfAll (freshEnds p fragments))) buffer ≡ rowsOfAll (freshEnds p fragments) →
+-- sets": of pass 2 by itself, whatever fragments on fresh tracers with tallies of zeros, each with rows, whose decoder cells stand one after
+-- another in the buffer (pass 1 leaves them as they are)
+pub tallies-add-up : (p : Profile) (fragments : List FreshFragment) (buffer : List ℕ) → NoneEmpty (freshEnds p fragments) → HoldsDecoders buffer (rowsOfAll (freshEnds p fragments)) →
     refusal2 p buffer (length (rowsOfAll (freshEnds p fragments))) ≡ 0 →
     CountsSet p (overFragments p (freshEnds p fragments)) (length (rowsOfAll (freshEnds p fragments))) (onRows (length (rowsOfAll (freshEnds p fragments))) (multiplied p) buffer)
 tallies-add-up = sums.tallies-add-up

@@ -28,7 +28,7 @@ use Rattle.rows.specs.records.Cells.{rowCells, putRow}
 use Rattle.rows.specs.passes.Passes.{flaggedEnd}
 use Rattle.rows.specs.cycles.Scans.{scanOf}
 use Rattle.rows.specs.cycles.Cycles.{refuseIf, cycleWith, tracerAfter, followingOf, fragmentAfter}
-use Rattle.rows.specs.cycles.Tallies.{countIn, isFree, isOf, firstFrom, placeFor, countedAt, cannotCount, countsNext, rowAddr, withTally, tallied, tallyAfter, talliedCycle}
+use Rattle.rows.specs.cycles.LentTally.{countIn, isFree, isOf, firstFrom, placeFor, countedAt, cannotCount, countsNext, rowAddr, withTally, unlessFull, tallyAfter, talliedCycle}
 use Rattle.theory_reductions.specs.Inputs.{readForest, readQueues, readSystemState, readStackState, readTracer, readRow, readMade, readAnswer, readPlaces, tallyCell, readTally}
 use Rattle.theory_reductions.specs.Left.{Kept}
 use Rattle.theory_reductions.proofs.StatesRead.{Gives, if-gives}
@@ -137,8 +137,8 @@ unfolding readMade readRow
 same-addr m m′ h = ap (λ (x : MadeRow). x .row .addr) h
 
 module _ (p : Profile) (tally fragment : List ℕ) (rows : ℕ) where
-  tallied-alike : (a b : Answer MadeRow) → Same a b → Same (tallied p (readTally tally) (reduced fragment) rows a) (tallied p tally fragment rows b)
-  unfolding tallied
+  tallied-alike : (a b : Answer MadeRow) → Same a b → Same (unlessFull p (readTally tally) (reduced fragment) rows a) (unlessFull p tally fragment rows b)
+  unfolding unlessFull
   tallied-alike (accepted m) (accepted m′) h =
       let e : readMade m ≡ readMade m′ = cc in
       rw (counts-reduced p fragment rows, same-addr m m′ e, place-for-read tally (rowAddr m′), none-read tally (placeFor tally (rowAddr m′)))
@@ -175,8 +175,8 @@ module _ (p : Profile) (tally fragment : List ℕ) (rows : ℕ) where
       one false = set-kept tally (2 * place + 1) (countIn tally place + 1) (omega (arith, few))
   counted-kept false addr place h e = stays tally
 
-  left-kept : (a : Answer MadeRow) → Kept tally (tallyAfter p tally fragment rows (tallied p tally fragment rows a))
-  unfolding tallied tallyAfter
+  left-kept : (a : Answer MadeRow) → Kept tally (tallyAfter p tally fragment rows (unlessFull p tally fragment rows a))
+  unfolding unlessFull tallyAfter
   left-kept (refused n) = stays tally
   left-kept (accepted m) = one (countsNext p fragment rows && cannotCount tally (placeFor tally (rowAddr m))) refl
     where
@@ -184,8 +184,8 @@ module _ (p : Profile) (tally fragment : List ℕ) (rows : ℕ) where
       one true e = stays tally
       one false e = counted-kept (countsNext p fragment rows) (rowAddr m) (placeFor tally (rowAddr m)) (read-below (m .row .addr)) e
 
-  tallied-room : (cells : ℕ) (t : CoreTraceGenerationTracer) (a : Answer MadeRow) → Gives (Room cells t) a → Gives (Room cells t) (tallied p tally fragment rows a)
-  unfolding tallied
+  tallied-room : (cells : ℕ) (t : CoreTraceGenerationTracer) (a : Answer MadeRow) → Gives (Room cells t) a → Gives (Room cells t) (unlessFull p tally fragment rows a)
+  unfolding unlessFull
   tallied-room cells t (accepted m) h = if-gives (Room cells t) (countsNext p fragment rows && cannotCount tally (placeFor tally (rowAddr m))) 32 (accepted m) h
   tallied-room cells t (refused n) h = h
 

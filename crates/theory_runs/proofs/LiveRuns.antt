@@ -21,10 +21,10 @@ use Rattle.rows.specs.records.Cells.{fragmentWrong}
 use Rattle.rows.specs.cycles.Scans.{scanOf}
 use Rattle.rows.specs.cycles.Made.{Cursor, cursor, made}
 use Rattle.rows.specs.cycles.Cycles.{continuationOf, refuseIf, cycleWith, cycle, finalState}
-use Rattle.rows.specs.cycles.Tallies.{placeFor, cannotCount, countsNext, rowAddr, withTally, tallied, talliedCycle}
+use Rattle.rows.specs.cycles.LentTally.{placeFor, cannotCount, countsNext, rowAddr, withTally, unlessFull, talliedCycle}
 use Rattle.groups.proofs.OneGroup.{neither}
 use Rattle.theory_runs.specs.Calls.{Handed, Call, store, finish, answered, after, callRefusal, afterAll, Accepted, closed, cursorOf, AllAccepted, finalStates, cellsOf}
-use Rattle.theory_runs.specs.LiveCalls.{Live, LiveCall, call, lend, LiveFragment, plainCalls, plainOf, plainAll, liveAnswered, liveAfter, liveRefusal, liveAfterAll, LiveAccepted, liveOpened, liveClosed, liveCursor, AllLiveAccepted, liveEnds, liveFinals, liveCells}
+use Rattle.theory_runs.specs.LiveCalls.{LiveHeld, LiveCall, call, lend, LiveFragment, plainCalls, plainOf, plainAll, liveAnswered, liveAfter, liveRefusal, liveAfterAll, LiveAccepted, liveOpened, liveClosed, liveCursor, AllLiveAccepted, liveEnds, liveFinals, liveCells}
 use Rattle.theory_runs.specs.LiveFinished.{SameAsPlain}
 use Rattle.theory_runs.proofs.Answers.{Numbered, accepted-of, then-numbered, if-numbered, cycle-with-numbered, then-accepted, if-accepted}
 
@@ -62,7 +62,7 @@ module _ (p : Profile) (f : Forest) (q : Queues) (stack : StackState) (registers
       pub counts : (countsNext p cells (t .«row_write_index») && cannotCount tally (placeFor tally (rowAddr m))) ≡ false
 
     pub live-came : (m : MadeRow) → talliedCycle p f q stack registers tally cells t ≡ accepted m → LiveCame m
-    unfolding talliedCycle tallied cycle
+    unfolding talliedCycle unlessFull cycle
     live-came m e =
         let scan : Scan = scanOf p (f .nodes) (f .batches) (f .ops) in
         let (row, e1, e2) = then-accepted (cycleWith (withTally (length tally) scan) p f q stack registers (length cells) t) _ m e in
@@ -72,7 +72,7 @@ module _ (p : Profile) (f : Forest) (q : Queues) (stack : StackState) (registers
         record { plain = rw same at plain; places = places; counts = rw same at e3 }
 
     live-numbered : Numbered (talliedCycle p f q stack registers tally cells t)
-    unfolding talliedCycle tallied Numbered
+    unfolding talliedCycle unlessFull Numbered
     live-numbered =
         then-numbered (cycleWith (withTally (length tally) (scanOf p (f .nodes) (f .batches) (f .ops))) p f q stack registers (length cells) t) _
         (cycle-with-numbered p f q stack registers (length cells) t (withTally (length tally) (scanOf p (f .nodes) (f .batches) (f .ops))))
@@ -84,24 +84,24 @@ module _ (p : Profile) (f : Forest) (q : Queues) (stack : StackState) (registers
 -- THE CALLS
 
 module _ (p : Profile) (q : Queues) where
-  abbrev cameOf : Live → Handed → MadeRow → Type 0
+  abbrev cameOf : LiveHeld → Handed → MadeRow → Type 0
   cameOf z i m = LiveCame p (i .forest) q (i .stack) (i .registers) (z .tally) (z .held .cells) (z .held .tracer) m
 
-  pub came-live : (z : Live) (i : Handed) (m : MadeRow) → liveAnswered p q z i ≡ accepted m → cameOf z i m
+  pub came-live : (z : LiveHeld) (i : Handed) (m : MadeRow) → liveAnswered p q z i ≡ accepted m → cameOf z i m
   came-live z i m e = live-came p (i .forest) q (i .stack) (i .registers) (z .tally) (z .held .cells) (z .held .tracer) m e
 
   -- an accepted cycle writes what the cycle without a tally writes
-  pub live-same : (z : Live) (i : Handed) (m : MadeRow) → liveAnswered p q z i ≡ accepted m →
+  pub live-same : (z : LiveHeld) (i : Handed) (m : MadeRow) → liveAnswered p q z i ≡ accepted m →
       (answered p q (z .held) i ≡ accepted m) × (liveAfter p q z (finish i) .held ≡ after p q (z .held) (finish i))
   unfolding liveAfter after
   live-same z i m e = let c = came-live z i m e in (c .plain, rw (e, c .plain))
 
-  live-stored : (z : Live) (values : StoredValues) → liveAfter p q z (store values) .held ≡ after p q (z .held) (store values)
+  live-stored : (z : LiveHeld) (values : StoredValues) → liveAfter p q z (store values) .held ≡ after p q (z .held) (store values)
   unfolding liveAfter after
   live-stored z values = refl
 
   -- whatever tallies are lent
-  pub live-calls : (calls : List LiveCall) (z : Live) → LiveAccepted p q calls z →
+  pub live-calls : (calls : List LiveCall) (z : LiveHeld) → LiveAccepted p q calls z →
       Accepted p q (plainCalls calls) (z .held) × (liveAfterAll p q calls z .held ≡ afterAll p q (plainCalls calls) (z .held))
   unfolding LiveAccepted Accepted liveRefusal callRefusal liveAfterAll afterAll plainCalls
   live-calls [] z a = (a, refl)

@@ -1,7 +1,7 @@
 -- What the rows show after each finishing pass: the second counts, the fourth and fifth add HALT rows, the others change nothing.
 use mathlib.Core.Path.{_≡_, _∙_, refl, sym, ap, ap₂, fun-ext}
 use mathlib.Core.Bool.{Bool, true, false, _&&_}
-use mathlib.Core.List.{List, [], _∷_, _++_, append-assoc}
+use mathlib.Core.List.{List, [], _∷_, _++_, map, append-assoc}
 use Prim.Native.Nat.{ℕ, zero, suc, pred, _+_, _%_, _<_}
 use native.Mathlib.Nat.{zero-add, suc-add}
 use native.Mathlib.Omega.{arith}
@@ -25,6 +25,7 @@ use Rattle.rows.proofs.passes.RowLists.{Wide}
 use Rattle.rows.proofs.passes.FirstRows.{Cells25}
 use Rattle.theory_readings.specs.Tokens.{Token, controlToken, opToken, countOf, allBits, tokenOf}
 use Rattle.theory_reductions.proofs.CellsBelow.{ends-most}
+use Rattle.theory_runs.specs.Written.{decodersOf}
 use Rattle.theory_runs.proofs.Opcodes.{apart-at}
 use Rattle.theory_runs.proofs.Looks.{Mark, none, flag, count, Seen, seen, markOf, look, looks, halt-look}
 use Rattle.theory_runs.proofs.Tallied.{heads, ifFlag, hits, behind, recount, counted}
@@ -59,6 +60,14 @@ look-by p row =
 
 pub same-look : (p : Profile) (a b : List ℕ) → decoderOf a ≡ decoderOf b → look p a ≡ look p b
 same-look p a b e = look-by p a ∙ ap (lookBy p) e ∙ sym (look-by p b)
+
+looks-by : (p : Profile) (rows : List (List ℕ)) → looks p rows ≡ map (lookBy p) (decodersOf rows)
+unfolding looks decodersOf
+looks-by p [] = refl
+looks-by p (row ∷ rows) = ap₂ (λ x l. x ∷ l) (look-by p row) (looks-by p rows)
+
+pub same-looks : (p : Profile) (a b : List (List ℕ)) → decodersOf a ≡ decodersOf b → looks p a ≡ looks p b
+same-looks p a b e = looks-by p a ∙ ap (map (lookBy p)) e ∙ sym (looks-by p b)
 
 -- the cells of a row's sides are not shown
 pub sides-decoder : (system decoder stack : List ℕ) → length system ≡ 6 → length decoder ≡ 24 → decoderOf (system ++ decoder ++ stack) ≡ decoder

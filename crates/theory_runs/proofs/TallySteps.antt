@@ -12,11 +12,11 @@ use lib.Seq.{getD-append-seam, getD-set-same, getD-set-other}
 use Rattle.field.specs.Modulus.{P}
 use Rattle.field.specs.Cells.{cellAt}
 use Rattle.rows.specs.ways.Order.{hit, occurrences}
-use Rattle.rows.specs.cycles.Tallies.{countIn, isFree, isOf, firstFrom, first, placeFor, countedAt, cannotCount}
-use Rattle.rows.proofs.passes.Occurrences.{hit-same, hit-other, occurrences-append}
+use Rattle.rows.specs.cycles.LentTally.{countIn, isFree, isOf, firstFrom, first, placeFor, countedAt, cannotCount}
+use Rattle.rows.proofs.records.Occurrences.{hit-same, hit-other, occurrences-append}
 use Rattle.rows.proofs.cycles.Tallying.{place-in-use, place-free, place-left}
 use Rattle.theory_runs.specs.LiveCalls.{Zeros}
-use Rattle.theory_runs.specs.Tallies.{withNew, onceFrom, onceEach, Tells, talliedAt}
+use Rattle.theory_runs.specs.TallyClaims.{withNew, onceFrom, onceEach, Tells, talliedAt}
 
 -- THE FIRST PLACE
 
@@ -105,7 +105,7 @@ standing-none tally zeros = record {
 }
 
 pub standing-tells : (addrs tally : List ℕ) → Standing (onceEach addrs) addrs tally → Tells addrs tally
-standing-tells addrs tally s = record { address = s .address; number = s .number; zeros = s .zeros }
+standing-tells addrs tally s = record { few = s .few; address = s .address; number = s .number; zeros = s .zeros }
 
 module _ (l addrs tally : List ℕ) (s : Standing l addrs tally) where
   in-use : (k : ℕ) → k < length l → isFree tally k ≡ false

@@ -21,19 +21,19 @@ use Rattle.rows.specs.passes.Passes.{fixedUp, builtOf, flaggedEnd, bodyEnds, wi
 use Rattle.rows.specs.cycles.Made.{Cursor}
 use Rattle.rows.specs.cycles.Cycles.{finalState, forPasses}
 use Rattle.rows.proofs.passes.Checks.{none-first}
-use Rattle.rows.proofs.passes.Occurrences.{occurrences-append}
+use Rattle.rows.proofs.records.Occurrences.{occurrences-append}
 use Rattle.rows.proofs.passes.RowLists.{Wide, wide-rows, length-rows, row-at, rows-flat}
 use Rattle.theory_reductions.proofs.CellsBelow.{ends-most}
 use Rattle.theory_runs.specs.Calls.{Fragment, opened, closed, cursorOf, AllAccepted, finalStates, countsOf, builtCells, OneSize}
-use Rattle.theory_runs.specs.LiveCalls.{Live, LiveCall, call, lend, LiveFragment, plainCalls, plainOf, plainAll, liveAfter, liveAfterAll, LiveAccepted, liveOpened, liveClosed, liveCursor, AllLiveAccepted, liveEnds, liveFinals, NoneLent, LentAsZeros, LentCall, liveAfterEach, FreshFragment, freshEnds}
-use Rattle.theory_runs.specs.Written.{rowsIn, rowsRun}
+use Rattle.theory_runs.specs.LiveCalls.{LiveHeld, LiveCall, call, lend, LiveFragment, plainCalls, plainOf, plainAll, liveAfter, liveAfterAll, LiveAccepted, liveOpened, liveClosed, liveCursor, AllLiveAccepted, liveEnds, liveFinals, NoneLent, LentAsZeros, LentCall, liveAfterEach, FreshFragment, freshEnds}
+use Rattle.theory_runs.specs.Written.{rowsIn, rowsRun, decodersOf}
 use Rattle.theory_runs.specs.LiveFinished.{liveByFive, liveByFinisher, LiveFivePass, LiveFinisherPasses}
-use Rattle.theory_runs.specs.Tallies.{successors, writtenSoFar, talliesAt, crossing, crossings, overFragments, rowsOfAll, NoneEmpty, CountsSet}
+use Rattle.theory_runs.specs.TallyClaims.{successors, writtenSoFar, talliesAt, crossing, crossings, overFragments, rowsOfAll, NoneEmpty, HoldsDecoders, CountsSet}
 use Rattle.theory_runs.proofs.Folded.{fragment-holding, count-rows, rows-wide, sum-rows}
 use Rattle.theory_runs.proofs.LiveRuns.{live-calls, live-as-calls}
 use Rattle.theory_runs.proofs.LiveTraces.{live-written, live-written-by-five}
 use Rattle.theory_runs.proofs.Tallied.{hits}
-use Rattle.theory_runs.proofs.PassLooks.{decoderOf, cell-by, bits-by, count-decoder, count-bits, cell-other, cell-set, helper-decoder, fixed-looks, fixed-wide, fixed-length, ends-hits, multiplied-wide, multiplied-length, inverted-length}
+use Rattle.theory_runs.proofs.PassLooks.{decoderOf, same-looks, cell-by, bits-by, count-decoder, count-bits, cell-other, cell-set, helper-decoder, fixed-looks, fixed-wide, fixed-length, ends-hits, multiplied-wide, multiplied-length, inverted-length}
 use Rattle.theory_runs.proofs.TallyTheorems.{tally-count}
 use Rattle.theory_runs.proofs.TraceOfRun.{few-rows, PassesChecked, run-rows, run-lasts, run-wide, run-length, by-finisher, by-five}
 
@@ -73,15 +73,15 @@ module _ (p : Profile) (addr : ℕ) where
 
 -- ALL FRAGMENTS
 
-unfoldable endsEach : Profile → (addr : ℕ) → List Live → ℕ
+unfoldable endsEach : Profile → (addr : ℕ) → List LiveHeld → ℕ
 endsEach p addr [] = 0
 endsEach p addr (z ∷ more) = bodyEnds p addr (writtenSoFar z) + endsEach p addr more
 
 module _ (p : Profile) (addr : ℕ) where
-  some-rows : (z : Live) → 0 < z .held .tracer .«row_write_index» → 0 < length (writtenSoFar z)
+  some-rows : (z : LiveHeld) → 0 < z .held .tracer .«row_write_index» → 0 < length (writtenSoFar z)
   some-rows z h = omega (arith, h, length-rows (z .held .tracer .«row_write_index») (z .held .cells))
 
-  ends-joined : (ends : List Live) → NoneEmpty ends → bodyEnds p addr (rowsOfAll ends) ≡ endsEach p addr ends + crossings p addr ends
+  ends-joined : (ends : List LiveHeld) → NoneEmpty ends → bodyEnds p addr (rowsOfAll ends) ≡ endsEach p addr ends + crossings p addr ends
   unfolding NoneEmpty rowsOfAll endsEach crossings bodyEnds
   ends-joined [] n = refl
   ends-joined (z ∷ []) n = rw (append-nil (writtenSoFar z)) (omega arith)
@@ -99,7 +99,7 @@ module _ (p : Profile) (addr : ℕ) where
   ends-tallied (fragment ∷ fragments) = ap₂ (λ a b. a + b) (ends-are p addr _ ∙ sym (tally-count p fragment addr)) (ends-tallied fragments)
 
   -- the body ENDs of all rows, by the tallies and the crossings
-  ends-over : (fragments : List FreshFragment) (ends : List Live) → freshEnds p fragments ≡ ends → NoneEmpty ends → bodyEnds p addr (rowsOfAll ends) ≡ overFragments p ends addr
+  ends-over : (fragments : List FreshFragment) (ends : List LiveHeld) → freshEnds p fragments ≡ ends → NoneEmpty ends → bodyEnds p addr (rowsOfAll ends) ≡ overFragments p ends addr
   ends-over fragments ends e n =
       ends-joined ends n ∙ ap (λ a. a + crossings p addr ends) (ap (endsEach p addr) (sym e) ∙ ends-tallied fragments ∙ ap (talliesAt addr) e)
 
@@ -112,7 +112,7 @@ eachOf q (call c ∷ calls) = record { queues = q; called = c } ∷ eachOf q cal
 eachOf q (lend tally ∷ calls) = eachOf q calls
 
 module _ (p : Profile) (q : Queues) where
-  all-each : (calls : List LiveCall) (z : Live) → NoneLent calls → liveAfterEach p (eachOf q calls) z ≡ liveAfterAll p q calls z
+  all-each : (calls : List LiveCall) (z : LiveHeld) → NoneLent calls → liveAfterEach p (eachOf q calls) z ≡ liveAfterAll p q calls z
   unfolding NoneLent eachOf liveAfterEach liveAfterAll
   all-each [] z n = refl
   all-each (call c ∷ calls) z n = all-each calls (liveAfter p q z c) n
@@ -235,30 +235,37 @@ in-buffer cells rows e =
     let c = ltb-false (cells / 49) rows b in
     (omega arith, omega (arith, few-rows cells a))
 
--- what a pass by itself sets, of rows that stand in front of a buffer
-set-alone : (p : Profile) (rows : List (List ℕ)) (buffer : List ℕ) → rowsOf (length rows) buffer ≡ rows → refusal2 p buffer (length rows) ≡ 0 →
-    CountsSet p (λ addr. bodyEnds p addr rows) (length rows) (onRows (length rows) (multiplied p) buffer)
+-- what pass 2 by itself sets
+set-alone : (p : Profile) (n : ℕ) (buffer : List ℕ) → refusal2 p buffer n ≡ 0 → CountsSet p (λ addr. bodyEnds p addr (rowsOf n buffer)) n (onRows n (multiplied p) buffer)
 unfolding bufferRow multiplied onRows refusal2
-set-alone p rows buffer front e i h is =
-    let (long, few) = in-buffer (length buffer) (length rows) (none-first _ _ _ (none-first _ _ _ e .1) .0) in
-    let wide : Wide rows = rw front at (wide-rows (length rows) buffer long) in
+set-alone p n buffer e i h is =
+    let rows : List (List ℕ) = rowsOf n buffer in
+    let (long, few) = in-buffer (length buffer) n (none-first _ _ _ (none-first _ _ _ e .1) .0) in
+    let wide : Wide rows = wide-rows n buffer long in
     let count : ℕ → ℕ = λ x. bodyEnds p x rows in
     let set2 : List (List ℕ) = multiplied p rows in
     let rest : List ℕ = drop (49 * length set2) buffer in
     let wide2 : Wide set2 = multiplied-wide p rows wide in
+    let long1 : length rows ≡ n = length-rows n buffer in
     let long2 : length set2 ≡ length rows = multiplied-length p rows in
-    let all : onRows (length rows) (multiplied p) buffer ≡ flat set2 ++ rest = ap (λ r. flat (multiplied p r) ++ drop (49 * length (multiplied p r)) buffer) front in
-    let at : (k : ℕ) → k < length rows → bufferRow k (onRows (length rows) (multiplied p) buffer) ≡ getD set2 k [] = λ k g. ap (λ x. take 49 (drop (49 * k) x)) all ∙ row-at set2 rest k wide2 (omega arith) in
+    let at : (k : ℕ) → k < n → bufferRow k (onRows n (multiplied p) buffer) ≡ getD set2 k [] = λ k g. row-at set2 rest k wide2 (omega arith) in
     let this = at i (omega arith) in
     let next = at (i + 1) h in
-    ap (λ x. cellAt x 23) this ∙ counts-set p count (λ x. omega (arith, ends-most p x rows)) rows i wide h (sym (ap opcodeOf this) ∙ is) ∙ ap (λ x. count (addrOf x)) (sym next)
+    ap (λ x. cellAt x 23) this ∙ counts-set p count (λ x. omega (arith, ends-most p x rows)) rows i wide (omega arith) (sym (ap opcodeOf this) ∙ is) ∙ ap (λ x. count (addrOf x)) (sym next)
 
--- fragments by themselves, whose rows stand one after another in a buffer
-pub tallies-add-up : (p : Profile) (fragments : List FreshFragment) (buffer : List ℕ) → NoneEmpty (freshEnds p fragments) → rowsOf (length (rowsOfAll (freshEnds p fragments))) buffer ≡ rowsOfAll (freshEnds p fragments) →
+-- the body ENDs are seen in the decoder cells
+same-ends : (p : Profile) (addr : ℕ) (rows others : List (List ℕ)) → decodersOf rows ≡ decodersOf others → bodyEnds p addr rows ≡ bodyEnds p addr others
+same-ends p addr rows others e =
+    ends-hits p addr rows ∙ ap (hits addr) (same-looks p rows others e) ∙ sym (ends-hits p addr others)
+
+-- fragments by themselves, the decoder cells of whose rows stand one after another in a buffer
+pub tallies-add-up : (p : Profile) (fragments : List FreshFragment) (buffer : List ℕ) → NoneEmpty (freshEnds p fragments) → HoldsDecoders buffer (rowsOfAll (freshEnds p fragments)) →
     refusal2 p buffer (length (rowsOfAll (freshEnds p fragments))) ≡ 0 →
     CountsSet p (overFragments p (freshEnds p fragments)) (length (rowsOfAll (freshEnds p fragments))) (onRows (length (rowsOfAll (freshEnds p fragments))) (multiplied p) buffer)
-tallies-add-up p fragments buffer some front e i h is =
-    set-alone p (rowsOfAll (freshEnds p fragments)) buffer front e i h is ∙ ends-over p (addrOf (bufferRow (i + 1) (onRows (length (rowsOfAll (freshEnds p fragments))) (multiplied p) buffer))) fragments (freshEnds p fragments) refl some
+tallies-add-up p fragments buffer some held e i h is =
+    let rows : List (List ℕ) = rowsOfAll (freshEnds p fragments) in
+    let addr : ℕ = addrOf (bufferRow (i + 1) (onRows (length rows) (multiplied p) buffer)) in
+    set-alone p (length rows) buffer e i h is ∙ same-ends p addr (rowsOf (length rows) buffer) rows held ∙ ends-over p addr fragments (freshEnds p fragments) refl some
 
 -- pass 3 leaves the decoder cells
 inverted-decoder : (rows : List (List ℕ)) (i : ℕ) → decoderOf (getD (inverted rows) i []) ≡ decoderOf (getD rows i [])
@@ -280,7 +287,7 @@ module _ (p : Profile) (q : Queues) (size : ℕ) (fragments : List LiveFragment)
   abbrev plain : List Fragment
   plain = plainAll fragments
 
-  abbrev ends : List Live
+  abbrev ends : List LiveHeld
   ends = liveEnds p q fragments here
 
   abbrev finals : List TracerFinalState

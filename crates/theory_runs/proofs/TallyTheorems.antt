@@ -24,11 +24,11 @@ use Rattle.rows.specs.records.Built.{systemCells, stackCells}
 use Rattle.rows.specs.passes.Passes.{flaggedEnd}
 use Rattle.rows.specs.cycles.Made.{Cursor}
 use Rattle.rows.specs.cycles.Cycles.{fresh, storingOf, storedIn, tracerAfter, fragmentAfter, lastSystem, lastStack}
-use Rattle.rows.specs.cycles.Tallies.{placeFor, countedAt, cannotCount, countsNext, rowAddr, tallyAfter}
+use Rattle.rows.specs.cycles.LentTally.{placeFor, countedAt, cannotCount, countsNext, rowAddr, tallyAfter}
 use Rattle.rows.proofs.passes.RowLists.{Wide, wide-rows, length-rows, wide-app, as-rows, rows-flat, put-behind, drop-rows}
 use Rattle.theory_runs.specs.Calls.{Handed, Call, store, finish}
-use Rattle.theory_runs.specs.LiveCalls.{Live, LentCall, FreshFragment, Zeros, liveFresh, liveAnswered, liveAfter, liveAfterEach, freshEnd}
-use Rattle.theory_runs.specs.Tallies.{successors, onceFrom, onceEach, writtenSoFar, TallyTells, talliedAt}
+use Rattle.theory_runs.specs.LiveCalls.{LiveHeld, LentCall, FreshFragment, Zeros, liveFresh, liveAnswered, liveAfter, liveAfterEach, freshEnd}
+use Rattle.theory_runs.specs.TallyClaims.{successors, onceFrom, onceEach, writtenSoFar, TallyTells, talliedAt}
 use Rattle.theory_runs.proofs.Answers.{accepted-came}
 use Rattle.theory_runs.proofs.Folded.{row-wide}
 use Rattle.theory_runs.proofs.LiveRuns.{came-live}
@@ -86,11 +86,11 @@ module _ (p : Profile) where
       ∙ ap₂ (λ l y. successors p l ++ pick f (y ∷ []) []) (sym (rows-snoc k cells)) e in
       rw more (flagged f (successors p (rowsOf (suc k) cells)) tally (rowAddr m) long (read-twice (m .row .addr)) left s)
 
-  abbrev StandsLive : Live → Type 0
+  abbrev StandsLive : LiveHeld → Type 0
   StandsLive z = Stands (writtenSoFar z) (z .tally)
 
   module _ (q : Queues) where
-    stands-finish : (z : Live) (i : Handed) (a : Answer MadeRow) → liveAnswered p q z i ≡ a → StandsLive z → StandsLive (liveAfter p q z (finish i))
+    stands-finish : (z : LiveHeld) (i : Handed) (a : Answer MadeRow) → liveAnswered p q z i ≡ a → StandsLive z → StandsLive (liveAfter p q z (finish i))
     unfolding liveAfter tracerAfter fragmentAfter tallyAfter
     stands-finish z i (refused n) e s = rw e s
     stands-finish z i (accepted m) e s =
@@ -110,15 +110,15 @@ module _ (p : Profile) where
         one true = refl
         one false = refl
 
-    stands-store : (z : Live) (values : StoredValues) → StandsLive z → StandsLive (liveAfter p q z (store values))
+    stands-store : (z : LiveHeld) (values : StoredValues) → StandsLive z → StandsLive (liveAfter p q z (store values))
     unfolding liveAfter
     stands-store z values s = rw (stored-rows (z .held .tracer) values) s
 
-    stands-call : (z : Live) (c : Call) → StandsLive z → StandsLive (liveAfter p q z c)
+    stands-call : (z : LiveHeld) (c : Call) → StandsLive z → StandsLive (liveAfter p q z c)
     stands-call z (store values) s = stands-store z values s
     stands-call z (finish i) s = stands-finish z i (liveAnswered p q z i) refl s
 
-  stands-each : (calls : List LentCall) (z : Live) → StandsLive z → StandsLive (liveAfterEach p calls z)
+  stands-each : (calls : List LentCall) (z : LiveHeld) → StandsLive z → StandsLive (liveAfterEach p calls z)
   unfolding liveAfterEach
   stands-each [] z s = s
   stands-each (c ∷ calls) z s = stands-each calls (liveAfter p (c .queues) z (c .called)) (stands-call (c .queues) z (c .called) s)

@@ -9,4 +9,4 @@ pub mod Following
 pub mod WithoutSyscall
 pub mod LiveCalls
 pub mod LiveFinished
-pub mod Tallies
+pub mod TallyClaims

@@ -11,16 +11,16 @@ use Rattle.rows.specs.declared.cycles.tracer.TracerFinalState.{TracerFinalState
 use Rattle.rows.specs.records.Addresses.{Queues}
 use Rattle.rows.specs.cycles.Made.{Cursor}
 use Rattle.rows.specs.cycles.Cycles.{fresh, storedIn, tracerAfter, fragmentAfter, finalState}
-use Rattle.rows.specs.cycles.Tallies.{mostPlaces, talliedCycle, tallyAfter}
+use Rattle.rows.specs.cycles.LentTally.{mostPlaces, talliedCycle, tallyAfter}
 use Rattle.theory_runs.specs.Calls.{Handed, Call, store, finish, Fragment, Held, cursorOf}
 
 -- a tracer, its fragment, and the tally
-pub record Live : Type 0 where
+pub record LiveHeld : Type 0 where
   pub held : Held
   pub tally : List ℕ
 
 -- a fresh tracer at an address state and queue positions, with a fragment's cells and a tally
-abbrev pub liveFresh : Cursor → (cells tally : List ℕ) → Live
+abbrev pub liveFresh : Cursor → (cells tally : List ℕ) → LiveHeld
 liveFresh here cells tally = record { held = record { tracer = fresh (here .state) (here .at); cells = cells }; tally = tally }
 
 -- a call; or another tally is lent from here on (so too where someone else stores to it)
@@ -50,11 +50,11 @@ plainAll (fragment ∷ fragments) = plainOf fragment ∷ plainAll fragments
 -- the profile and the queues of a run
 module _ (p : Profile) (q : Queues) where
   -- what a cycle answers
-  abbrev pub liveAnswered : Live → Handed → Answer MadeRow
+  abbrev pub liveAnswered : LiveHeld → Handed → Answer MadeRow
   liveAnswered z i = talliedCycle p (i .forest) q (i .stack) (i .registers) (z .tally) (z .held .cells) (z .held .tracer)
 
   -- what a call leaves
-  unfoldable pub liveAfter : Live → Call → Live
+  unfoldable pub liveAfter : LiveHeld → Call → LiveHeld
   liveAfter z (store values) =
       record { held = record { tracer = storedIn (z .held .tracer) values; cells = z .held .cells }; tally = z .tally }
   liveAfter z (finish i) = record {
@@ -66,25 +66,25 @@ module _ (p : Profile) (q : Queues) where
   }
 
   -- the number that a call answers
-  unfoldable pub liveRefusal : Live → Call → ℕ
+  unfoldable pub liveRefusal : LiveHeld → Call → ℕ
   liveRefusal z (store values) = z .held .tracer .refusal
   liveRefusal z (finish i) = refusal (liveAnswered z i)
 
-  unfoldable pub liveAfterAll : List LiveCall → Live → Live
+  unfoldable pub liveAfterAll : List LiveCall → LiveHeld → LiveHeld
   liveAfterAll [] z = z
   liveAfterAll (call c ∷ calls) z = liveAfterAll calls (liveAfter z c)
   liveAfterAll (lend tally ∷ calls) z = liveAfterAll calls (record { held = z .held; tally = tally })
 
   -- no call was refused, the final state neither
-  unfoldable pub LiveAccepted : List LiveCall → Live → Type 0
+  unfoldable pub LiveAccepted : List LiveCall → LiveHeld → Type 0
   LiveAccepted [] z = finalState (z .held .tracer) .refusal ≡ 0
   LiveAccepted (call c ∷ calls) z = (liveRefusal z c ≡ 0) × LiveAccepted calls (liveAfter z c)
   LiveAccepted (lend tally ∷ calls) z = LiveAccepted calls (record { held = z .held; tally = tally })
 
-  abbrev pub liveOpened : Cursor → LiveFragment → Live
+  abbrev pub liveOpened : Cursor → LiveFragment → LiveHeld
   liveOpened here fragment = liveFresh here (fragment .cells) (fragment .tally)
 
-  abbrev pub liveClosed : Cursor → LiveFragment → Live
+  abbrev pub liveClosed : Cursor → LiveFragment → LiveHeld
   liveClosed here fragment = liveAfterAll (fragment .calls) (liveOpened here fragment)
 
   abbrev pub liveCursor : Cursor → LiveFragment → Cursor
@@ -96,16 +96,16 @@ module _ (p : Profile) (q : Queues) where
       LiveAccepted (fragment .calls) (liveOpened here fragment) × AllLiveAccepted fragments (liveCursor here fragment)
 
   -- what the fragments end with
-  unfoldable pub liveEnds : List LiveFragment → Cursor → List Live
+  unfoldable pub liveEnds : List LiveFragment → Cursor → List LiveHeld
   liveEnds [] here = []
   liveEnds (fragment ∷ fragments) here = liveClosed here fragment ∷ liveEnds fragments (liveCursor here fragment)
 
 -- the final states of some, and their fragments' cells, one after another
-unfoldable pub liveFinals : List Live → List TracerFinalState
+unfoldable pub liveFinals : List LiveHeld → List TracerFinalState
 liveFinals [] = []
 liveFinals (z ∷ more) = finalState (z .held .tracer) ∷ liveFinals more
 
-unfoldable pub liveCells : List Live → List ℕ
+unfoldable pub liveCells : List LiveHeld → List ℕ
 liveCells [] = []
 liveCells (z ∷ more) = z .held .cells ++ liveCells more
 
@@ -130,7 +130,7 @@ pub record LentCall : Type 0 where
   pub called : Call
 
 -- "with one profile and nobody else storing to it or the rows": the queues may be others at each call
-unfoldable pub liveAfterEach : Profile → List LentCall → Live → Live
+unfoldable pub liveAfterEach : Profile → List LentCall → LiveHeld → LiveHeld
 liveAfterEach p [] z = z
 liveAfterEach p (c ∷ calls) z = liveAfterEach p calls (liveAfter p (c .queues) z (c .called))
 
@@ -142,9 +142,9 @@ pub record FreshFragment : Type 0 where
   pub zeros : Zeros tally
   pub calls : List LentCall
 
-abbrev pub freshEnd : Profile → FreshFragment → Live
+abbrev pub freshEnd : Profile → FreshFragment → LiveHeld
 freshEnd p start = liveAfterEach p (start .calls) (liveFresh (start .here) (start .cells) (start .tally))
 
-unfoldable pub freshEnds : Profile → List FreshFragment → List Live
+unfoldable pub freshEnds : Profile → List FreshFragment → List LiveHeld
 freshEnds p [] = []
 freshEnds p (start ∷ starts) = freshEnd p start ∷ freshEnds p starts

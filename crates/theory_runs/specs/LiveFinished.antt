@@ -13,7 +13,7 @@ use Rattle.theory_runs.specs.Calls.{AllAccepted, finalStates, cellsOf, c
 use Rattle.theory_runs.specs.Finished.{buffer5, finisherBuffer, FiveAccepted}
 use Rattle.theory_runs.specs.LiveCalls.{LiveFragment, plainAll, liveEnds, liveFinals, liveCells}
 
--- a run with tallies does what the same run does without them, where no call is refused either
+-- a run with tallies ends as the same run does without them: no call is refused, final states and cells are the same
 pub record SameAsPlain (p : Profile) (q : Queues) (fragments : List LiveFragment) (here : Cursor) : Type 0 where
   pub none-refused : AllAccepted p q (plainAll fragments) here
   pub same-finals : liveFinals (liveEnds p q fragments here) ≡ finalStates p q (plainAll fragments) here

@@ -8,7 +8,7 @@ use native.Mathlib.Decide.{ℕ-discrete}
 use borrow.Author.Tests.{lt-ltb, le-ltb, eq-eqb}
 use lib.Dec.{ltb, eqb}
 use Rattle.groups.specs.Answer.{pick}
-use Rattle.rows.specs.cycles.Tallies.{firstFrom}
+use Rattle.rows.specs.cycles.LentTally.{firstFrom}
 
 -- behind all places
 module _ (test : ℕ → Bool) (n : ℕ) where

@@ -14,7 +14,7 @@ use Rattle.rows.specs.declared.cycles.scan.Scan.{Scan}
 use Rattle.rows.specs.records.Buffers.{bufferRow}
 use Rattle.rows.specs.passes.Passes.{flaggedEnd}
 use Rattle.rows.specs.cycles.Made.{toldMade}
-use Rattle.rows.specs.cycles.Tallies.{countIn, isFree, isOf, first, placeFor, countedAt, cannotCount, countsNext, rowAddr, withTally, tallied, tallyAfter}
+use Rattle.rows.specs.cycles.LentTally.{countIn, isFree, isOf, first, placeFor, countedAt, cannotCount, countsNext, rowAddr, withTally, unlessFull, tallyAfter}
 use Rattle.rows.specs.ways.Inner.{HasRoom, InLimits, Countable}
 use Rattle.rows.proofs.passes.Checks.{neither}
 
@@ -50,29 +50,29 @@ counts-after p fragment (suc before) h = let e : suc before - 1 ≡ before = ome
 module _ (p : Profile) (tally fragment : List ℕ) (rows : ℕ) where
   -- what is answered of a row or a refusal, and the tally that is left
   pub record Does (found given : Answer MadeRow) (left : List ℕ) : Type 0 where
-    pub answers : given ≡ tallied p tally fragment rows found
-    pub leaves : left ≡ tallyAfter p tally fragment rows (tallied p tally fragment rows found)
+    pub answers : given ≡ unlessFull p tally fragment rows found
+    pub leaves : left ≡ tallyAfter p tally fragment rows (unlessFull p tally fragment rows found)
 
   pub was-refused : (n : ℕ) → Does (refused n) (refused n) tally
-  unfolding tallied tallyAfter
+  unfolding unlessFull tallyAfter
   was-refused n = record { answers = refl; leaves = refl }
 
   module _ (m : MadeRow) where
     pub nothing-counted : countsNext p fragment rows ≡ false → Does (accepted m) (accepted m) tally
-    unfolding tallied tallyAfter
+    unfolding unlessFull tallyAfter
     nothing-counted e = record { answers = rw e; leaves = rw (e, e) }
 
     pub place-missing : countsNext p fragment rows ≡ true → cannotCount tally (placeFor tally (rowAddr m)) ≡ true → Does (accepted m) (refused 32) tally
-    unfolding tallied tallyAfter
+    unfolding unlessFull tallyAfter
     place-missing e n = record { answers = rw (e, n); leaves = rw (e, n) }
 
     pub counted-there : countsNext p fragment rows ≡ true → cannotCount tally (placeFor tally (rowAddr m)) ≡ false → Does (accepted m) (accepted m) (countedAt tally (rowAddr m) (placeFor tally (rowAddr m)))
-    unfolding tallied tallyAfter
+    unfolding unlessFull tallyAfter
     counted-there e n = record { answers = rw (e, n); leaves = rw (e, n, e) }
 
   -- a row that is left had room
-  pub room-kept : (made counted : Made) (cells n : ℕ) → toldMade counted ≡ tallied p tally fragment rows (toldMade made) → HasRoom made cells n → HasRoom counted cells n
-  unfolding tallied
+  pub room-kept : (made counted : Made) (cells n : ℕ) → toldMade counted ≡ unlessFull p tally fragment rows (toldMade made) → HasRoom made cells n → HasRoom counted cells n
+  unfolding unlessFull
   room-kept (Made.Row m) (Made.Row k) cells n e room = room
   room-kept (Made.Refused a) (Made.Row k) cells n e room = let z : _≡_ {A = ℕ} 0 1 = cc in absurd (omega arith)
   room-kept made (Made.Refused b) cells n e room = tt

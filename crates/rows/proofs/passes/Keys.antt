@@ -9,7 +9,7 @@ use lib.ListN.{length, take, set}
 use borrow.Author.Tests.{le-leb}
 use Rattle.rows.specs.ways.Order.{occurrences, Ordered, Sorts, SortsFirst}
 use Rattle.rows.proofs.sorted.Counts.{count-more}
-use Rattle.rows.proofs.passes.Occurrences.{hit-same}
+use Rattle.rows.proofs.records.Occurrences.{hit-same}
 use Rattle.rows.specs.declared.records.profile.Profile.{Profile}
 use Rattle.rows.specs.records.Buffers.{bufferRow}
 use Rattle.rows.specs.ways.LoopCounts.{isLoop, nextAddr, endsIn, Tallied, Held, Took, Table}

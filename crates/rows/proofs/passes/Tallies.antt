@@ -8,7 +8,7 @@ use native.Mathlib.Decide.{ℕ-discrete}
 use lib.ListN.{length, getD, set, replicate}
 use lib.Seq.{getD-set-same, getD-set-other}
 use Rattle.rows.specs.ways.Order.{hit, occurrences, Ordered, Lower}
-use Rattle.rows.proofs.passes.Occurrences.{hit-same, hit-other}
+use Rattle.rows.proofs.records.Occurrences.{hit-same, hit-other}
 use Rattle.rows.proofs.sorted.Search.{lower-unique, found-inside, found-is}
 use Rattle.rows.specs.declared.records.profile.Profile.{Profile}
 use Rattle.rows.specs.passes.Passes.{flaggedEnd}

@@ -33,7 +33,7 @@ ghost use Rattle.rows.specs.records.Lent.{lentForest, lentQueues};
 ghost use Rattle.rows.specs.cycles.Made.{toldMade};
 ghost use Rattle.rows.specs.records.Cells.{rowCells, putRow};
 ghost use Rattle.rows.specs.cycles.Cycles.{cycleWith, leftAfter, keeping, tracerAfter, followingOf, lastSystem, lastStack, fragmentAfter};
-ghost use Rattle.rows.specs.cycles.Tallies.{talliedCycle, tallyAfter};
+ghost use Rattle.rows.specs.cycles.LentTally.{talliedCycle, tallyAfter};
 ghost use Rattle.rows.specs.ways.Inner.{HasRoom, InLimits};
 
 // What a finish answers: 0 or the refusal's number, the tracer, and how many operations follow in the operation's group (0 where none was

@@ -10,7 +10,7 @@ ghost use mathlib.Core.Path.{_≡_};
 ghost use Rattle.groups.specs.Answer.{refusal};
 ghost use Rattle.rows.specs.records.Lent.{lentForest, lentQueues};
 ghost use Rattle.rows.specs.cycles.Cycles.{tracerAfter, followingOf, fragmentAfter};
-ghost use Rattle.rows.specs.cycles.Tallies.{talliedCycle, tallyAfter};
+ghost use Rattle.rows.specs.cycles.LentTally.{talliedCycle, tallyAfter};
 
 pub struct LiveTracer<'a> {
     pub tracer: CoreTraceGenerationTracer,

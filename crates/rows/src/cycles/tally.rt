@@ -13,7 +13,7 @@ ghost use Prim.Native.Nat.{_<_, _≤_};
 ghost use lib.ListN.{length};
 ghost use Rattle.groups.specs.Constants.{mostRows};
 ghost use Rattle.rows.specs.cycles.Made.{toldMade};
-ghost use Rattle.rows.specs.cycles.Tallies.{countIn, isFree, isOf, placeFor, countedAt, cannotCount, countsNext, withTally, tallied, tallyAfter};
+ghost use Rattle.rows.specs.cycles.LentTally.{countIn, isFree, isOf, placeFor, countedAt, cannotCount, countsNext, withTally, unlessFull, tallyAfter};
 ghost use Rattle.rows.specs.ways.Inner.{Countable};
 
 // A scan's answer, and 11 for a tally of fewer places.
@@ -104,9 +104,9 @@ pub(crate) fn count_row(
     made: Made,
 ) -> Made
     requires { ⌜ Countable made (length (now tally)) rows ⌝ }
-    ensures { λ r. ⌜ toldMade r ≡ tallied profile (now (tally .entry)) (now (fragment .entry)) rows (toldMade made) ⌝ }
+    ensures { λ r. ⌜ toldMade r ≡ unlessFull profile (now (tally .entry)) (now (fragment .entry)) rows (toldMade made) ⌝ }
     ensures { λ _. ⌜ now (tally .exit) ≡ tallyAfter profile (now (tally .entry)) (now (fragment .entry)) rows
-        (tallied profile (now (tally .entry)) (now (fragment .entry)) rows (toldMade made)) ⌝ }
+        (unlessFull profile (now (tally .entry)) (now (fragment .entry)) rows (toldMade made)) ⌝ }
 {
     let Made::Row(row) = made else {
         return made;

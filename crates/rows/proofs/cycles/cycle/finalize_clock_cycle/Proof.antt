@@ -1,6 +1,6 @@
 -- `cycle::finalize_clock_cycle` meets its contract: a scan, the checks, the tally, and what they leave.
 use borrow.Author.Needs.{needs}
-use Rattle.rows.specs.cycles.Tallies.{talliedCycle}
+use Rattle.rows.specs.cycles.LentTally.{talliedCycle}
 use Rattle.rows.proofs.cycles.Tallying.{room-kept, countable}
 use Rattle.rows.proofs.cycles.cycle.finalize_clock_cycle.Statement.{statement}
 use Rattle.rows.proofs.cycles.cycle.finalize_clock_cycle.Tie as tie

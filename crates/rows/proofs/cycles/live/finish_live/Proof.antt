@@ -55,7 +55,7 @@ use Rattle.rows.specs.declared.records.state.StackState.{StackState}
 use Rattle.rows.specs.records.Forests.{forest}
 use Rattle.rows.specs.records.Addresses.{queues}
 use Rattle.rows.specs.cycles.Cycles.{tracerAfter, followingOf, fragmentAfter}
-use Rattle.rows.specs.cycles.Tallies.{talliedCycle, tallyAfter}
+use Rattle.rows.specs.cycles.LentTally.{talliedCycle, tallyAfter}
 use Rattle.rows.proofs.records.profile.Profile as Pr
 use Rattle.rows.proofs.records.profile.Profile.Laws as Pr′
 use Rattle.rows.proofs.records.state.SystemState as Sy

@@ -1,6 +1,6 @@
 -- `tally::cannot_count` meets its contract.
 use borrow.Author.Needs.{needs}
-use Rattle.rows.specs.cycles.Tallies.{cannotCount}
+use Rattle.rows.specs.cycles.LentTally.{cannotCount}
 use Rattle.rows.proofs.cycles.tally.cannot_count.Statement.{statement}
 use Rattle.rows.proofs.cycles.tally.cannot_count.Tie as tie
 

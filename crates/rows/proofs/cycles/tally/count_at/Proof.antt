@@ -2,7 +2,7 @@
 use native.Mathlib.Omega.{arith}
 use borrow.Author.Needs.{needs}
 use lib.ListN.{length-set}
-use Rattle.rows.specs.cycles.Tallies.{countedAt}
+use Rattle.rows.specs.cycles.LentTally.{countedAt}
 use Rattle.rows.proofs.cycles.tally.count_at.Statement.{statement}
 use Rattle.rows.proofs.cycles.tally.count_at.Tie as tie
 

@@ -2,7 +2,7 @@
 use mathlib.Core.Path.{sym, _∙_}
 use borrow.Author.Needs.{needs}
 use denote.Ref.{now}
-use Rattle.rows.specs.cycles.Tallies.{countsNext}
+use Rattle.rows.specs.cycles.LentTally.{countsNext}
 use Rattle.rows.proofs.cycles.Tallying.{counts-after}
 use Rattle.rows.proofs.cycles.tally.counts_next.Statement.{statement}
 use Rattle.rows.proofs.cycles.tally.counts_next.Tie as tie

@@ -1,6 +1,6 @@
 -- `tally::is_free` meets its contract.
 use borrow.Author.Needs.{needs}
-use Rattle.rows.specs.cycles.Tallies.{isFree}
+use Rattle.rows.specs.cycles.LentTally.{isFree}
 use Rattle.rows.proofs.cycles.tally.is_free.Statement.{statement}
 use Rattle.rows.proofs.cycles.tally.is_free.Tie as tie
 

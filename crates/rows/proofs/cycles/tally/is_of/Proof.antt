@@ -1,6 +1,6 @@
 -- `tally::is_of` meets its contract.
 use borrow.Author.Needs.{needs}
-use Rattle.rows.specs.cycles.Tallies.{isOf}
+use Rattle.rows.specs.cycles.LentTally.{isOf}
 use Rattle.rows.proofs.cycles.tally.is_of.Statement.{statement}
 use Rattle.rows.proofs.cycles.tally.is_of.Tie as tie
 

@@ -7,7 +7,7 @@ use Rattle.groups.proofs.OneGroup.{both}
 use denote.Ref.{now}
 use lib.Dec.{ltb, eqb}
 use Rattle.groups.specs.Answer.{pick}
-use Rattle.rows.specs.cycles.Tallies.{isFree, isOf, firstFrom, first}
+use Rattle.rows.specs.cycles.LentTally.{isFree, isOf, firstFrom, first}
 use Rattle.rows.proofs.cycles.FirstPlaces.{first-behind, found-behind, first-here, first-later, found-here, found-later}
 use Rattle.rows.proofs.cycles.Tallying.{place-in-use, place-free}
 use Rattle.rows.proofs.cycles.tally.place_for.Statement.{statement}

@@ -79,8 +79,8 @@ withTally numbers scan =
 -- what is lent beside the tracer: the tally, and the fragment as it is, with `rows` rows written
 module _ (p : Profile) (tally fragment : List ℕ) (rows : ℕ) where
   -- "A cycle refuses with 32, after 24, when it would need a 257th address or a count above 2^24."
-  unfoldable pub tallied : Answer MadeRow → Answer MadeRow
-  tallied found =
+  unfoldable pub unlessFull : Answer MadeRow → Answer MadeRow
+  unlessFull found =
       andThen found (λ m.
       refuseIf (countsNext p fragment rows && cannotCount tally (placeFor tally (rowAddr m))) tallyFull
       (accepted m))
@@ -93,5 +93,5 @@ module _ (p : Profile) (tally fragment : List ℕ) (rows : ℕ) where
 -- a finish that is lent a tally
 unfoldable pub talliedCycle : Profile → Forest → Queues → StackState → OperationHelperRegisters → (tally fragment : List ℕ) → CoreTraceGenerationTracer → Answer MadeRow
 talliedCycle p f q stack registers tally fragment t =
-    tallied p tally fragment (t .«row_write_index»)
+    unlessFull p tally fragment (t .«row_write_index»)
     (cycleWith (withTally (length tally) (scanOf p (f .nodes) (f .batches) (f .ops))) p f q stack registers (length fragment) t)
