@@ -9,7 +9,7 @@ use std::panic::{AssertUnwindSafe, catch_unwind};
 use std::sync::Arc;
 
 use crate::calls::{Call, Positions, records};
-use crate::exports::{self, BUILT, Refusal, WIDTH, replay_calls};
+use crate::exports::{self, BUILT, WIDTH, replay_calls};
 use crate::forest::Forests;
 use crate::listed::convert;
 use crate::listed::parallel::{CORE_STORAGE_WIDTH, passes};
@@ -21,6 +21,7 @@ use crate::listed::whole::{self, Start, refusal};
 use crate::overflow::{DEPTH, HELPER, is_deep_halt, is_inverse, overflow_rule};
 use crate::profile::EXAMPLE;
 use crate::random::{DEPTHS, Rng, Run, first_syscall, raised, raised_run, raised_state};
+use crate::sizes::first_refused;
 
 const P: u64 = 18446744069414584321;
 const IN_SPAN: usize = 22;
@@ -206,16 +207,6 @@ impl core::fmt::Display for Tally {
 }
 
 const ACCEPTS: &str = "accepts";
-
-/// The first call that the library refuses, by halving: where a list is refused, so is each longer one.
-fn first_refused(calls: &[Call], refused: impl Fn(&[Call]) -> Option<Refusal>) -> (usize, u32) {
-    let (mut low, mut high) = (0, calls.len());
-    while high - low > 1 {
-        let middle = (low + high) / 2;
-        if refused(&calls[..middle]).is_some() { high = middle } else { low = middle }
-    }
-    (high - 1, refused(&calls[..high]).expect("the whole list is refused").0)
-}
 
 /// How many numbers of a run are cells from p on: all others that it has are of 32 bits.
 fn cells_from_p_on(run: &Run, lent: &Forests) -> u64 {

@@ -1,5 +1,5 @@
 //! The core trace of Miden VM programs from Rust: safe calls of the proved library, its comparison with the listed Rust, and that of its
-//! reader, and of its writer and reader of dumps, with others in plain Rust.
+//! reader, and of its writer and reader of dumps, with others in plain Rust; and the same run written at several fragment sizes.
 
 pub mod answers;
 pub mod calls;
@@ -20,6 +20,8 @@ pub mod profile;
 pub mod random;
 #[cfg(all(listed, archive))]
 pub mod reading;
+#[cfg(archive)]
+pub mod sizes;
 #[cfg(archive)]
 pub mod waves;
 pub mod words;

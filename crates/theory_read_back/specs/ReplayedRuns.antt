@@ -29,6 +29,11 @@ pub record Lent : Type 0 where
   pub numbers : List ℕ
   pub cells : List ℕ
 
+-- the records of some fragments, one after another
+unfoldable pub allNumbers : List Lent → List ℕ
+allNumbers [] = []
+allNumbers (l ∷ lents) = l .numbers ++ allNumbers lents
+
 -- THE CALLS OF THE RECORDS
 
 -- all forests and their directory
@@ -107,6 +112,12 @@ module _ (p : Profile) (f : Forest) (directory : List ℕ) (q : Queues) where
   abbrev pub recordsNesting : {size : ℕ} {lents : List Lent} {here : Cursor} → ReplayedRuns size lents here → readings.Block
   recordsNesting runs = treeFrom p 0 (runs .proper) .0
 
+  -- N11 over replay: these records, cut into fragments that all have this size with only the last one short, where no replay is refused
+  pub record CutRecords (numbers : List ℕ) (size : ℕ) (lents : List Lent) (here : Cursor) : Type 0 where
+    pub records-are : allNumbers lents ≡ numbers
+    pub replays : AllReplayed lents here
+    pub one-size : OneSize size (fragmentsOf f directory lents) (countsReplayed lents here)
+
   -- the passes on the buffer that holds the replayed fragments, and other cells behind them, with what the replays answered
   module _ (size : ℕ) (lents : List Lent) (here : Cursor) (others top : List ℕ) (height : ℕ) where
     abbrev pub replayedBuffer : List ℕ
@@ -124,3 +135,10 @@ module _ (p : Profile) (f : Forest) (directory : List ℕ) (q : Queues) where
 
     abbrev pub ReplayFivePass : Type 0
     ReplayFivePass = FiveAccepted p size (countsReplayed lents here) (builtReplayed lents here) top height replayedBuffer
+
+  -- these cells are the first height rows after the finisher, or after the five calls, none of them refused
+  pub data ReplayWritten (size : ℕ) (lents : List Lent) (here : Cursor) (top : List ℕ) (height : ℕ) : (cells : List ℕ) → Type 0 where
+    of-finisher : (others : List ℕ) → ReplayFinishes size lents here others top height →
+        ReplayWritten size lents here top height (finishedReplay size lents here others top height)
+    of-five : (others : List ℕ) → ReplayFivePass size lents here others top height →
+        ReplayWritten size lents here top height (fivePassedReplay size lents here others top height)

@@ -20,11 +20,12 @@ use Rattle.rows.specs.declared.cycles.tracer.CoreTraceGenerationTracer.{CoreTra
 use Rattle.rows.specs.records.Forests.{Forest}
 use Rattle.rows.specs.records.Addresses.{Queues, readState}
 use Rattle.rows.specs.records.Profiles.{profileWrong}
+use Rattle.rows.specs.records.Built.{noSystem, noStack}
 use Rattle.rows.specs.cycles.Scans.{anyBigOpcode, forestTooLarge, scanOf}
 use Rattle.rows.specs.records.Cells.{fragmentWrong}
 use Rattle.rows.specs.cycles.Made.{Cursor, cursor, made}
 use Rattle.rows.specs.cycles.Cycles.{fresh, continuationOf, refuseIf, cycleWith, cycle}
-use Rattle.rows.specs.passes.Passes.{fixedUp, builtOf}
+use Rattle.rows.specs.passes.Passes.{fixedUp, builtOf, sumOf}
 use Rattle.rows.proofs.passes.Checks.{neither}
 use Rattle.rows.proofs.passes.RowLists.{length-put}
 use Rattle.theory_runs.specs.Calls.{Handed, Call, store, finish, Fragment, Held, answered, after, callRefusal, afterAll, Accepted, opened, closed, cursorOf, AllAccepted, finalStates, countsOf, builtCells, OneSize}
@@ -32,7 +33,7 @@ use Rattle.theory_runs.specs.SameCalls.{allCalls, inOne, cyclesAmong}
 use Rattle.theory_runs.specs.Happened.{InForce}
 use Rattle.theory_runs.specs.Written.{rowsRun}
 use Rattle.theory_runs.proofs.Folded.{inForce, row-wide, stored-same, Stepped, stepped, after-rows, after-kept, after-cells, closed-read}
-use Rattle.theory_runs.proofs.Unfragmented.{Same, unfragmented, same-stored, same-finish, force-of, final-kept}
+use Rattle.theory_runs.proofs.Unfragmented.{Item, sided, together, Same, itemsIn, item-made, itemsEach, together-items, count-items, fixed-items, unfragmented, same-stored, same-finish, force-of, final-kept}
 
 if-not : {A : Type 0} (t : Bool) (n : ℕ) (x : Answer A) → t ≡ false → refuseIf t n x ≡ x
 if-not t n x e = rw e
@@ -85,6 +86,12 @@ same-makes f q p registers t u c m e s h k =
 
 room-of : (m n : ℕ) → m ≤ n → 0 + m ≤ n
 room-of m n h = omega arith
+
+cycles-app : (l m : List Call) → cyclesAmong (l ++ m) ≡ cyclesAmong l + cyclesAmong m
+unfolding cyclesAmong
+cycles-app [] m = omega arith
+cycles-app (store values ∷ l) m = cycles-app l m
+cycles-app (finish i ∷ l) m = omega (arith, cycles-app l m)
 
 module _ (p : Profile) (q : Queues) where
   -- the same cycle on the whole's tracer
@@ -151,14 +158,45 @@ module _ (p : Profile) (q : Queues) where
   rows-in-one size size′ fragments here top cells n some a o long few room =
       unfragmented p q size size′ fragments here top cells some a o (accepted-in-one fragments here cells n a long few room)
 
-  -- nor does it matter how the calls are cut into fragments
+  -- the sum of the counts is the number of cycles
+  items-cycles : (calls : List Call) (z : Held) → Accepted p q calls z → length (itemsIn p q calls z) ≡ cyclesAmong calls
+  unfolding Accepted callRefusal itemsIn cyclesAmong
+  items-cycles [] z a = refl
+  items-cycles (store values ∷ calls) z a = items-cycles calls (after p q z (store values)) (a .1)
+  items-cycles (finish i ∷ calls) z a =
+      let s = stepped p q z i (a .0) in
+      rw (item-made p q z i (s .m) (s .answer)) (ap suc (items-cycles calls (after p q z (finish i)) (a .1)))
+
+  pub sum-cycles : (fragments : List Fragment) (here : Cursor) → AllAccepted p q fragments here → sumOf (countsOf (finalStates p q fragments here)) ≡ cyclesAmong (allCalls fragments)
+  unfolding AllAccepted finalStates countsOf sumOf allCalls
+  sum-cycles [] here a = unfold cyclesAmong in refl
+  sum-cycles (fragment ∷ fragments) here a =
+      omega (
+        arith,
+        count-items p q here fragment (a .0),
+        items-cycles (fragment .calls) (opened p q here fragment) (a .0),
+        sum-cycles fragments (cursorOf p q (closed p q here fragment)) (a .1),
+        cycles-app (fragment .calls) (allCalls fragments),
+      )
+
+  -- nor does it matter how the calls are cut into fragments: the cycles make the same rows
+  pub same-items : (fragments fragments′ : List Fragment) (here : Cursor) → allCalls fragments ≡ allCalls fragments′ → AllAccepted p q fragments here → AllAccepted p q fragments′ here → cyclesAmong (allCalls fragments) ≤ 16777216 →
+      together (itemsEach p q fragments here) ≡ together (itemsEach p q fragments′ here)
+  unfolding AllAccepted fresh
+  same-items fragments fragments′ here e a a′ few =
+      let n : ℕ = cyclesAmong (allCalls fragments) in
+      let cells : List ℕ = replicate (49 * n) 0 in
+      let whole : List Fragment → Held = λ l. opened p q here (record { calls = allCalls l; cells = cells }) in
+      let b = accepted-in-one fragments here cells n a (length-replicate (49 * n) 0) few (omega arith) in
+      let b′ = accepted-in-one fragments′ here cells n a′ (length-replicate (49 * n) 0) few (omega (arith, ap cyclesAmong e)) in
+      sym (together-items p q fragments here (whole fragments) a (b .0) refl refl refl) ∙ ap (λ (l : List Call). itemsIn p q l (opened p q here (record { calls = l; cells = cells }))) e
+      ∙ together-items p q fragments′ here (whole fragments′) a′ (b′ .0) refl refl refl
+
   pub rows-any-cut : (size size′ : ℕ) (fragments fragments′ : List Fragment) (here : Cursor) (top : List ℕ) → allCalls fragments ≡ allCalls fragments′ → 0 < size → 0 < size′ → AllAccepted p q fragments here → AllAccepted p q fragments′ here →
       OneSize size fragments (countsOf (finalStates p q fragments here)) → OneSize size′ fragments′ (countsOf (finalStates p q fragments′ here)) → cyclesAmong (allCalls fragments) ≤ 16777216 →
       fixedUp size top (builtOf (length (countsOf (finalStates p q fragments here)) - 1) (builtCells (finalStates p q fragments here))) (rowsRun p q fragments here)
       ≡ fixedUp size′ top (builtOf (length (countsOf (finalStates p q fragments′ here)) - 1) (builtCells (finalStates p q fragments′ here))) (rowsRun p q fragments′ here)
   rows-any-cut size size′ fragments fragments′ here top e some some′ a a′ o o′ few =
-      let n : ℕ = cyclesAmong (allCalls fragments) in
-      let cells : List ℕ = replicate (49 * n) 0 in
-      let whole = rows-in-one size 1 fragments here top cells n some a o (length-replicate (49 * n) 0) few (omega arith) in
-      let whole′ = rows-in-one size′ 1 fragments′ here top cells n some′ a′ o′ (length-replicate (49 * n) 0) few (omega (arith, ap cyclesAmong e)) in
-      whole ∙ ap (λ (l : List Call). fixedUp 1 top (builtOf (length (countsOf (finalStates p q (record { calls = l; cells = cells } ∷ []) here)) - 1) (builtCells (finalStates p q (record { calls = l; cells = cells } ∷ []) here))) (rowsRun p q (record { calls = l; cells = cells } ∷ []) here)) e ∙ sym whole′
+      fixed-items p q size size fragments here top some a o
+      ∙ ap (λ (l : List Item). fixedUp size top [] (sided noSystem noStack l)) (same-items fragments fragments′ here e a a′ few)
+      ∙ sym (fixed-items p q size′ size fragments′ here top some′ a′ o′)

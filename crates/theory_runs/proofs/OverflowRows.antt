@@ -1,13 +1,13 @@
 -- In each row that is written of a run b0 is a depth, that of a cycle or 16, and the helper is the inverse of it less 16. The run need not be proper.
-use mathlib.Core.Path.{_≡_, _∙_, refl, sym, ap, subst}
+use mathlib.Core.Path.{_≡_, _∙_, refl, ap}
 use mathlib.Core.Bool.{Bool, true, false}
 use mathlib.Core.List.{List, [], _∷_, _++_}
-use Prim.Native.Nat.{ℕ, zero, suc, pred, _+_, _-_, _*_, _%_, _≤_, _<_}
+use Prim.Native.Nat.{ℕ, zero, suc, pred, _+_, _-_, _%_, _≤_, _<_}
 use native.Mathlib.Omega.{arith}
-use borrow.Author.Tests.{eqb-false, ltb-false}
-use lib.Dec.{ltb, eqb}
+use borrow.Author.Tests.{ltb-false}
+use lib.Dec.{eqb}
 use lib.ListN.{length, take, drop, getD, set}
-use lib.Seq.{drop-drop, getD-set-same, getD-set-other}
+use lib.Seq.{getD-set-same, getD-set-other}
 use Rattle.field.specs.Modulus.{P}
 use Rattle.field.specs.Cells.{cellAt, reduced}
 use Rattle.field.specs.Inverse.{inverseOf}
@@ -19,22 +19,19 @@ use Rattle.rows.specs.declared.records.decoder_row.DecoderRow.{DecoderRow}
 use Rattle.rows.specs.declared.records.state.StackState.{StackState}
 use Rattle.rows.specs.declared.records.state.SystemCols.{SystemCols}
 use Rattle.rows.specs.declared.records.state.StackCols.{StackCols}
-use Rattle.rows.specs.declared.cycles.tracer.TracerFinalState.{TracerFinalState}
 use Rattle.rows.specs.records.Addresses.{Queues}
 use Rattle.rows.specs.records.DecoderRows.{decoderCells, controlFlow}
 use Rattle.rows.specs.records.Built.{builtSystem, builtStack, noSystem, noStack, systemCells, stackCells}
 use Rattle.rows.specs.records.Cells.{rowCells}
 use Rattle.rows.specs.records.Buffers.{addrOf, opcodeOf, lastRow}
 use Rattle.rows.specs.cycles.Made.{Cursor}
-use Rattle.rows.specs.cycles.Cycles.{finalState, forPasses}
 use Rattle.rows.specs.passes.Passes.{withSides, firstRow, fixedUp, bodyEnds, withCounts, multiplied, inverted, haltDecoder, haltStack, haltRow, halted, paddingRow, paddingRows, padded, notFull, lastBuilt}
-use Rattle.rows.proofs.passes.Checks.{neither}
 use Rattle.rows.proofs.passes.RowLists.{Wide}
 use Rattle.theory_runs.specs.Calls.{Call, store, finish, Fragment, Held, answered, after, Accepted, opened, closed, cursorOf, AllAccepted, finalStates, countsOf, builtCells}
 use Rattle.theory_runs.specs.Overflow.{b0Cell, helperCell}
 use Rattle.theory_runs.proofs.Folded.{stepped}
 use Rattle.theory_runs.proofs.FinishedRows.{last-snoc}
-use Rattle.theory_runs.proofs.Unfragmented.{Item, sided, lastS, lastK, itemMade, itemsIn, itemsEach, together, cells25, later-none, final-cells, read-cells, chunk, count-items}
+use Rattle.theory_runs.proofs.Unfragmented.{Item, sided, lastS, lastK, itemMade, itemsIn, itemsEach, together, cells25, later-none, some-items, last-cells}
 
 -- EVERY ROW
 
@@ -157,47 +154,16 @@ module _ (Known : ℕ → Type 0) where
       pub cells-are : cells ≡ reduced (cells25 system stack)
       pub is-built : BuiltStack stack
 
-    one-built : (here : Cursor) (fragment : Fragment) (rest : List ℕ) → Accepted p q (fragment .calls) (opened p q here fragment) → EachDepth (fragment .calls) →
-        eqb (forPasses (finalState (closed p q here fragment .tracer)) .count) 0 ≡ false → BuiltByCycle (take 25 (forPasses (finalState (closed p q here fragment .tracer)) .built ++ rest))
-    unfolding forPasses
-    one-built here fragment rest a h some =
-        let l : List Item = itemsIn p q (fragment .calls) (opened p q here fragment) in
-        let final = finalState (closed p q here fragment .tracer) in
-        let (e, f) = final-cells p q here fragment a in
-        let n : 0 < length l = omega (arith, eqb-false (forPasses final .count) 0 some, count-items p q here fragment a) in
+    pub run-last : (size : ℕ) (fragments : List Fragment) (here : Cursor) → AllAccepted p q fragments here → AllDepths fragments → 0 < length fragments → notFull size (countsOf (finalStates p q fragments here)) ≡ false →
+        BuiltByCycle (lastBuilt (countsOf (finalStates p q fragments here)) (builtCells (finalStates p q fragments here)))
+    run-last size fragments here a h some full =
+        let l : List Item = together (itemsEach p q fragments here) in
         record {
           system = lastS noSystem l;
           stack = lastK noStack l;
-          cells-are = chunk p q (final .«last_system_cols») (final .«last_stack_cols») rest .0 ∙ rw (e, f) (read-cells p q (lastS noSystem l) (lastK noStack l));
-          is-built = last-item l (calls-deep (fragment .calls) (opened p q here fragment) a h) n;
+          cells-are = last-cells p q size fragments here a some full;
+          is-built = last-item l (run-deep fragments here a h) (some-items p q size fragments here a some full);
         }
-
-    -- the last built cells are those of the last fragment
-    last-skip : (count : ℕ) (counts : List ℕ) (final : TracerFinalState) (rest : List ℕ) → 0 < length counts → lastBuilt (count ∷ counts) (forPasses final .built ++ rest) ≡ lastBuilt counts rest
-    unfolding lastBuilt forPasses
-    last-skip count counts final rest some =
-        let n : 25 * (suc (length counts) - 1) ≡ 25 + 25 * (length counts - 1) = omega (arith, some) in
-        let cells : List ℕ = cells25 (final .«last_system_cols») (final .«last_stack_cols») ++ rest in
-        ap (take 25)
-        (ap (λ (k : ℕ). drop k cells) n ∙ sym (drop-drop (25 * (length counts - 1)) 25 cells)
-        ∙ ap (drop (25 * (length counts - 1))) (chunk p q (final .«last_system_cols») (final .«last_stack_cols») rest .1))
-
-    last-one : (count : ℕ) (cells : List ℕ) → lastBuilt (count ∷ []) cells ≡ take 25 cells
-    unfolding lastBuilt
-    last-one count cells = refl
-
-    pub run-last : (size : ℕ) (fragments : List Fragment) (here : Cursor) → AllAccepted p q fragments here → AllDepths fragments → 0 < length fragments → notFull size (countsOf (finalStates p q fragments here)) ≡ false →
-        BuiltByCycle (lastBuilt (countsOf (finalStates p q fragments here)) (builtCells (finalStates p q fragments here)))
-    unfolding AllAccepted AllDepths finalStates countsOf builtCells notFull
-    run-last size [] here a h some full = absurd (omega arith)
-    run-last size (fragment ∷ []) here a h some full = subst (λ (l : List ℕ). BuiltByCycle l) (sym (last-one _ _)) (one-built here fragment [] (a .0) (h .0) full)
-    run-last size (fragment ∷ next ∷ fragments) here a h some full =
-        let there : Cursor = cursorOf p q (closed p q here fragment) in
-        let final : TracerFinalState = finalState (closed p q here fragment .tracer) in
-        let more : List ℕ = countsOf (finalStates p q (next ∷ fragments) there) in
-        let full′ : notFull size more ≡ false = neither (ltb (forPasses final .count) size) (notFull size more) full .1 in
-        subst (λ (l : List ℕ). BuiltByCycle l) (sym (last-skip (forPasses final .count) more final (builtCells (finalStates p q (next ∷ fragments) there)) (omega arith)))
-        (run-last size (next ∷ fragments) there (a .1) (h .1) (omega arith) full′)
 
   -- THE PASSES
 

@@ -3,11 +3,12 @@ use mathlib.Core.Path.{_≡_, _∙_, refl, sym, ap, ap₂}
 use mathlib.Core.Bool.{false}
 use mathlib.Core.List.{List, [], _∷_, _++_, append-assoc, append-nil}
 use mathlib.Core.Logic.{_⊎_, inl, inr, ⊎-elim}
-use Prim.Native.Nat.{ℕ, zero, suc, pred, _+_, _-_, _<_}
+use Prim.Native.Nat.{ℕ, zero, suc, pred, _+_, _-_, _*_, _<_}
 use native.Mathlib.Omega.{arith}
-use borrow.Author.Tests.{ne-eqb, eq-eqb}
-use lib.Dec.{eqb}
-use lib.ListN.{length, take, drop}
+use borrow.Author.Tests.{ne-eqb, eq-eqb, eqb-false}
+use lib.Dec.{ltb, eqb}
+use lib.ListN.{length, take, drop, length-append}
+use lib.Seq.{drop-drop}
 use Rattle.field.specs.Cells.{cellAt, reduced}
 use Rattle.field.proofs.CellLaws.{reduced-twice}
 use Rattle.groups.specs.Answer.{Answer, accepted, refused}
@@ -27,7 +28,8 @@ use Rattle.rows.specs.records.DecoderRows.{decoderCells}
 use Rattle.rows.specs.records.Built.{builtSystem, builtStack, noSystem, noStack, readSystem, readStack, systemCells, stackCells}
 use Rattle.rows.specs.records.Cells.{rowCells}
 use Rattle.rows.specs.cycles.Cycles.{fresh, tracerAfter, finalState, forPasses, lastSystem, lastStack}
-use Rattle.rows.specs.passes.Passes.{withSides, firstRow, laterRows, fixedUp, builtOf}
+use Rattle.rows.specs.passes.Passes.{withSides, firstRow, laterRows, fixedUp, builtOf, notFull, lastBuilt}
+use Rattle.rows.proofs.passes.Checks.{neither}
 use Rattle.theory_runs.specs.Calls.{Handed, Call, store, finish, Fragment, Held, answered, after, callRefusal, afterAll, Accepted, opened, closed, cursorOf, AllAccepted, finalStates, countsOf, builtCells, OneSize}
 use Rattle.theory_runs.specs.SameCalls.{allCalls, inOne}
 use Rattle.theory_runs.specs.Happened.{InForce, did, stored, leftBy}
@@ -150,6 +152,13 @@ fixed-joined ((x ∷ l) ∷ next ∷ ls) size size′ top some full =
     ∙ sym (sided-app l (together (next ∷ ls)) s′ k′)
     ∙ sym (later-none _ size′ (pred size′)))
 
+-- what was built last, where there is something behind
+last-behind : (l m : List Item) (s s′ : SystemCols) (k k′ : StackCols) → 0 < length m → (lastS s′ m ≡ lastS s (l ++ m)) × (lastK k′ m ≡ lastK k (l ++ m))
+unfolding lastS lastK
+last-behind [] [] s s′ k k′ some = absurd (omega arith)
+last-behind [] (x ∷ m) s s′ k k′ some = (refl, refl)
+last-behind (x ∷ l) m s s′ k k′ some = last-behind l m (builtSystem (x .0 .system)) s′ (builtStack (x .0 .stack)) k′ some
+
 -- THE CALLS
 
 -- a tracer of a fragment and one of the whole: the same address state and positions, and the same values in force unless the first has
@@ -159,14 +168,14 @@ pub record Same (t u : CoreTraceGenerationTracer) : Type 0 where
   pub at-same : t .at ≡ u .at
   pub force-same : (inForce t ≡ inForce u) ⊎ (t .continuation ≡ StoredContinuation.Nothing)
 
-not-nothing : (c : Continuation) → StoredContinuation.Is c ≡ StoredContinuation.Nothing → ⊥
+pub not-nothing : (c : Continuation) → StoredContinuation.Is c ≡ StoredContinuation.Nothing → ⊥
 not-nothing c e = let z : _≡_ {A = ℕ} 0 1 = cc in omega arith
 
 at-of : (t u : CoreTraceGenerationTracer) → inForce t ≡ inForce u → t .at ≡ u .at
 unfolding inForce
 at-of t u e = ap (λ (v : InForce). v .at) e
 
-stored-force : (v w : InForce) (values : StoredValues) → v .at ≡ w .at → stored v values ≡ stored w values
+pub stored-force : (v w : InForce) (values : StoredValues) → v .at ≡ w .at → stored v values ≡ stored w values
 unfolding stored
 stored-force v w values e = rw e
 
@@ -176,7 +185,7 @@ module _ (p : Profile) (q : Queues) where
   itemsIn (store values ∷ calls) z = itemsIn calls (after p q z (store values))
   itemsIn (finish i ∷ calls) z = itemMade i (answered p q z i) ++ itemsIn calls (after p q z (finish i))
 
-  item-made : (z : Held) (i : Handed) (m : MadeRow) → answered p q z i ≡ accepted m → itemMade i (answered p q z i) ≡ (i, m .row) ∷ []
+  pub item-made : (z : Held) (i : Handed) (m : MadeRow) → answered p q z i ≡ accepted m → itemMade i (answered p q z i) ≡ (i, m .row) ∷ []
   unfolding itemMade
   item-made z i m e = rw e
 
@@ -319,7 +328,7 @@ module _ (p : Profile) (q : Queues) where
       ap₂ (λ x y. x ++ y) (rows-items (fragment .calls) (opened p q here fragment) (a .0)) (rows-each fragments (cursorOf p q (closed p q here fragment)) (a .1))
 
   -- the whole's rows
-  together-items : (fragments : List Fragment) (here : Cursor) (w : Held) → AllAccepted p q fragments here → Accepted p q (allCalls fragments) w → w .tracer .refusal ≡ 0 →
+  pub together-items : (fragments : List Fragment) (here : Cursor) (w : Held) → AllAccepted p q fragments here → Accepted p q (allCalls fragments) w → w .tracer .refusal ≡ 0 →
       readState (here .state) ≡ w .tracer .«decoder_state» → here .at ≡ w .tracer .at → itemsIn (allCalls fragments) w ≡ together (itemsEach fragments here)
   unfolding AllAccepted allCalls together itemsEach
   together-items [] here w a b k e f = unfold itemsIn in refl
@@ -390,6 +399,60 @@ module _ (p : Profile) (q : Queues) where
       let z : Held = opened p q here fragment in
       count-rows p q here fragment a ∙ ap (λ (x : List (List ℕ)). length x) (rows-items (fragment .calls) z a)
       ∙ sided-length (itemsIn (fragment .calls) z) (lastSystem (z .tracer)) (lastStack (z .tracer))
+
+  -- THE LAST BUILT CELLS
+
+  -- where 25 does not refuse, there is a row
+  pub some-items : (size : ℕ) (fragments : List Fragment) (here : Cursor) → AllAccepted p q fragments here → 0 < length fragments → notFull size (countsOf (finalStates p q fragments here)) ≡ false →
+      0 < length (together (itemsEach fragments here))
+  unfolding AllAccepted countsOf finalStates notFull together itemsEach
+  some-items size [] here a some full = absurd (omega arith)
+  some-items size (fragment ∷ []) here a some full =
+      let l : List Item = itemsIn (fragment .calls) (opened p q here fragment) in
+      omega (arith, eqb-false (forPasses (finalState (closed p q here fragment .tracer)) .count) 0 full, count-items here fragment (a .0), length-append l [])
+  some-items size (fragment ∷ next ∷ fragments) here a some full =
+      let there : Cursor = cursorOf p q (closed p q here fragment) in
+      let more : List ℕ = countsOf (finalStates p q (next ∷ fragments) there) in
+      let l : List Item = itemsIn (fragment .calls) (opened p q here fragment) in
+      let y = some-items size (next ∷ fragments) there (a .1) (omega arith) (neither (ltb (forPasses (finalState (closed p q here fragment .tracer)) .count) size) (notFull size more) full .1) in
+      omega (arith, y, length-append l (together (itemsEach (next ∷ fragments) there)))
+
+  last-one : (count : ℕ) (cells : List ℕ) → lastBuilt (count ∷ []) cells ≡ take 25 cells
+  unfolding lastBuilt
+  last-one count cells = refl
+
+  last-skip : (count : ℕ) (counts : List ℕ) (final : TracerFinalState) (rest : List ℕ) → 0 < length counts → lastBuilt (count ∷ counts) (forPasses final .built ++ rest) ≡ lastBuilt counts rest
+  unfolding lastBuilt forPasses
+  last-skip count counts final rest some =
+      let n : 25 * (suc (length counts) - 1) ≡ 25 + 25 * (length counts - 1) = omega (arith, some) in
+      let cells : List ℕ = cells25 (final .«last_system_cols») (final .«last_stack_cols») ++ rest in
+      ap (take 25)
+      (ap (λ (k : ℕ). drop k cells) n ∙ sym (drop-drop (25 * (length counts - 1)) 25 cells)
+      ∙ ap (drop (25 * (length counts - 1))) (chunk (final .«last_system_cols») (final .«last_stack_cols») rest .1))
+
+  -- the built cells that the fourth pass is given are those of the last cycle, however the calls are cut
+  pub last-cells : (size : ℕ) (fragments : List Fragment) (here : Cursor) → AllAccepted p q fragments here → 0 < length fragments → notFull size (countsOf (finalStates p q fragments here)) ≡ false →
+      lastBuilt (countsOf (finalStates p q fragments here)) (builtCells (finalStates p q fragments here))
+      ≡ reduced (cells25 (lastS noSystem (together (itemsEach fragments here))) (lastK noStack (together (itemsEach fragments here))))
+  unfolding AllAccepted countsOf builtCells finalStates forPasses notFull together itemsEach
+  last-cells size [] here a some full = absurd (omega arith)
+  last-cells size (fragment ∷ []) here a some full =
+      let l : List Item = itemsIn (fragment .calls) (opened p q here fragment) in
+      let final : TracerFinalState = finalState (closed p q here fragment .tracer) in
+      let (e, f) = final-cells here fragment (a .0) in
+      last-one _ _ ∙ chunk (final .«last_system_cols») (final .«last_stack_cols») [] .0 ∙ ap₂ cells25 e f ∙ read-cells (lastS noSystem l) (lastK noStack l)
+      ∙ ap (λ (m : List Item). reduced (cells25 (lastS noSystem m) (lastK noStack m))) (sym (append-nil l))
+  last-cells size (fragment ∷ next ∷ fragments) here a some full =
+      let there : Cursor = cursorOf p q (closed p q here fragment) in
+      let final : TracerFinalState = finalState (closed p q here fragment .tracer) in
+      let more : List ℕ = countsOf (finalStates p q (next ∷ fragments) there) in
+      let l : List Item = itemsIn (fragment .calls) (opened p q here fragment) in
+      let m : List Item = together (itemsEach (next ∷ fragments) there) in
+      let full′ : notFull size more ≡ false = neither (ltb (forPasses final .count) size) (notFull size more) full .1 in
+      let (e, f) = last-behind l m noSystem noSystem noStack noStack (some-items size (next ∷ fragments) there (a .1) (omega arith) full′) in
+      last-skip (forPasses final .count) more final (builtCells (finalStates p q (next ∷ fragments) there)) (omega arith)
+      ∙ last-cells size (next ∷ fragments) there (a .1) (omega arith) full′
+      ∙ ap₂ (λ x y. reduced (cells25 x y)) e f
 
   full-items : (size : ℕ) (fragments : List Fragment) (here : Cursor) → AllAccepted p q fragments here → OneSize size fragments (countsOf (finalStates p q fragments here)) → Full size (itemsEach fragments here)
   unfolding AllAccepted countsOf finalStates OneSize Full itemsEach

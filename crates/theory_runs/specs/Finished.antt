@@ -92,3 +92,11 @@ module _ (p : Profile) (q : Queues) (size : ℕ) (fragments : List Fragment) (he
 
   abbrev pub FinisherPasses : Type 0
   FinisherPasses = refusalAll p runBuffer size runCounts runBuilt height ≡ 0
+
+-- N11: "finished to the same height", "the same cells in the first height rows": these cells are the first height rows after the finisher, or
+-- after the five calls, none of them refused. What stands in the buffer behind the fragments is free
+pub data WrittenOf (p : Profile) (q : Queues) (size : ℕ) (fragments : List Fragment) (here : Cursor) (top : List ℕ) (height : ℕ) : (cells : List ℕ) → Type 0 where
+  of-finisher : (others : List ℕ) → FinisherPasses p q size fragments here others top height →
+      WrittenOf p q size fragments here top height (writtenByFinisher p q size fragments here others top height)
+  of-five : (others : List ℕ) → FivePass p q size fragments here others top height →
+      WrittenOf p q size fragments here top height (writtenByFive p q size fragments here others top height)

@@ -9,9 +9,10 @@ use Rattle.rows.specs.declared.records.profile.Profile.{Profile}
 use Rattle.rows.specs.records.Addresses.{Queues}
 use Rattle.rows.specs.cycles.Made.{Cursor}
 use Rattle.rows.specs.passes.Passes.{refusalAll}
-use Rattle.theory_runs.specs.Calls.{AllAccepted, finalStates, cellsOf, countsOf, builtCells}
+use Rattle.theory_runs.specs.Calls.{Call, AllAccepted, finalStates, cellsOf, countsOf, builtCells, OneSize}
 use Rattle.theory_runs.specs.Finished.{buffer5, finisherBuffer, FiveAccepted}
-use Rattle.theory_runs.specs.LiveCalls.{LiveFragment, plainAll, liveEnds, liveFinals, liveCells}
+use Rattle.theory_runs.specs.SameCalls.{allCalls}
+use Rattle.theory_runs.specs.LiveCalls.{LiveFragment, plainAll, AllLiveAccepted, liveEnds, liveFinals, liveCells}
 
 -- a run with tallies ends as the same run does without them: no call is refused, final states and cells are the same
 pub record SameAsPlain (p : Profile) (q : Queues) (fragments : List LiveFragment) (here : Cursor) : Type 0 where
@@ -41,3 +42,16 @@ module _ (p : Profile) (q : Queues) (size : ℕ) (fragments : List LiveFragment)
 
   abbrev pub LiveFinisherPasses : Type 0
   LiveFinisherPasses = refusalAll p liveBuffer size liveCounts liveBuilt height ≡ 0
+
+-- N11 with tallies: `Cut`, no call being refused with its tally
+pub record LiveCut (p : Profile) (q : Queues) (calls : List Call) (size : ℕ) (fragments : List LiveFragment) (here : Cursor) : Type 0 where
+  pub calls-are : allCalls (plainAll fragments) ≡ calls
+  pub accepted : AllLiveAccepted p q fragments here
+  pub one-size : OneSize size (plainAll fragments) (countsOf (liveFinals (liveEnds p q fragments here)))
+
+-- these cells are the first height rows after the finisher, or after the five calls, none of them refused
+pub data LiveWritten (p : Profile) (q : Queues) (size : ℕ) (fragments : List LiveFragment) (here : Cursor) (top : List ℕ) (height : ℕ) : (cells : List ℕ) → Type 0 where
+  of-finisher : (others : List ℕ) → LiveFinisherPasses p q size fragments here others top height →
+      LiveWritten p q size fragments here top height (liveByFinisher p q size fragments here others top height)
+  of-five : (others : List ℕ) → LiveFivePass p q size fragments here others top height →
+      LiveWritten p q size fragments here top height (liveByFive p q size fragments here others top height)
