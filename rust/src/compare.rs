@@ -9,7 +9,7 @@ use std::panic::{AssertUnwindSafe, catch_unwind};
 use std::sync::Arc;
 
 use crate::calls::{Call, Positions, records};
-use crate::exports::{self, BUILT, WIDTH, replay_calls};
+use crate::exports::{self, BUILT, WIDTH, first_refused, replay_calls};
 use crate::forest::Forests;
 use crate::listed::convert;
 use crate::listed::parallel::{CORE_STORAGE_WIDTH, passes};
@@ -21,7 +21,6 @@ use crate::listed::whole::{self, Start, refusal};
 use crate::overflow::{DEPTH, HELPER, is_deep_halt, is_inverse, overflow_rule};
 use crate::profile::EXAMPLE;
 use crate::random::{DEPTHS, Rng, Run, first_syscall, raised, raised_run, raised_state};
-use crate::sizes::first_refused;
 
 const P: u64 = 18446744069414584321;
 const IN_SPAN: usize = 22;

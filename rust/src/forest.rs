@@ -157,6 +157,15 @@ impl Queues {
         self.ends.truncate(3 * to.ends);
     }
 
+    /// These entries behind others.
+    pub fn behind(&self, others: &Self) -> Self {
+        Self {
+            addresses: [&others.addresses[..], &self.addresses].concat(),
+            parents: [&others.parents[..], &self.parents].concat(),
+            ends: [&others.ends[..], &self.ends].concat(),
+        }
+    }
+
     /// The entries from one position to another, as queues of their own.
     pub fn part(&self, from: Positions, to: Positions) -> Self {
         Self {

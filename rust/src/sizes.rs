@@ -5,12 +5,12 @@ use core::fmt;
 
 use crate::calls::{Call, Positions, records};
 use crate::exports::{
-    self, BUILT, Refusal, WIDTH, fixup_stack_and_system_rows, invert_helper_column, pad_core_row_major, push_halt_opcode_row, replay_calls,
-    set_loop_body_multiplicities,
+    self, BUILT, Refusal, WIDTH, first_refused, fixup_stack_and_system_rows, invert_helper_column, pad_core_row_major,
+    push_halt_opcode_row, replay_calls, set_loop_body_multiplicities,
 };
-use crate::forest::Forests;
+use crate::forest::{Forests, Queues};
 use crate::profile::EXAMPLE;
-use crate::random::{Rng, Run};
+use crate::random::{Rng, Run, raised};
 
 /// At how many sizes a run is written.
 pub const SIZES: usize = 5;
@@ -18,7 +18,8 @@ pub const SIZES: usize = 5;
 /// What was compared.
 #[derive(Default)]
 pub struct Comparison {
-    /// Runs that were written at five sizes, and those of them none of whose calls is refused.
+    /// Runs that were tried, those that were written at five sizes, and those of them none of whose calls is refused.
+    pub tried: u64,
     pub runs: u64,
     pub whole: u64,
     /// Runs that were left out: fewer than two cycles before the first refused call, or refused by pass 2 (14).
@@ -38,13 +39,10 @@ pub struct Comparison {
 
 impl fmt::Display for Comparison {
     fn fmt(&self, f: &mut fmt::Formatter<'_>) -> fmt::Result {
-        let Self { runs, whole, short, refused, files, cut, fragments, rows, reused, differences, told } = self;
-        write!(f, "{runs} runs ({whole} whole, the others up to the first call that is refused), {files} files, {cut} of them cut, ")?;
-        write!(
-            f,
-            "of {fragments} fragments and {rows} rows; {reused} sizes refused with 23; left out: {short} runs of fewer than two cycles, {refused} that "
-        )?;
-        write!(f, "pass 2 refuses; {differences} differences")?;
+        let Self { tried, runs, whole, short, refused, files, cut, fragments, rows, reused, differences, told } = self;
+        write!(f, "{runs} of {tried} runs ({whole} whole, the others up to the first call that is refused), {files} files, ")?;
+        write!(f, "{cut} of them cut, of {fragments} fragments and {rows} rows; {reused} sizes refused with 23; left out: {short} ")?;
+        write!(f, "runs of fewer than two cycles up to there, {refused} that pass 2 refuses; {differences} differences")?;
         told.iter().try_for_each(|text| write!(f, "\n  {text}"))
     }
 }
@@ -66,17 +64,26 @@ pub fn cut(rng: &Rng, calls: &[Call], size: usize) -> Vec<Vec<Call>> {
     cuts.windows(2).map(|ends| calls[ends[0]..ends[1]].to_vec()).collect()
 }
 
-/// The first `height` rows of a run that is written in these fragments, by the finisher or by the five calls. What stood in the buffer is
-/// random.
-pub fn write(rng: &Rng, run: &Run, fragments: &[Vec<Call>], size: usize, height: usize, at_once: bool) -> Result<Vec<u64>, Refusal> {
+/// The first `height` rows of a run that is written in these fragments, from queue positions on, by the finisher or by the five calls. What
+/// stood in the buffer is random, and the last fragment is lent its size or the rest of the buffer.
+pub fn write(
+    rng: &Rng,
+    run: &Run,
+    from: Positions,
+    fragments: &[Vec<Call>],
+    size: usize,
+    height: usize,
+    at_once: bool,
+) -> Result<Vec<u64>, Refusal> {
     let lent = Forests::new(&run.forests);
     let buffer_rows = height + rng.below(3);
-    let mut buffer: Vec<u64> = (0..buffer_rows * WIDTH).map(|_| rng.next()).collect();
-    let (mut state, mut at) = (run.state, Positions::default());
+    let mut buffer: Vec<u64> = (0..buffer_rows * WIDTH).map(|_| raised(rng, rng.cell())).collect();
+    let (mut state, mut at) = (run.state, from);
     let (mut counts, mut built) = (Vec::new(), Vec::new());
     for (k, calls) in fragments.iter().enumerate() {
-        let place = k * size * WIDTH..((k + 1) * size).min(buffer_rows) * WIDTH;
-        let left = replay_calls(&lent, &run.queues, EXAMPLE, state, at, &records(calls), &mut buffer[place])?;
+        let is_rest = k + 1 == fragments.len() && rng.one_in(2);
+        let end = if is_rest { buffer_rows } else { ((k + 1) * size).min(buffer_rows) };
+        let left = replay_calls(&lent, &run.queues, EXAMPLE, state, at, &records(calls), &mut buffer[k * size * WIDTH..end * WIDTH])?;
         counts.push(left.rows as u32);
         built.extend(left.built);
         (state, at) = (left.state, left.at);
@@ -97,22 +104,20 @@ pub fn write(rng: &Rng, run: &Run, fragments: &[Vec<Call>], size: usize, height:
     Ok(buffer)
 }
 
-/// The first call that the library refuses, by halving: where a list is refused, so is each longer one.
-pub(crate) fn first_refused(calls: &[Call], refused: impl Fn(&[Call]) -> Option<Refusal>) -> (usize, u32) {
-    let (mut low, mut high) = (0, calls.len());
-    while high - low > 1 {
-        let middle = (low + high) / 2;
-        if refused(&calls[..middle]).is_some() { high = middle } else { low = middle }
-    }
-    (high - 1, refused(&calls[..high]).expect("the whole list is refused").0)
+/// The run with up to three used entries in front of each queue, and the positions behind them.
+fn with_used_entries(rng: &Rng, run: &Run) -> (Run, Positions) {
+    let cells = |most: usize| (0..rng.below(most)).map(|_| rng.cell()).collect::<Vec<_>>();
+    let ends = (0..3 * rng.below(4)).map(|_| rng.cell()).collect();
+    let used = Queues { addresses: cells(4), parents: cells(4), ends };
+    (Run { queues: run.queues.behind(&used), ..run.clone() }, used.lengths())
 }
 
 /// How many of the calls one fragment accepts.
-fn accepted_calls(run: &Run, calls: &[Call]) -> usize {
+fn accepted_calls(run: &Run, from: Positions, calls: &[Call]) -> usize {
     let lent = Forests::new(&run.forests);
     let refused = |calls: &[Call]| {
         let mut fragment = vec![0; calls.len() * WIDTH];
-        replay_calls(&lent, &run.queues, EXAMPLE, run.state, Positions::default(), &records(calls), &mut fragment).err()
+        replay_calls(&lent, &run.queues, EXAMPLE, run.state, from, &records(calls), &mut fragment).err()
     };
     if refused(calls).is_none() { calls.len() } else { first_refused(calls, refused).0 }
 }
@@ -121,22 +126,24 @@ impl Comparison {
     fn differ(&mut self, text: String) {
         self.differences += 1;
         if self.told.len() < 20 {
-            self.told.push(format!("run {}: {text}", self.runs + self.short + self.refused));
+            self.told.push(format!("run {}: {text}", self.tried));
         }
     }
 
     /// The run's calls, up to the first that is refused, in one fragment and at four other sizes.
     pub fn all(&mut self, rng: &Rng, run: &Run) {
+        self.tried += 1;
+        let (run, from) = &with_used_entries(rng, run);
         let mut calls = run.fragments.concat();
         let whole = calls.len();
-        calls.truncate(accepted_calls(run, &calls));
+        calls.truncate(accepted_calls(run, *from, &calls));
         let rows = calls.iter().filter(|call| is_cycle(call)).count();
         if rows < 2 {
             self.short += 1;
             return;
         }
         let height = rows + 1 + if rng.one_in(3) { 0 } else { rng.below(40) };
-        let file = match write(rng, run, &[calls.clone()], rows, height, rng.one_in(2)) {
+        let file = match write(rng, run, *from, &[calls.clone()], rows, height, rng.one_in(2)) {
             Ok(file) => file,
             Err(Refusal(14)) => {
                 self.refused += 1;
@@ -155,7 +162,7 @@ impl Comparison {
             let size = tries.next().expect("no end");
             if !tried.contains(&size) {
                 tried.push(size);
-                written += usize::from(self.agrees(rng, run, &calls, size, height, &file));
+                written += usize::from(self.agrees(rng, (run, *from), &calls, size, height, &file));
             }
         }
         self.runs += 1;
@@ -170,10 +177,10 @@ impl Comparison {
     }
 
     /// Writes the calls at a size and compares the file. Answers whether there is one: a cut may be refused with 23.
-    fn agrees(&mut self, rng: &Rng, run: &Run, calls: &[Call], size: usize, height: usize, file: &[u64]) -> bool {
+    fn agrees(&mut self, rng: &Rng, (run, from): (&Run, Positions), calls: &[Call], size: usize, height: usize, file: &[u64]) -> bool {
         let fragments = cut(rng, calls, size);
         let reuses = fragments.iter().any(|calls| is_cycle(&calls[0]));
-        match write(rng, run, &fragments, size, height, rng.one_in(2)) {
+        match write(rng, run, from, &fragments, size, height, rng.one_in(2)) {
             Ok(_) if reuses => self.differ(format!("size {size}: no 23 for a cycle that reuses what is stored")),
             Ok(other) => {
                 self.count(fragments.len(), height);

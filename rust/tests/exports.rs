@@ -630,60 +630,9 @@ mod replayed {
     use core_trace::forest::{Forests, MastNode, Queues, Slot};
     use core_trace::listing;
     use core_trace::random::{Run, raised, raised_run};
+    use core_trace::sizes::write;
 
     use super::*;
-
-    /// What replay leaves of a run: the rows in a buffer of the height, the rows of each fragment and the built cells.
-    struct Rows {
-        buffer: Vec<u64>,
-        counts: Vec<u32>,
-        built: Vec<u64>,
-    }
-
-    fn rows(run: &Run, height: usize) -> Rows {
-        let lent = Forests::new(&run.forests);
-        let mut buffer = vec![P; height * WIDTH];
-        let (mut state, mut at, mut counts, mut built) = (run.state, Positions::default(), Vec::new(), Vec::new());
-        for (k, calls) in run.fragments.iter().enumerate() {
-            let end = ((k + 1) * run.fragment_size).min(height);
-            let part = &mut buffer[k * run.fragment_size * WIDTH..end * WIDTH];
-            let left = replay_calls(&lent, &run.queues, EXAMPLE, state, at, &records(calls), part).unwrap();
-            counts.push(left.rows as u32);
-            built.extend(left.built);
-            (state, at) = (left.state, left.at);
-        }
-        Rows { buffer, counts, built }
-    }
-
-    /// The trace of a run, finished at once.
-    fn finished(run: &Run, height: usize) -> Vec<u64> {
-        let Rows { mut buffer, counts, built } = rows(run, height);
-        finish(EXAMPLE, &mut buffer, run.fragment_size, &counts, &built, &run.first_stack_top, height).unwrap();
-        buffer
-    }
-
-    /// The trace of a run, finished pass by pass.
-    fn finished_by_passes(run: &Run, height: usize) -> Vec<u64> {
-        let Rows { mut buffer, counts, built } = rows(run, height);
-        let rows = counts.iter().sum::<u32>() as usize;
-        fixup_stack_and_system_rows(&mut buffer, run.fragment_size, &counts, &built, &run.first_stack_top).unwrap();
-        set_loop_body_multiplicities(EXAMPLE, &mut buffer, rows).unwrap();
-        invert_helper_column(&mut buffer, rows).unwrap();
-        push_halt_opcode_row(EXAMPLE, &mut buffer, rows, built.last_chunk().unwrap()).unwrap();
-        pad_core_row_major(EXAMPLE, &mut buffer, rows + 1, height).unwrap();
-        buffer
-    }
-
-    /// C10, for each fragment size.
-    #[test]
-    fn listing_in_fragments() {
-        for size in 1..=10 {
-            let buffer = finished(&listing::run(size), listing::HEIGHT);
-            assert_eq!(overflow_rule(&buffer), Ok(listing::HEIGHT));
-            let rows = buffer.chunks(WIDTH).map(|row| row.try_into().unwrap());
-            assert_eq!(listing::table(&EXAMPLE, rows), listing::TABLE);
-        }
-    }
 
     /// N4: C10 ending at a depth. HALT and its padding have the inverse of depth − 16.
     #[test]
@@ -695,8 +644,9 @@ mod replayed {
             for size in 1..=10 {
                 let mut run = listing::run(size);
                 run.cycles_from_last().next().unwrap().stack.stack_depth = depth;
-                let trace = finished(&run, 12);
-                assert_eq!(finished_by_passes(&run, 12), trace);
+                let finished = |at_once| write(&Rng::new(13), &run, Positions::default(), &run.fragments, size, 12, at_once).unwrap();
+                let trace = finished(true);
+                assert_eq!(finished(false), trace);
                 assert_eq!(overflow_rule(&trace), Ok(12));
                 for halt in trace.chunks(WIDTH).skip(9) {
                     assert_eq!((halt[46], halt[48]), (depth.into(), helper));

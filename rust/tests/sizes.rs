@@ -1,21 +1,26 @@
 //! One run at several fragment sizes (change request N11).
 #![cfg(archive)]
 
-use core_trace::calls::{Call, Continuation, Cycle, MastNodeId, StoredValues};
-use core_trace::exports::Refusal;
+use core_trace::calls::{Call, Continuation, Cycle, MastNodeId, Positions, StoredValues};
+use core_trace::exports::{Refusal, WIDTH};
 use core_trace::forest::{MastNode, OpBatch, Queues, Slot};
 use core_trace::listing;
+use core_trace::profile::EXAMPLE;
 use core_trace::random::{Rng, Run};
 use core_trace::sizes::{cut, write};
+
+const START: Positions = Positions { addresses: 0, parents: 0, ends: 0 };
 
 /// C10 at every size up to one more than its rows.
 #[test]
 fn listing_at_each_size() {
     let rng = Rng::new(11);
+    let trace = listing::trace();
+    assert_eq!(listing::table(&EXAMPLE, trace.chunks(WIDTH).map(|row| row.try_into().unwrap())), listing::TABLE);
     for size in 1..=10 {
         let run = listing::run(size);
         for at_once in [false, true] {
-            assert_eq!(write(&rng, &run, &run.fragments, size, listing::HEIGHT, at_once), Ok(listing::trace()), "{size}");
+            assert_eq!(write(&rng, &run, START, &run.fragments, size, listing::HEIGHT, at_once).as_ref(), Ok(&trace), "{size}");
         }
     }
 }
@@ -51,12 +56,12 @@ fn reuse_across_a_cut() {
         nesting: None,
         ..whole
     };
-    let file = write(&rng, &run, &[calls.clone()], 4, 6, true);
+    let file = write(&rng, &run, START, &[calls.clone()], 4, 6, true);
     assert!(file.is_ok());
     for size in [2, 3, 5] {
-        assert_eq!(write(&rng, &run, &cut(&rng, &calls, size), size, 6, false), file, "{size}");
+        assert_eq!(write(&rng, &run, START, &cut(&rng, &calls, size), size, 6, false), file, "{size}");
     }
     let parts = cut(&rng, &calls, 1);
     assert_eq!(parts[1], [cycle(1)]);
-    assert_eq!(write(&rng, &run, &parts, 1, 6, true), Err(Refusal(23)));
+    assert_eq!(write(&rng, &run, START, &parts, 1, 6, true), Err(Refusal(23)));
 }

@@ -1,4 +1,4 @@
--- Change request N11 over replay: the same records, cut by two sizes, are the same calls, cut by two sizes.
+-- Change request N11 over replay: records that are cut by a size are their calls, cut by that size, and the same is written.
 use mathlib.Core.Path.{_≡_, _∙_, refl, sym, ap, ap₂}
 use mathlib.Core.List.{List, [], _∷_, _++_, append-assoc, append-nil}
 use Prim.Native.Nat.{ℕ, zero, suc, _+_, _*_, _/_, _≤_}
@@ -12,8 +12,8 @@ use Rattle.rows.specs.records.CallRecords.{callIn, recordAt}
 use Rattle.rows.specs.cycles.Made.{Cursor}
 use Rattle.theory_runs.specs.SameCalls.{allCalls, Cut}
 use Rattle.theory_runs.specs.Finished.{WrittenOf}
-use Rattle.theory_runs.proofs.AnySize.{runs-cut, written-length, same-written}
-use Rattle.theory_read_back.specs.ReplayedRuns.{Lent, allNumbers, callOf, callsOf, fragmentsOf, nextCursor, AllReplayed, ReplayedRuns, recordsNesting, CutRecords, finishedReplay, ReplayFinishes, fivePassedReplay, ReplayFivePass, ReplayWritten}
+use Rattle.theory_runs.proofs.AnySize.{runs-cut}
+use Rattle.theory_read_back.specs.ReplayedRuns.{Lent, allNumbers, callOf, callsOf, recordedCalls, fragmentsOf, nextCursor, AllReplayed, ReplayedRuns, recordsNesting, ReplayCut, ReplayWrittenOf}
 use Rattle.theory_read_back.proofs.RecordsAreCalls.{records-are-calls}
 use Rattle.theory_read_back.proofs.ReplayedCalls.{replayed-accepted, replayed-counts, replayed-built, replayed-cells}
 use Rattle.theory_read_back.proofs.Replays.{run-of-records}
@@ -53,65 +53,39 @@ module _ (f : Forest) (directory : List ℕ) where
 
 module _ (p : Profile) (f : Forest) (directory : List ℕ) (q : Queues) where
   -- no cut stands inside a record, since a part of a record is refused
-  calls-of-records : (lents : List Lent) (here : Cursor) → AllReplayed p f directory q lents here →
-      allCalls (fragmentsOf f directory lents) ≡ callsOf f directory (allNumbers lents) (length (allNumbers lents) / 32)
+  pub records-calls : (lents : List Lent) (here : Cursor) → AllReplayed p f directory q lents here → allCalls (fragmentsOf f directory lents) ≡ recordedCalls f directory (allNumbers lents)
   unfolding AllReplayed fragmentsOf allCalls allNumbers
-  calls-of-records [] here h = unfold callsOf in refl
-  calls-of-records (l ∷ lents) here h =
+  records-calls [] here h = unfold callsOf in refl
+  records-calls (l ∷ lents) here h =
       let a : List ℕ = l .numbers in
       let b : List ℕ = allNumbers lents in
       let whole = records-are-calls p f directory q here l (h .0) .0 in
       let n : length a ≡ 32 * (length a / 32) = omega arith in
       let e : length (a ++ b) / 32 ≡ length a / 32 + length b / 32 = omega (arith, length-append a b) in
-      ap (λ y. callsOf f directory a (length a / 32) ++ y) (calls-of-records lents (nextCursor p f directory q here l) (h .1))
+      ap (λ y. callsOf f directory a (length a / 32) ++ y) (records-calls lents (nextCursor p f directory q here l) (h .1))
       ∙ sym (calls-app f directory a b (length a / 32) (length b / 32) n) ∙ ap (callsOf f directory (a ++ b)) (sym e)
 
-  cut-of-records : (numbers : List ℕ) (size : ℕ) (lents : List Lent) (here : Cursor) → CutRecords p f directory q numbers size lents here →
-      Cut p q (callsOf f directory numbers (length numbers / 32)) size (fragmentsOf f directory lents) here
-  cut-of-records numbers size lents here cut = record {
-    calls-are = calls-of-records lents here (cut .replays) ∙ ap (λ (l : List ℕ). callsOf f directory l (length l / 32)) (cut .records-are);
-    accepted = replayed-accepted p f directory q lents here (cut .replays);
-    one-size = rw (replayed-counts p f directory q lents here (cut .replays)) at (cut .one-size);
-  }
+  module _ (size : ℕ) (lents : List Lent) (here : Cursor) where
+    pub records-cut : (numbers : List ℕ) → ReplayCut p f directory q numbers size lents here → Cut p q (recordedCalls f directory numbers) size (fragmentsOf f directory lents) here
+    records-cut numbers cut = record {
+      calls-are = records-calls lents here (cut .replays) ∙ ap (recordedCalls f directory) (cut .records-are);
+      accepted = replayed-accepted p f directory q lents here (cut .replays);
+      one-size = rw (replayed-counts p f directory q lents here (cut .replays)) at (cut .one-size);
+    }
 
-  -- what is written of replays is written of the calls of their records
-  module _ (size : ℕ) (lents : List Lent) (here : Cursor) (replays : AllReplayed p f directory q lents here) (top : List ℕ) (height : ℕ) where
-    finished-of-records : (others : List ℕ) → ReplayFinishes p f directory q size lents here others top height →
-        WrittenOf p q size (fragmentsOf f directory lents) here top height (finishedReplay p f directory q size lents here others top height)
-    finished-of-records others =
+    pub records-written : AllReplayed p f directory q lents here → (top : List ℕ) (height : ℕ) (cells : List ℕ) →
+        ReplayWrittenOf p f directory q size lents here top height cells → WrittenOf p q size (fragmentsOf f directory lents) here top height cells
+    records-written replays top height cells =
         rw (replayed-counts p f directory q lents here replays, replayed-built p f directory q lents here replays, replayed-cells p f directory q lents here replays)
-        (λ e. WrittenOf.of-finisher others e)
-
-    five-of-records : (others : List ℕ) → ReplayFivePass p f directory q size lents here others top height →
-        WrittenOf p q size (fragmentsOf f directory lents) here top height (fivePassedReplay p f directory q size lents here others top height)
-    five-of-records others =
-        rw (replayed-counts p f directory q lents here replays, replayed-built p f directory q lents here replays, replayed-cells p f directory q lents here replays)
-        (λ e. WrittenOf.of-five others e)
-
-    written-of-records : {cells : List ℕ} → ReplayWritten p f directory q size lents here top height cells → WrittenOf p q size (fragmentsOf f directory lents) here top height cells
-    written-of-records (ReplayWritten.of-finisher others e) = finished-of-records others e
-    written-of-records (ReplayWritten.of-five others e) = five-of-records others e
-
-  pub replay-length : (numbers : List ℕ) (size : ℕ) (lents : List Lent) (here : Cursor) → CutRecords p f directory q numbers size lents here →
-      (top : List ℕ) (height : ℕ) {cells : List ℕ} → ReplayWritten p f directory q size lents here top height cells → length cells ≡ 49 * height
-  replay-length numbers size lents here cut top height written =
-      written-length p q (callsOf f directory numbers (length numbers / 32)) size (fragmentsOf f directory lents) here
-      (cut-of-records numbers size lents here cut) top height (written-of-records size lents here (cut .replays) top height written)
-
-  pub replay-same-written : (numbers : List ℕ) (size size′ : ℕ) (lents lents′ : List Lent) (here : Cursor) → CutRecords p f directory q numbers size lents here → CutRecords p f directory q numbers size′ lents′ here →
-      (top : List ℕ) (height : ℕ) {cells cells′ : List ℕ} → ReplayWritten p f directory q size lents here top height cells → ReplayWritten p f directory q size′ lents′ here top height cells′ → cells ≡ cells′
-  replay-same-written numbers size size′ lents lents′ here cut cut′ top height written written′ =
-      same-written p q (callsOf f directory numbers (length numbers / 32)) size size′ (fragmentsOf f directory lents) (fragmentsOf f directory lents′) here
-      (cut-of-records numbers size lents here cut) (cut-of-records numbers size′ lents′ here cut′) top height
-      (written-of-records size lents here (cut .replays) top height written) (written-of-records size′ lents′ here (cut′ .replays) top height written′)
+        (λ written. written)
 
   -- a proper run whose records are cut by another size is one too, with the same nesting
-  pub replay-runs-cut : (size size′ : ℕ) (lents lents′ : List Lent) (here : Cursor) (runs : ReplayedRuns p f directory q size lents here) → CutRecords p f directory q (allNumbers lents) size′ lents′ here →
+  pub replay-runs-cut : (size size′ : ℕ) (lents lents′ : List Lent) (here : Cursor) (runs : ReplayedRuns p f directory q size lents here) → ReplayCut p f directory q (allNumbers lents) size′ lents′ here →
       (runs′ : ReplayedRuns p f directory q size′ lents′ here) × (recordsNesting p f directory q runs′ ≡ recordsNesting p f directory q runs)
   unfolding run-of-records
   replay-runs-cut size size′ lents lents′ here runs cut =
-      let as-calls = cut-of-records (allNumbers lents) size′ lents′ here cut in
-      let same-calls : allCalls (fragmentsOf f directory lents′) ≡ allCalls (fragmentsOf f directory lents) = as-calls .calls-are ∙ sym (calls-of-records lents here (runs .replays)) in
+      let as-calls = records-cut size′ lents′ here (allNumbers lents) cut in
+      let same-calls : allCalls (fragmentsOf f directory lents′) ≡ allCalls (fragmentsOf f directory lents) = as-calls .calls-are ∙ sym (records-calls lents here (runs .replays)) in
       let (run′, same) =
       runs-cut p q size size′ (fragmentsOf f directory lents) (fragmentsOf f directory lents′) here (run-of-records p f directory q size lents here runs)
       (record { calls-are = same-calls; accepted = as-calls .accepted; one-size = as-calls .one-size }) in (

@@ -1,7 +1,7 @@
 -- C10's run, lent as records in fragments of 4: the premises over replay can be met, and its rows, reading and counts computed over the
 -- definitions.
 use mathlib.Core.Path.{_≡_, refl}
-use mathlib.Core.List.{List, [], _∷_, _++_}
+use mathlib.Core.List.{List, [], _∷_, _++_, map}
 use Prim.Native.Nat.{ℕ}
 use native.Mathlib.Omega.{arith}
 use mathlib.Core.Bool.{false}
@@ -27,22 +27,26 @@ use Rattle.rows.specs.records.Cells.{rowCells, putRow}
 use Rattle.rows.specs.cycles.Scans.{anyBigOpcode, anyLongBlock, anyLargeBatch, forestTooLarge, scanOf}
 use Rattle.rows.specs.records.Cells.{fragmentWrong}
 use Rattle.rows.specs.cycles.Cycles.{fresh, storedIn, cycleWith, leftAfter, tracerAfter, lastSystem, lastStack, fragmentAfter, finalState, forPasses}
+use Rattle.rows.specs.cycles.LentTally.{isFree, isOf, firstFrom, placeFor, countedAt, cannotCount, countsNext, unlessFull, tallyAfter, talliedCycle}
 use Rattle.rows.specs.replay.Calls.{directoryEntry, window, forestIn, forestOf, callDone, callWritten, through, written, ending, nextState, nextPositions, told, scanned, replayed, replayedFragment}
 use Rattle.rows.specs.records.CallRecords.{namesNoKind, of32, conditionIn, calleeIn, infoIn, resumeIn, continuationOn, continuationIn, namesNothing, storedInRecord, systemIn, stackIn, fewCells, manyCells, registersIn, finishIn, callIn, recordAt}
 use Rattle.rows.specs.records.CallRecords as records
-use Rattle.rows.specs.records.Buffers.{rowsOf, flat, onRows, lastRow, addrOf, lowBits, opcodeOf, bufferWrong, fewerRows}
+use Rattle.rows.specs.records.Buffers.{rowsOf, bufferRow, flat, onRows, lastRow, addrOf, lowBits, opcodeOf, bufferWrong, fewerRows}
 use Rattle.rows.specs.passes.Passes.{withSides, firstRow, laterRows, fixedUp, builtOf, flaggedEnd, bodyEnds, withCounts, anyWithoutBody, multiplied, loopWithoutBody, inverted, haltDecoder, haltStack, haltRow, halted, paddingRow, paddingRows, padded, sumOf, anyAbove, notFull, fragmentsWrong, heightWrong, refusalAll, lastBuilt, allPasses}
 use Rattle.groups.specs.Answer.{firstOf}
 use Rattle.theory_readings.specs.Tokens.{controls, controlOpcodes, isOpOpcode, countOf}
 use Rattle.theory_readings.specs.Readings.{Ops, Block, Passes, depthOf, allRows}
 use Rattle.theory_readings.proofs.Examples.{profile}
-use Rattle.theory_runs.specs.Calls.{OneSize}
+use Rattle.theory_runs.specs.Calls.{countsOf, builtCells, OneSize}
 use Rattle.theory_runs.specs.Happened.{nothingStored, startOf, operationAt, finishOf, didBy, didStored, usedBy, positionsAfter, stored, leftBy, inForceAfter, inForceAfterAll, cyclesIn, cyclesOf}
 use Rattle.theory_runs.specs.ProperRuns.{Holds, HasOperations, HasOpcode, withLoop, loopStarts, InBlock, Run, RunPasses, opsFrom, treeFrom}
-use Rattle.theory_runs.specs.Finished.{finisherBuffer}
-use Rattle.theory_read_back.specs.ReplayedRuns.{Lent, callOf, callsOf, fragmentsOf, AllReplayed, countsReplayed, builtReplayed, cellsReplayed, ReplayedRuns, recordsNesting, finishedReplay, ReplayFinishes}
+use Rattle.theory_runs.specs.Finished.{finisherBuffer, FinishedTo}
+use Rattle.theory_runs.specs.SameCalls.{allCalls}
+use Rattle.theory_runs.specs.LiveCalls.{call, LiveFragment, plainCalls, plainAll, liveRefusal, liveAfter, liveAfterAll, LiveAccepted, AllLiveAccepted, liveEnds, liveFinals, liveCells}
+use Rattle.theory_runs.specs.LiveFinished.{liveByFinisher, LiveFinisherPasses, LiveCut}
+use Rattle.theory_read_back.specs.ReplayedRuns.{Lent, allNumbers, callOf, callsOf, recordedCalls, fragmentsOf, AllReplayed, countsReplayed, builtReplayed, cellsReplayed, ReplayedRuns, recordsNesting, finishedReplay, ReplayFinishes, ReplayCut}
 use Rattle.theory_read_back.specs.ReadBack.{ReadBack}
-use Rattle.theory_read_back.proofs.ReadBackTheorems.{replay-read}
+use Rattle.theory_read_back.proofs.ReadBackTheorems.{replay-read, replay-any-size, live-replay-any-size}
 
 -- forest 0 is one slot that has its digest alone; in forest 1 slot 0 is a loop, slot 1 its body, a block of one batch with the operation 5
 unfoldable forests : Forest
@@ -136,3 +140,44 @@ listing : fields (allRows (finishedReplay profile forests directory queued 4 len
     (85, 0, 2) ∷ (86, 1, 1) ∷ (5, 3, 0) ∷ (112, 3, 0) ∷ (116, 1, 0) ∷ (86, 1, 1) ∷ (5, 5, 0) ∷ (112, 5, 0) ∷ (112, 1, 0) ∷ (124, 0, 0) ∷ []
 unfolding forests directory queued begin storeOf cycleOf lents of32 conditionIn calleeIn infoIn resumeIn continuationOn namesNoKind continuationIn namesNothing storedInRecord systemIn stackIn fewCells manyCells registersIn finishIn callIn recordAt directoryEntry window forestIn forestOf callDone callWritten through written ending nextState nextPositions told scanned replayed replayedFragment forPasses countsReplayed builtReplayed cellsReplayed fresh storedIn cycleWith leftAfter tracerAfter lastSystem lastStack fragmentAfter finalState scanOf anyBigOpcode forestTooLarge anyLongBlock anyLargeBatch readRegisters helpersOfCells systemCells stackCells anyFrom profileWrong opcodes twoEqual isOneOf lacksBits fragmentWrong made startNode startKind startBlock startOne madeEnd madeRepeat finishLoop bodyOf blockKind entryKind operationMade resumed nodeAt nodeOf isSlot digestAt opcodeAt blockOf startedAt entryAt endAt batchAt isBatch startsAt batchFlags flagsUpTo8 contextAtOp groupOf falling groupFrom placeIn contextInGroup consumed counts doubled roundUp groupsOf sumGroups anyAbove8 groupSum pushes opContext tooLarge helpersAnswer allBelow u32Values helpersOf putRow rowCells decoderCells builtSystem builtStack noSystem noStack controlFlow basicBlockBatch operation wordAt refusalAll firstOf sumOf fragmentsWrong bufferWrong fewerRows anyAbove heightWrong notFull loopWithoutBody anyWithoutBody bodyEnds rowsOf opcodeOf lowBits flaggedEnd finisherBuffer allPasses onRows flat fixedUp firstRow withSides laterRows builtOf multiplied withCounts inverted inverseOf euclid lastBuilt halted lastRow haltRow haltDecoder haltStack padded paddingRows paddingRow allRows fields cellAt reduced readSystem readStack readState readCaptured
 listing = refl
+
+-- N11 over replay: the same records in one fragment of 9 rows, which held other numbers, are finished to the same cells
+unfoldable whole : List Lent
+whole = record { numbers = allNumbers lents; cells = replicate 441 7 } ∷ []
+
+cut-four : ReplayCut profile forests directory queued (allNumbers lents) 4 lents begin
+cut-four = record { records-are = refl; replays = free; one-size = runs .one-size }
+
+cut-whole : ReplayCut profile forests directory queued (allNumbers lents) 9 whole begin
+unfolding forests directory queued begin storeOf cycleOf lents of32 conditionIn calleeIn infoIn resumeIn continuationOn namesNoKind continuationIn namesNothing storedInRecord systemIn stackIn fewCells manyCells registersIn finishIn callIn recordAt directoryEntry window forestIn forestOf callDone callWritten through written ending nextState nextPositions told scanned replayed replayedFragment forPasses AllReplayed fresh storedIn cycleWith leftAfter tracerAfter lastSystem lastStack fragmentAfter finalState scanOf anyBigOpcode forestTooLarge anyLongBlock anyLargeBatch readRegisters helpersOfCells systemCells stackCells anyFrom profileWrong opcodes twoEqual isOneOf lacksBits fragmentWrong made startNode startKind startBlock startOne madeEnd madeRepeat finishLoop bodyOf blockKind entryKind operationMade resumed nodeAt nodeOf isSlot digestAt opcodeAt blockOf startedAt entryAt endAt batchAt isBatch startsAt batchFlags flagsUpTo8 contextAtOp groupOf falling groupFrom placeIn contextInGroup consumed counts doubled roundUp groupsOf sumGroups anyAbove8 groupSum pushes opContext tooLarge helpersAnswer allBelow u32Values helpersOf putRow rowCells decoderCells builtSystem builtStack noSystem noStack controlFlow basicBlockBatch operation wordAt cellAt reduced readSystem readStack readState readCaptured whole allNumbers OneSize fragmentsOf countsReplayed
+cut-whole = record { records-are = refl; replays = (refl, tt); one-size = tt }
+
+passes-whole : ReplayFinishes profile forests directory queued 9 whole begin (replicate 49 6) (replicate 16 0) 10
+unfolding forests directory queued begin storeOf cycleOf lents of32 conditionIn calleeIn infoIn resumeIn continuationOn namesNoKind continuationIn namesNothing storedInRecord systemIn stackIn fewCells manyCells registersIn finishIn callIn recordAt directoryEntry window forestIn forestOf callDone callWritten through written ending nextState nextPositions told scanned replayed replayedFragment forPasses countsReplayed builtReplayed cellsReplayed fresh storedIn cycleWith leftAfter tracerAfter lastSystem lastStack fragmentAfter finalState scanOf anyBigOpcode forestTooLarge anyLongBlock anyLargeBatch readRegisters helpersOfCells systemCells stackCells anyFrom profileWrong opcodes twoEqual isOneOf lacksBits fragmentWrong made startNode startKind startBlock startOne madeEnd madeRepeat finishLoop bodyOf blockKind entryKind operationMade resumed nodeAt nodeOf isSlot digestAt opcodeAt blockOf startedAt entryAt endAt batchAt isBatch startsAt batchFlags flagsUpTo8 contextAtOp groupOf falling groupFrom placeIn contextInGroup consumed counts doubled roundUp groupsOf sumGroups anyAbove8 groupSum pushes opContext tooLarge helpersAnswer allBelow u32Values helpersOf putRow rowCells decoderCells builtSystem builtStack noSystem noStack controlFlow basicBlockBatch operation wordAt refusalAll firstOf sumOf fragmentsWrong bufferWrong fewerRows anyAbove heightWrong notFull loopWithoutBody anyWithoutBody bodyEnds rowsOf opcodeOf lowBits flaggedEnd cellAt reduced readSystem readStack readState readCaptured whole allNumbers
+passes-whole = refl
+
+same-files : finishedReplay profile forests directory queued 4 lents begin [] (replicate 16 0) 10 ≡ finishedReplay profile forests directory queued 9 whole begin (replicate 49 6) (replicate 16 0) 10
+same-files =
+    replay-any-size profile forests directory queued (allNumbers lents) 4 9 lents whole begin cut-four cut-whole (replicate 16 0) 10 _ _
+    (FinishedTo.of-finisher [] passes) (FinishedTo.of-finisher (replicate 49 6) passes-whole)
+
+-- and the same calls with a tally, in one fragment
+unfoldable live : List LiveFragment
+live = record { calls = map call (recordedCalls forests directory (allNumbers lents)); cells = replicate 441 3; tally = replicate 512 0 } ∷ []
+
+cut-live : LiveCut profile queued (recordedCalls forests directory (allNumbers lents)) 9 live begin
+unfolding forests directory queued begin storeOf cycleOf lents of32 conditionIn calleeIn infoIn resumeIn continuationOn namesNoKind continuationIn namesNothing storedInRecord systemIn stackIn fewCells manyCells registersIn finishIn callIn recordAt directoryEntry window forestIn forestOf callDone callWritten through written ending nextState nextPositions told scanned replayed replayedFragment forPasses countsReplayed callOf callsOf fresh storedIn cycleWith leftAfter tracerAfter lastSystem lastStack fragmentAfter finalState scanOf anyBigOpcode forestTooLarge anyLongBlock anyLargeBatch readRegisters helpersOfCells systemCells stackCells anyFrom profileWrong opcodes twoEqual isOneOf lacksBits fragmentWrong made startNode startKind startBlock startOne madeEnd madeRepeat finishLoop bodyOf blockKind entryKind operationMade resumed nodeAt nodeOf isSlot digestAt opcodeAt blockOf startedAt entryAt endAt batchAt isBatch startsAt batchFlags flagsUpTo8 contextAtOp groupOf falling groupFrom placeIn contextInGroup consumed counts doubled roundUp groupsOf sumGroups anyAbove8 groupSum pushes opContext tooLarge helpersAnswer allBelow u32Values helpersOf putRow rowCells decoderCells builtSystem builtStack noSystem noStack controlFlow basicBlockBatch operation wordAt OneSize cellAt reduced readSystem readStack readState readCaptured live allNumbers allCalls liveRefusal liveAfter liveAfterAll LiveAccepted AllLiveAccepted talliedCycle unlessFull tallyAfter countsNext bufferRow opcodeOf lowBits flaggedEnd plainAll plainCalls liveEnds liveFinals isFree isOf firstFrom placeFor countedAt cannotCount
+cut-live = record {
+  calls-are = refl;
+  accepted = ((refl, (refl, (refl, (refl, (refl, (refl, (refl, (refl, (refl, (refl, (refl, (refl, (refl, (refl, (refl, (refl, (refl, (refl, refl)))))))))))))))))), tt);
+  one-size = tt;
+}
+
+passes-live : LiveFinisherPasses profile queued 9 live begin (replicate 49 8) (replicate 16 0) 10
+unfolding forests directory queued begin storeOf cycleOf lents of32 conditionIn calleeIn infoIn resumeIn continuationOn namesNoKind continuationIn namesNothing storedInRecord systemIn stackIn fewCells manyCells registersIn finishIn callIn recordAt directoryEntry window forestIn forestOf callDone callWritten through written ending nextState nextPositions told scanned replayed replayedFragment forPasses countsReplayed builtReplayed cellsReplayed fresh storedIn cycleWith leftAfter tracerAfter lastSystem lastStack fragmentAfter finalState scanOf anyBigOpcode forestTooLarge anyLongBlock anyLargeBatch readRegisters helpersOfCells systemCells stackCells anyFrom profileWrong opcodes twoEqual isOneOf lacksBits fragmentWrong made startNode startKind startBlock startOne madeEnd madeRepeat finishLoop bodyOf blockKind entryKind operationMade resumed nodeAt nodeOf isSlot digestAt opcodeAt blockOf startedAt entryAt endAt batchAt isBatch startsAt batchFlags flagsUpTo8 contextAtOp groupOf falling groupFrom placeIn contextInGroup consumed counts doubled roundUp groupsOf sumGroups anyAbove8 groupSum pushes opContext tooLarge helpersAnswer allBelow u32Values helpersOf putRow rowCells decoderCells builtSystem builtStack noSystem noStack controlFlow basicBlockBatch operation wordAt refusalAll firstOf sumOf fragmentsWrong bufferWrong fewerRows anyAbove heightWrong notFull loopWithoutBody anyWithoutBody bodyEnds rowsOf opcodeOf lowBits flaggedEnd cellAt reduced readSystem readStack readState readCaptured live allNumbers countsOf builtCells liveRefusal liveAfter liveAfterAll LiveAccepted AllLiveAccepted talliedCycle unlessFull tallyAfter countsNext bufferRow liveEnds liveFinals liveCells isFree isOf firstFrom placeFor countedAt cannotCount callOf callsOf
+passes-live = refl
+
+same-files-live : liveByFinisher profile queued 9 live begin (replicate 49 8) (replicate 16 0) 10 ≡ finishedReplay profile forests directory queued 4 lents begin [] (replicate 16 0) 10
+same-files-live =
+    live-replay-any-size profile forests directory queued (allNumbers lents) 9 4 live lents begin cut-live cut-four (replicate 16 0) 10 _ _
+    (FinishedTo.of-finisher (replicate 49 8) passes-live) (FinishedTo.of-finisher [] passes)

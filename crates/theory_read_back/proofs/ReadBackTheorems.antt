@@ -1,7 +1,7 @@
 -- Demand 3 in one place, and beside it that no SYSCALL is written, what tallies tell and add up to, the overflow rule of every row written, and
--- that the fragment size does not matter. `ReadsTrace` is the contract of `read_trace`: what it may tell of a buffer and leave in the lent depth
+-- that one run written at two fragment sizes has the same cells. `ReadsTrace` is the contract of `read_trace`: what it may tell of a buffer and leave in the lent depth
 -- numbers, by `Right`, which says of an answer that it is right, by document 01.
-use mathlib.Core.Path.{_≡_, _∙_, sym, ap}
+use mathlib.Core.Path.{_≡_, ap}
 use mathlib.Core.List.{List}
 use mathlib.Core.Logic.{_↔_}
 use Prim.Native.Nat.{ℕ, _*_, _/_, _≤_, _<_}
@@ -20,12 +20,12 @@ use Rattle.reader.specs.Reads.{ReadsTrace}
 use Rattle.reader.specs.declared.trace.TraceRead.{TraceRead}
 use Rattle.reader.proofs.trace.read_trace.Reads as read_trace
 use Rattle.reader.proofs.ReaderExact.{one-read, some-read, is-right-answer, reads-tree, reads-as, reads-exactly}
-use Rattle.theory_runs.specs.Calls.{Call, Fragment, AllAccepted, finalStates, cellsOf, countsOf, builtCells, OneSize}
+use Rattle.theory_runs.specs.Calls.{Handed, Call, finish, Fragment, opened, callRefusal, AllAccepted, finalStates, cellsOf, countsOf, builtCells, OneSize}
 use Rattle.theory_runs.specs.Happened.{cyclesOf}
 use Rattle.theory_runs.specs.SameCalls.{allCalls, Cut}
 use Rattle.theory_runs.specs.Finished.{Runs, nesting, writtenByFive, writtenByFinisher, FivePass, FinisherPasses, WrittenOf}
-use Rattle.theory_runs.specs.LiveCalls.{LiveFragment, plainAll, AllLiveAccepted, liveEnds, liveFinals, LentAsZeros, FreshFragment, freshEnd, freshEnds}
-use Rattle.theory_runs.specs.LiveFinished.{SameAsPlain, liveByFive, liveByFinisher, LiveFivePass, LiveFinisherPasses, LiveCut, LiveWritten}
+use Rattle.theory_runs.specs.LiveCalls.{LiveFragment, plainAll, liveRefusal, liveOpened, AllLiveAccepted, liveEnds, liveFinals, LentAsZeros, FreshFragment, freshEnd, freshEnds}
+use Rattle.theory_runs.specs.LiveFinished.{SameAsPlain, liveByFive, liveByFinisher, LiveFivePass, LiveFinisherPasses, LiveCut, LiveWrittenOf}
 use Rattle.theory_runs.specs.TallyClaims.{TallyTells, overFragments, rowsOfAll, NoneEmpty, HoldsDecoders, CountsSet}
 use Rattle.theory_runs.specs.Overflow.{OverflowRule, DepthInRange, AllDepths32}
 use Rattle.theory_runs.specs.WithoutSyscall.{NoSyscallStarts, WithoutSyscall, NoSyscallRows}
@@ -38,14 +38,14 @@ use Rattle.theory_runs.proofs.ReadRun as runs
 use Rattle.theory_runs.proofs.OverflowTheorems.{finisher-overflow, five-overflow, finisher-depths, five-depths}
 use Rattle.theory_runs.proofs.OneNesting.{one-tree-ran}
 use Rattle.theory_runs.proofs.NoSyscalls.{none-started, none-nested, none-in-rows}
-use Rattle.theory_runs.proofs.AnySize.{same-cycles, runs-cut, written-length, same-written}
-use Rattle.theory_runs.proofs.LiveCuts.{plain-cut, live-same-written, live-length}
+use Rattle.theory_runs.proofs.AnySize.{first-cycle-refused, same-cycles, runs-cut, written-length, same-written}
+use Rattle.theory_runs.proofs.LiveCuts.{live-first-cycle-refused, plain-cut, plain-written}
 use Rattle.theory_read_back.specs.ReadBack.{ReadAs, CountsPasses, ReadBack}
-use Rattle.theory_read_back.specs.ReplayedRuns.{Lent, allNumbers, fragmentsOf, AllReplayed, countsReplayed, builtReplayed, cellsReplayed, ReplayedRuns, recordsNesting, finishedReplay, ReplayFinishes, fivePassedReplay, ReplayFivePass, CutRecords, ReplayWritten}
+use Rattle.theory_read_back.specs.ReplayedRuns.{Lent, allNumbers, recordedCalls, fragmentsOf, AllReplayed, countsReplayed, builtReplayed, cellsReplayed, ReplayedRuns, recordsNesting, finishedReplay, ReplayFinishes, fivePassedReplay, ReplayFivePass, ReplayCut, ReplayWrittenOf}
 use Rattle.theory_read_back.proofs.ReadTraceCall.{learns}
 use Rattle.theory_read_back.proofs.LoopRows.{counts-passes}
 use Rattle.theory_read_back.proofs.ReplayedCalls.{replayed-accepted, replayed-counts, replayed-built, replayed-cells}
-use Rattle.theory_read_back.proofs.CutReplays.{replay-same-written, replay-length, replay-runs-cut}
+use Rattle.theory_read_back.proofs.CutReplays.{records-cut, records-written, replay-runs-cut}
 use Rattle.theory_read_back.proofs.Replays.{run-of-records, replay-finisher-trace, replay-five-trace, replay-finisher-overflow, replay-five-overflow}
 
 -- EVERY BUFFER
@@ -295,8 +295,7 @@ module _ (p : Profile) (f : Forest) (directory : List ℕ) (q : Queues) (size : 
 -- list, cut in two ways (`Cut`: each way has all fragments of its own size with only the last one short, and no call is refused), with one
 -- profile, the same queues, and one address state and queue positions to begin with; the passes work on what the calls left, none is refused, and
 -- they are the finisher's or the five calls', in either way (`WrittenOf`). Nothing else is asked: the run need not be proper, nor LOOP addresses
--- different, nor blocks at most 64 deep, and what the fragments and the buffer held before are any numbers. Where a cut stands before a cycle that
--- reuses what is stored, that cycle is refused with 23, so such a cut is outside; the smallest example is theory_runs/proofs/ExampleCuts
+-- different, nor blocks at most 64 deep, and what the fragments and the buffer held before are any numbers
 module _ (p : Profile) (q : Queues) (calls : List Call) (size size′ : ℕ) (fragments fragments′ : List Fragment) (here : Cursor) (cut : Cut p q calls size fragments here) (cut′ : Cut p q calls size′ fragments′ here) where
   pub any-size : (top : List ℕ) (height : ℕ) (cells cells′ : List ℕ) → WrittenOf p q size fragments here top height cells → WrittenOf p q size′ fragments′ here top height cells′ → cells ≡ cells′
   any-size top height cells cells′ = same-written p q calls size size′ fragments fragments′ here cut cut′ top height
@@ -306,41 +305,66 @@ pub written-rows : (p : Profile) (q : Queues) (calls : List Call) (size : ℕ) (
     (top : List ℕ) (height : ℕ) (cells : List ℕ) → WrittenOf p q size fragments here top height cells → length cells ≡ 49 * height
 written-rows p q calls size fragments here cut top height cells = written-length p q calls size fragments here cut top height
 
--- "one proper run": what the cycles did is the same however the calls are cut
-pub cycles-any-size : (p : Profile) (q : Queues) (calls : List Call) (size size′ : ℕ) (fragments fragments′ : List Fragment) (here : Cursor) → Cut p q calls size fragments here → Cut p q calls size′ fragments′ here →
-    cyclesOf q fragments (here .at) ≡ cyclesOf q fragments′ (here .at)
-cycles-any-size p q calls size size′ fragments fragments′ here cut cut′ =
-    same-cycles p q fragments fragments′ here (cut .calls-are ∙ sym (cut′ .calls-are)) (cut .accepted) (cut′ .accepted)
+-- a cycle that is the first call of its fragment is refused, so a cut before a cycle that reuses what is stored is outside; the smallest example
+-- is theory_runs/proofs/ExampleCuts
+pub reuse-refused : (p : Profile) (q : Queues) (here : Cursor) (fragment : Fragment) (i : Handed) → callRefusal p q (opened p q here fragment) (finish i) ≡ 23
+reuse-refused = first-cycle-refused
 
--- so a run that meets demand 3's premises meets them however it is cut, and its nesting is the same: either file is read back as that nesting
+-- "one proper run": what the cycles did is the same in every cut of the calls where none is refused
+pub cycles-any-size : (p : Profile) (q : Queues) (fragments fragments′ : List Fragment) (here : Cursor) → allCalls fragments ≡ allCalls fragments′ →
+    AllAccepted p q fragments here → AllAccepted p q fragments′ here → cyclesOf q fragments (here .at) ≡ cyclesOf q fragments′ (here .at)
+cycles-any-size = same-cycles
+
+-- so a run that meets demand 3's premises meets them in every such cut by a size, and its nesting is the same: either file is read back as that
+-- nesting
 pub proper-any-size : (p : Profile) (q : Queues) (size size′ : ℕ) (fragments fragments′ : List Fragment) (here : Cursor) (run : Runs p q size fragments here) → Cut p q (allCalls fragments) size′ fragments′ here →
     (run′ : Runs p q size′ fragments′ here) × (nesting run′ ≡ nesting run)
 proper-any-size = runs-cut
 
--- with tallies. "The 256-address tally is outside this comparison": nothing is said of what the tallies hold
+-- with tallies. "The 256-address tally is outside this comparison": nothing is said of what the tallies hold. Calls with tallies that are cut by a
+-- size are the calls without, cut by that size, and what is written of the ones is written of the others
+module _ (p : Profile) (q : Queues) (size : ℕ) (fragments : List LiveFragment) (here : Cursor) where
+  pub live-cut : (calls : List Call) → LiveCut p q calls size fragments here → Cut p q calls size (plainAll fragments) here
+  live-cut = plain-cut p q size fragments here
+
+  pub live-written-as : AllLiveAccepted p q fragments here → (top : List ℕ) (height : ℕ) (cells : List ℕ) →
+      LiveWrittenOf p q size fragments here top height cells → WrittenOf p q size (plainAll fragments) here top height cells
+  live-written-as = plain-written p q size fragments here
+
 module _ (p : Profile) (q : Queues) (calls : List Call) (size size′ : ℕ) (fragments fragments′ : List LiveFragment) (here : Cursor) (cut : LiveCut p q calls size fragments here) (cut′ : LiveCut p q calls size′ fragments′ here) where
-  pub live-any-size : (top : List ℕ) (height : ℕ) (cells cells′ : List ℕ) → LiveWritten p q size fragments here top height cells → LiveWritten p q size′ fragments′ here top height cells′ → cells ≡ cells′
-  live-any-size top height cells cells′ = live-same-written p q calls size size′ fragments fragments′ here cut cut′ top height
+  pub live-any-size : (top : List ℕ) (height : ℕ) (cells cells′ : List ℕ) → LiveWrittenOf p q size fragments here top height cells → LiveWrittenOf p q size′ fragments′ here top height cells′ → cells ≡ cells′
+  live-any-size top height cells cells′ written written′ =
+      any-size p q calls size size′ (plainAll fragments) (plainAll fragments′) here (live-cut p q size fragments here calls cut) (live-cut p q size′ fragments′ here calls cut′) top height cells cells′
+      (live-written-as p q size fragments here (cut .accepted) top height cells written) (live-written-as p q size′ fragments′ here (cut′ .accepted) top height cells′ written′)
 
-pub live-written-rows : (p : Profile) (q : Queues) (calls : List Call) (size : ℕ) (fragments : List LiveFragment) (here : Cursor) → LiveCut p q calls size fragments here →
-    (top : List ℕ) (height : ℕ) (cells : List ℕ) → LiveWritten p q size fragments here top height cells → length cells ≡ 49 * height
-live-written-rows p q calls size fragments here cut top height cells = live-length p q calls size fragments here cut top height
+pub live-reuse-refused : (p : Profile) (q : Queues) (here : Cursor) (fragment : LiveFragment) (i : Handed) → liveRefusal p q (liveOpened p q here fragment) (finish i) ≡ 23
+live-reuse-refused = live-first-cycle-refused
 
-pub live-proper-any-size : (p : Profile) (q : Queues) (size size′ : ℕ) (fragments fragments′ : List LiveFragment) (here : Cursor) (run : Runs p q size (plainAll fragments) here) → LiveCut p q (allCalls (plainAll fragments)) size′ fragments′ here →
-    (run′ : Runs p q size′ (plainAll fragments′) here) × (nesting run′ ≡ nesting run)
-live-proper-any-size p q size size′ fragments fragments′ here run cut =
-    runs-cut p q size size′ (plainAll fragments) (plainAll fragments′) here run (plain-cut p q (allCalls (plainAll fragments)) size′ fragments′ here cut)
+-- over replay: the same records, cut in two ways. Records that are cut by a size are their calls, cut by that size
+module _ (p : Profile) (f : Forest) (directory : List ℕ) (q : Queues) (size : ℕ) (lents : List Lent) (here : Cursor) where
+  pub replay-cut : (numbers : List ℕ) → ReplayCut p f directory q numbers size lents here → Cut p q (recordedCalls f directory numbers) size (fragmentsOf f directory lents) here
+  replay-cut = records-cut p f directory q size lents here
 
--- over replay: the same records, cut in two ways
-module _ (p : Profile) (f : Forest) (directory : List ℕ) (q : Queues) (numbers : List ℕ) (size size′ : ℕ) (lents lents′ : List Lent) (here : Cursor) (cut : CutRecords p f directory q numbers size lents here) (cut′ : CutRecords p f directory q numbers size′ lents′ here) where
-  pub replay-any-size : (top : List ℕ) (height : ℕ) (cells cells′ : List ℕ) → ReplayWritten p f directory q size lents here top height cells → ReplayWritten p f directory q size′ lents′ here top height cells′ → cells ≡ cells′
-  replay-any-size top height cells cells′ = replay-same-written p f directory q numbers size size′ lents lents′ here cut cut′ top height
+  pub replay-written-as : AllReplayed p f directory q lents here → (top : List ℕ) (height : ℕ) (cells : List ℕ) →
+      ReplayWrittenOf p f directory q size lents here top height cells → WrittenOf p q size (fragmentsOf f directory lents) here top height cells
+  replay-written-as = records-written p f directory q size lents here
 
-pub replay-written-rows : (p : Profile) (f : Forest) (directory : List ℕ) (q : Queues) (numbers : List ℕ) (size : ℕ) (lents : List Lent) (here : Cursor) → CutRecords p f directory q numbers size lents here →
-    (top : List ℕ) (height : ℕ) (cells : List ℕ) → ReplayWritten p f directory q size lents here top height cells → length cells ≡ 49 * height
-replay-written-rows p f directory q numbers size lents here cut top height cells = replay-length p f directory q numbers size lents here cut top height
+module _ (p : Profile) (f : Forest) (directory : List ℕ) (q : Queues) (numbers : List ℕ) (size size′ : ℕ) (lents lents′ : List Lent) (here : Cursor) (cut : ReplayCut p f directory q numbers size lents here) (cut′ : ReplayCut p f directory q numbers size′ lents′ here) where
+  pub replay-any-size : (top : List ℕ) (height : ℕ) (cells cells′ : List ℕ) → ReplayWrittenOf p f directory q size lents here top height cells → ReplayWrittenOf p f directory q size′ lents′ here top height cells′ → cells ≡ cells′
+  replay-any-size top height cells cells′ written written′ =
+      any-size p q (recordedCalls f directory numbers) size size′ (fragmentsOf f directory lents) (fragmentsOf f directory lents′) here
+      (replay-cut p f directory q size lents here numbers cut) (replay-cut p f directory q size′ lents′ here numbers cut′) top height cells cells′
+      (replay-written-as p f directory q size lents here (cut .replays) top height cells written) (replay-written-as p f directory q size′ lents′ here (cut′ .replays) top height cells′ written′)
 
 pub replay-proper-any-size : (p : Profile) (f : Forest) (directory : List ℕ) (q : Queues) (size size′ : ℕ) (lents lents′ : List Lent) (here : Cursor) (run : ReplayedRuns p f directory q size lents here) →
-    CutRecords p f directory q (allNumbers lents) size′ lents′ here →
+    ReplayCut p f directory q (allNumbers lents) size′ lents′ here →
     (run′ : ReplayedRuns p f directory q size′ lents′ here) × (recordsNesting p f directory q run′ ≡ recordsNesting p f directory q run)
 replay-proper-any-size = replay-runs-cut
+
+-- the one with the other: calls with tallies, and the same calls as records
+module _ (p : Profile) (f : Forest) (directory : List ℕ) (q : Queues) (numbers : List ℕ) (size size′ : ℕ) (fragments : List LiveFragment) (lents : List Lent) (here : Cursor) (cut : LiveCut p q (recordedCalls f directory numbers) size fragments here) (cut′ : ReplayCut p f directory q numbers size′ lents here) where
+  pub live-replay-any-size : (top : List ℕ) (height : ℕ) (cells cells′ : List ℕ) → LiveWrittenOf p q size fragments here top height cells → ReplayWrittenOf p f directory q size′ lents here top height cells′ → cells ≡ cells′
+  live-replay-any-size top height cells cells′ written written′ =
+      any-size p q (recordedCalls f directory numbers) size size′ (plainAll fragments) (fragmentsOf f directory lents) here
+      (live-cut p q size fragments here (recordedCalls f directory numbers) cut) (replay-cut p f directory q size′ lents here numbers cut′) top height cells cells′
+      (live-written-as p q size fragments here (cut .accepted) top height cells written) (replay-written-as p f directory q size′ lents here (cut′ .replays) top height cells′ written′)

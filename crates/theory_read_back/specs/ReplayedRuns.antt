@@ -22,7 +22,7 @@ use Rattle.theory_readings.specs.Readings as readings
 use Rattle.theory_runs.specs.Calls.{Call, store, finish, Fragment, OneSize}
 use Rattle.theory_runs.specs.Happened.{cyclesOf}
 use Rattle.theory_runs.specs.ProperRuns.{Run, treeFrom, loopStarts}
-use Rattle.theory_runs.specs.Finished.{buffer5, FiveAccepted, finisherBuffer}
+use Rattle.theory_runs.specs.Finished.{buffer5, FiveAccepted, finisherBuffer, FinishedTo}
 
 -- what is lent for a fragment: its records, and the cells that it held before
 pub record Lent : Type 0 where
@@ -50,9 +50,13 @@ module _ (f : Forest) (directory : List ℕ) where
   callsOf numbers zero = []
   callsOf numbers (suc k) = callsOf numbers k ++ callOf (callIn (recordAt numbers k))
 
+  -- of all records
+  abbrev pub recordedCalls : (numbers : List ℕ) → List Call
+  recordedCalls numbers = callsOf numbers (length numbers / 32)
+
   -- a fragment of a run: the calls of all its records
   abbrev pub fragmentOf : Lent → Fragment
-  fragmentOf l = record { calls = callsOf (l .numbers) (length (l .numbers) / 32); cells = l .cells }
+  fragmentOf l = record { calls = recordedCalls (l .numbers); cells = l .cells }
 
   unfoldable pub fragmentsOf : List Lent → List Fragment
   fragmentsOf [] = []
@@ -113,7 +117,7 @@ module _ (p : Profile) (f : Forest) (directory : List ℕ) (q : Queues) where
   recordsNesting runs = treeFrom p 0 (runs .proper) .0
 
   -- N11 over replay: these records, cut into fragments that all have this size with only the last one short, where no replay is refused
-  pub record CutRecords (numbers : List ℕ) (size : ℕ) (lents : List Lent) (here : Cursor) : Type 0 where
+  pub record ReplayCut (numbers : List ℕ) (size : ℕ) (lents : List Lent) (here : Cursor) : Type 0 where
     pub records-are : allNumbers lents ≡ numbers
     pub replays : AllReplayed lents here
     pub one-size : OneSize size (fragmentsOf f directory lents) (countsReplayed lents here)
@@ -136,9 +140,6 @@ module _ (p : Profile) (f : Forest) (directory : List ℕ) (q : Queues) where
     abbrev pub ReplayFivePass : Type 0
     ReplayFivePass = FiveAccepted p size (countsReplayed lents here) (builtReplayed lents here) top height replayedBuffer
 
-  -- these cells are the first height rows after the finisher, or after the five calls, none of them refused
-  pub data ReplayWritten (size : ℕ) (lents : List Lent) (here : Cursor) (top : List ℕ) (height : ℕ) : (cells : List ℕ) → Type 0 where
-    of-finisher : (others : List ℕ) → ReplayFinishes size lents here others top height →
-        ReplayWritten size lents here top height (finishedReplay size lents here others top height)
-    of-five : (others : List ℕ) → ReplayFivePass size lents here others top height →
-        ReplayWritten size lents here top height (fivePassedReplay size lents here others top height)
+  -- N11: cells that are written of replayed fragments, by the finisher or by the five calls
+  abbrev pub ReplayWrittenOf : (size : ℕ) (lents : List Lent) (here : Cursor) (top : List ℕ) (height : ℕ) (cells : List ℕ) → Type 0
+  ReplayWrittenOf size lents here = FinishedTo p size (countsReplayed lents here) (builtReplayed lents here) (cellsReplayed lents here)

@@ -1,5 +1,5 @@
 -- Change request N11: one run, cut by two sizes and finished to the same height, gives the same cells in the first height rows. The run need not
--- be proper.
+-- be proper. A cut before a cycle that reuses what is stored is refused.
 use mathlib.Core.Path.{_≡_, _∙_, refl, sym, ap, ap₂, subst}
 use mathlib.Core.Bool.{false}
 use mathlib.Core.List.{List, [], _∷_, _++_}
@@ -15,19 +15,26 @@ use Rattle.rows.specs.records.Built.{noSystem, noStack}
 use Rattle.rows.specs.records.Profiles.{twoEqual}
 use Rattle.rows.specs.records.Forests.{Forest}
 use Rattle.rows.specs.cycles.Made.{Cursor}
-use Rattle.rows.specs.cycles.Cycles.{fresh}
+use Rattle.rows.specs.cycles.Cycles.{fresh, cycleWith, cycle}
 use Rattle.rows.specs.passes.Passes.{inverted, multiplied, halted, padded}
 use Rattle.rows.proofs.passes.RowLists.{length-flat}
 use Rattle.theory_readings.specs.Readings.{Block, depthOf}
-use Rattle.theory_runs.specs.Calls.{Call, store, finish, Fragment, Held, callRefusal, Accepted, opened, closed, cursorOf, AllAccepted}
+use Rattle.theory_runs.specs.Calls.{Handed, Call, store, finish, Fragment, Held, callRefusal, Accepted, opened, closed, cursorOf, AllAccepted}
 use Rattle.theory_runs.specs.Happened.{Cycle, InForce, nothingStored, did, stored, leftBy, inForceAfter, inForceAfterAll, cyclesIn, cyclesOf}
 use Rattle.theory_runs.specs.ProperRuns.{Run, loopStarts, treeFrom}
 use Rattle.theory_runs.specs.SameCalls.{allCalls, Cut, cyclesAmong}
-use Rattle.theory_runs.specs.Finished.{Runs, nesting, WrittenOf}
+use Rattle.theory_runs.specs.Finished.{Runs, nesting, FinishedTo, WrittenOf}
 use Rattle.theory_runs.proofs.Folded.{stepped, force-at}
 use Rattle.theory_runs.proofs.Unfragmented.{Item, lastS, lastK, cells25, not-nothing, stored-force, counts-length, last-cells}
 use Rattle.theory_runs.proofs.InOne.{sum-cycles, same-items, rows-any-cut}
 use Rattle.theory_runs.proofs.TraceOfRun.{PassesChecked, run-rows, run-wide, run-length, by-finisher, by-five}
+
+-- A FIRST CYCLE
+
+-- a cycle that is the first call of its fragment is refused, whatever profile, queues, address state and forest it has: nothing is stored
+pub first-cycle-refused : (p : Profile) (q : Queues) (here : Cursor) (fragment : Fragment) (i : Handed) → callRefusal p q (opened p q here fragment) (finish i) ≡ 23
+unfolding callRefusal cycle cycleWith fresh
+first-cycle-refused p q here fragment i = refl
 
 -- PROPER RUNS
 
@@ -59,7 +66,7 @@ module _ (p : Profile) (q : Queues) where
       cycles-in-app (fragment .calls) (allCalls fragments) v
       ∙ ap₂ (λ x y. x ++ y) first (cycles-whole fragments (cursorOf p q (closed p q here fragment)) (inForceAfterAll q (fragment .calls) v) (a .1) (at ∙ sym k) ∙ ap (cyclesOf q fragments) k)
 
-  -- the cycles, so what ran, do not depend on the cut
+  -- the cycles, so what ran, are the same in every cut where no call is refused
   pub same-cycles : (fragments fragments′ : List Fragment) (here : Cursor) → allCalls fragments ≡ allCalls fragments′ → AllAccepted p q fragments here → AllAccepted p q fragments′ here →
       cyclesOf q fragments (here .at) ≡ cyclesOf q fragments′ (here .at)
   unfolding nothingStored
@@ -105,8 +112,8 @@ module _ (p : Profile) (q : Queues) (calls : List Call) (size : ℕ) (fragments 
 
   -- what holds of them holds of what is written, however it is finished
   of-written : (Q : List ℕ → Type 0) → ((others : List ℕ) → Checks others → Q (flat (rows-with others))) → {cells : List ℕ} → WrittenOf p q size fragments here top height cells → Q cells
-  of-written Q h (WrittenOf.of-finisher others e) = by-finisher p q size fragments here (cut .accepted) (cut .one-size) others top height Q (h others) e
-  of-written Q h (WrittenOf.of-five others e) = by-five p q size fragments here (cut .accepted) (cut .one-size) others top height Q (h others) e
+  of-written Q h (FinishedTo.of-finisher others e) = by-finisher p q size fragments here (cut .accepted) (cut .one-size) others top height Q (h others) e
+  of-written Q h (FinishedTo.of-five others e) = by-five p q size fragments here (cut .accepted) (cut .one-size) others top height Q (h others) e
 
   -- these are height rows
   pub written-length : {cells : List ℕ} → WrittenOf p q size fragments here top height cells → length cells ≡ 49 * height

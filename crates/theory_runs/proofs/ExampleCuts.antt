@@ -33,20 +33,15 @@ use Rattle.rows.specs.records.Buffers.{rowsOf, bufferRow, flat, onRows, lastRow
 use Rattle.rows.specs.passes.Passes.{withSides, firstRow, laterRows, fixedUp, builtOf, flaggedEnd, bodyEnds, withCounts, anyWithoutBody, multiplied, loopWithoutBody, inverted, haltDecoder, haltStack, haltRow, halted, paddingRow, paddingRows, padded, sumOf, anyAbove, notFull, fragmentsWrong, heightWrong, refusal1, refusal2, refusal3, refusal4, refusal5, refusalAll, lastBuilt}
 use Rattle.theory_readings.specs.Tokens.{dyn}
 use Rattle.theory_readings.proofs.Examples.{profile}
-use Rattle.theory_runs.specs.Calls.{Handed, Call, store, finish, Fragment, after, callRefusal, afterAll, Accepted, opened, closed, cursorOf, AllAccepted, finalStates, cellsOf, countsOf, builtCells, OneSize}
+use Rattle.theory_runs.specs.Calls.{Call, store, finish, Fragment, after, callRefusal, afterAll, Accepted, opened, closed, cursorOf, AllAccepted, finalStates, cellsOf, countsOf, builtCells, OneSize}
 use Rattle.theory_runs.specs.Happened.{nothingStored, startOf, finishOf, didBy, didStored, usedBy, positionsAfter, stored, leftBy, inForceAfter, inForceAfterAll, cyclesIn, cyclesOf}
 use Rattle.theory_runs.specs.ProperRuns.{Child, endingOf, Holds, HasOperations, InBlock, Run}
-use Rattle.theory_runs.specs.Finished.{buffer1, buffer2, buffer3, buffer4, writtenByFive, writtenByFinisher, FivePass, FinisherPasses, WrittenOf}
+use Rattle.theory_runs.specs.Finished.{buffer1, buffer2, buffer3, buffer4, writtenByFive, writtenByFinisher, FivePass, FinisherPasses, FinishedTo}
 use Rattle.theory_runs.specs.SameCalls.{allCalls, Cut}
 use Rattle.theory_runs.specs.LiveCalls.{call, LiveFragment, plainCalls, plainAll, liveRefusal, liveAfter, liveAfterAll, LiveAccepted, AllLiveAccepted, liveEnds, liveFinals, liveCells}
-use Rattle.theory_runs.specs.LiveFinished.{liveByFive, liveByFinisher, LiveFivePass, LiveFinisherPasses, LiveCut, LiveWritten}
-use Rattle.theory_runs.proofs.AnySize.{same-written}
-use Rattle.theory_runs.proofs.LiveCuts.{live-same-written}
-
--- for every profile, queues, address state and forest: a cycle that is the first call of its fragment
-pub reuse-refused : (p : Profile) (q : Queues) (here : Cursor) (fragment : Fragment) (i : Handed) → callRefusal p q (opened p q here fragment) (finish i) ≡ 23
-unfolding callRefusal cycle cycleWith fresh
-reuse-refused p q here fragment i = refl
+use Rattle.theory_runs.specs.LiveFinished.{liveByFive, liveByFinisher, LiveFivePass, LiveFinisherPasses, LiveCut}
+use Rattle.theory_runs.proofs.AnySize.{first-cycle-refused, same-written}
+use Rattle.theory_runs.proofs.LiveCuts.{plain-cut, plain-written}
 
 -- THE RUN
 
@@ -132,7 +127,7 @@ passes-two = refl
 same-files : writtenByFinisher profile queued 4 uncut begin (replicate 98 5) (replicate 16 0) 6 ≡ writtenByFinisher profile queued 2 byTwo begin (replicate 147 6) (replicate 16 0) 6
 same-files =
     same-written profile queued (opening ++ reusing ++ closing) 4 2 uncut byTwo begin cut-uncut cut-two (replicate 16 0) 6
-    (WrittenOf.of-finisher (replicate 98 5) passes-uncut) (WrittenOf.of-finisher (replicate 147 6) passes-two)
+    (FinishedTo.of-finisher (replicate 98 5) passes-uncut) (FinishedTo.of-finisher (replicate 147 6) passes-two)
 
 -- by the five calls, and one by the finisher and one by them
 five-uncut : FivePass profile queued 4 uncut begin (replicate 98 5) (replicate 16 0) 6
@@ -146,12 +141,12 @@ five-two = record { first = refl; second = refl; third = refl; fourth = refl; fi
 same-files-five : writtenByFive profile queued 4 uncut begin (replicate 98 5) (replicate 16 0) 6 ≡ writtenByFive profile queued 2 byTwo begin (replicate 147 6) (replicate 16 0) 6
 same-files-five =
     same-written profile queued (opening ++ reusing ++ closing) 4 2 uncut byTwo begin cut-uncut cut-two (replicate 16 0) 6
-    (WrittenOf.of-five (replicate 98 5) five-uncut) (WrittenOf.of-five (replicate 147 6) five-two)
+    (FinishedTo.of-five (replicate 98 5) five-uncut) (FinishedTo.of-five (replicate 147 6) five-two)
 
 same-files-mixed : writtenByFinisher profile queued 4 uncut begin (replicate 98 5) (replicate 16 0) 6 ≡ writtenByFive profile queued 2 byTwo begin (replicate 147 6) (replicate 16 0) 6
 same-files-mixed =
     same-written profile queued (opening ++ reusing ++ closing) 4 2 uncut byTwo begin cut-uncut cut-two (replicate 16 0) 6
-    (WrittenOf.of-finisher (replicate 98 5) passes-uncut) (WrittenOf.of-five (replicate 147 6) five-two)
+    (FinishedTo.of-finisher (replicate 98 5) passes-uncut) (FinishedTo.of-five (replicate 147 6) five-two)
 
 -- with tallies, which hold other numbers in the two
 unfoldable lent : (tally : List ℕ) → Fragment → LiveFragment
@@ -185,8 +180,10 @@ live-five-two = record { first = refl; second = refl; third = refl; fourth = ref
 
 live-same-files : liveByFinisher profile queued 4 live-uncut begin (replicate 98 5) (replicate 16 0) 6 ≡ liveByFive profile queued 2 live-two begin (replicate 147 6) (replicate 16 0) 6
 live-same-files =
-    live-same-written profile queued (opening ++ reusing ++ closing) 4 2 live-uncut live-two begin live-cut-uncut live-cut-two (replicate 16 0) 6
-    (LiveWritten.of-finisher (replicate 98 5) live-passes-uncut) (LiveWritten.of-five (replicate 147 6) live-five-two)
+    same-written profile queued (opening ++ reusing ++ closing) 4 2 (plainAll live-uncut) (plainAll live-two) begin
+    (plain-cut profile queued 4 live-uncut begin _ live-cut-uncut) (plain-cut profile queued 2 live-two begin _ live-cut-two) (replicate 16 0) 6
+    (plain-written profile queued 4 live-uncut begin (live-cut-uncut .accepted) (replicate 16 0) 6 _ (FinishedTo.of-finisher (replicate 98 5) live-passes-uncut))
+    (plain-written profile queued 2 live-two begin (live-cut-two .accepted) (replicate 16 0) 6 _ (FinishedTo.of-five (replicate 147 6) live-five-two))
 
 -- 23
 
@@ -199,4 +196,4 @@ onlySecond = record { calls = reusing; cells = replicate 49 9 }
 
 singles-refused : callRefusal profile queued (opened profile queued (cursorOf profile queued (closed profile queued begin onlyFirst)) onlySecond) (cycleOf inner 1) ≡ 23
 unfolding cycleOf
-singles-refused = reuse-refused profile queued (cursorOf profile queued (closed profile queued begin onlyFirst)) onlySecond _
+singles-refused = first-cycle-refused profile queued (cursorOf profile queued (closed profile queued begin onlyFirst)) onlySecond _

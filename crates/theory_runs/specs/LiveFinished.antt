@@ -1,5 +1,5 @@
 -- Change request N9: a run whose cycles are lent tallies beside the same without, and what its buffer holds after the finishing passes, which are
--- lent none, as `Finished` has it of a run without tallies.
+-- lent none, as `Finished` has it of a run without tallies; such a run cut by a size (N11).
 use mathlib.Core.Path.{_≡_}
 use mathlib.Core.List.{List, _++_}
 use Prim.Native.Nat.{ℕ, _*_}
@@ -10,7 +10,7 @@ use Rattle.rows.specs.records.Addresses.{Queues}
 use Rattle.rows.specs.cycles.Made.{Cursor}
 use Rattle.rows.specs.passes.Passes.{refusalAll}
 use Rattle.theory_runs.specs.Calls.{Call, AllAccepted, finalStates, cellsOf, countsOf, builtCells, OneSize}
-use Rattle.theory_runs.specs.Finished.{buffer5, finisherBuffer, FiveAccepted}
+use Rattle.theory_runs.specs.Finished.{buffer5, finisherBuffer, FiveAccepted, FinishedTo}
 use Rattle.theory_runs.specs.SameCalls.{allCalls}
 use Rattle.theory_runs.specs.LiveCalls.{LiveFragment, plainAll, AllLiveAccepted, liveEnds, liveFinals, liveCells}
 
@@ -49,9 +49,7 @@ pub record LiveCut (p : Profile) (q : Queues) (calls : List Call) (size : ℕ) (
   pub accepted : AllLiveAccepted p q fragments here
   pub one-size : OneSize size (plainAll fragments) (countsOf (liveFinals (liveEnds p q fragments here)))
 
--- these cells are the first height rows after the finisher, or after the five calls, none of them refused
-pub data LiveWritten (p : Profile) (q : Queues) (size : ℕ) (fragments : List LiveFragment) (here : Cursor) (top : List ℕ) (height : ℕ) : (cells : List ℕ) → Type 0 where
-  of-finisher : (others : List ℕ) → LiveFinisherPasses p q size fragments here others top height →
-      LiveWritten p q size fragments here top height (liveByFinisher p q size fragments here others top height)
-  of-five : (others : List ℕ) → LiveFivePass p q size fragments here others top height →
-      LiveWritten p q size fragments here top height (liveByFive p q size fragments here others top height)
+-- N11: cells that are written of it, by the finisher or by the five calls
+abbrev pub LiveWrittenOf : (p : Profile) (q : Queues) (size : ℕ) (fragments : List LiveFragment) (here : Cursor) (top : List ℕ) (height : ℕ) (cells : List ℕ) → Type 0
+LiveWrittenOf p q size fragments here =
+    FinishedTo p size (countsOf (liveFinals (liveEnds p q fragments here))) (builtCells (liveFinals (liveEnds p q fragments here))) (liveCells (liveEnds p q fragments here))
