@@ -168,3 +168,14 @@ pub struct Positions {
     pub parents: usize,
     pub ends: usize,
 }
+
+/// The first call of a refused list that is refused, by halving, and what it is refused with: where a list is refused, so is each longer one.
+/// Panics on a list that is not refused.
+pub fn first_refused<R>(calls: &[Call], refused: impl Fn(&[Call]) -> Option<R>) -> (usize, R) {
+    let (mut low, mut high) = (0, calls.len());
+    while high - low > 1 {
+        let middle = (low + high) / 2;
+        if refused(&calls[..middle]).is_some() { high = middle } else { low = middle }
+    }
+    (high - 1, refused(&calls[..high]).expect("the whole list is refused"))
+}

@@ -8,8 +8,8 @@ use std::collections::BTreeMap;
 use std::panic::{AssertUnwindSafe, catch_unwind};
 use std::sync::Arc;
 
-use crate::calls::{Call, Positions, records};
-use crate::exports::{self, BUILT, WIDTH, first_refused, replay_calls};
+use crate::calls::{Call, Positions, first_refused, records};
+use crate::exports::{self, BUILT, WIDTH, replay_calls};
 use crate::forest::Forests;
 use crate::listed::convert;
 use crate::listed::parallel::{CORE_STORAGE_WIDTH, passes};
@@ -265,7 +265,7 @@ pub fn compare_run(run: &Run, rng: &Rng, tally: &mut Tally) -> Option<Finished> 
                 if buffer[ours.clone()] != before {
                     tally.differ("a refused replay changed the fragment".into());
                 }
-                first_refused(given_calls, |calls| replay(calls, &mut before.clone()).err())
+                first_refused(given_calls, |calls| replay(calls, &mut before.clone()).err().map(|refusal| refusal.0))
             });
             accepted = first.map_or(usize::MAX, |(at, _)| at).min(listed.refused.as_ref().map_or(usize::MAX, |(at, _)| *at));
             let number = first.filter(|(at, _)| *at == accepted).map_or(0, |(_, number)| number);

@@ -4,7 +4,7 @@
 //! lent. A row is [`WIDTH`] cells. A cell is a number below p = 18446744069414584321; where one comes in, a number from p on is read as that
 //! number less p. What a call writes is below p, what it does not write stays as it is.
 
-use crate::calls::{Call, DecoderState, Positions};
+use crate::calls::{DecoderState, Positions};
 use crate::forest::{Forests, Queues};
 use crate::profile::Profile;
 
@@ -191,16 +191,6 @@ mod foreign {
 
 // SAFETY, of every call below: each pointer and length come from one slice or array that is borrowed for the call, and the called function is
 // proved to stay inside them, to write to none but those passed as `*mut`, to keep none, and to end. It has no `requires`.
-
-/// The first call that the library refuses, by halving: where a list is refused, so is each longer one.
-pub fn first_refused(calls: &[Call], refused: impl Fn(&[Call]) -> Option<Refusal>) -> (usize, u32) {
-    let (mut low, mut high) = (0, calls.len());
-    while high - low > 1 {
-        let middle = (low + high) / 2;
-        if refused(&calls[..middle]).is_some() { high = middle } else { low = middle }
-    }
-    (high - 1, refused(&calls[..high]).expect("the whole list is refused").0)
-}
 
 /// Carries out a list of storings and cycles, lent as records of 32 numbers, on a fresh tracer over one fragment: the listed
 /// `start_clock_cycle` and `finalize_clock_cycle` once a record, and `into_final_state` behind the last. No tally is lent, so there is no 32.

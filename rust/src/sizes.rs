@@ -3,10 +3,10 @@
 
 use core::fmt;
 
-use crate::calls::{Call, Positions, records};
+use crate::calls::{Call, Positions, first_refused, records};
 use crate::exports::{
-    self, BUILT, Refusal, WIDTH, first_refused, fixup_stack_and_system_rows, invert_helper_column, pad_core_row_major,
-    push_halt_opcode_row, replay_calls, set_loop_body_multiplicities,
+    self, BUILT, Refusal, WIDTH, fixup_stack_and_system_rows, invert_helper_column, pad_core_row_major, push_halt_opcode_row, replay_calls,
+    set_loop_body_multiplicities,
 };
 use crate::forest::{Forests, Queues};
 use crate::profile::EXAMPLE;
@@ -27,7 +27,7 @@ pub struct Comparison {
     pub refused: u64,
     /// Finished traces, and those of them in more than one fragment.
     pub files: u64,
-    pub cut: u64,
+    pub in_several: u64,
     pub fragments: u64,
     pub rows: u64,
     /// Sizes that were refused with 23, as they must be: a cut stands before a cycle that reuses what is stored.
@@ -39,9 +39,12 @@ pub struct Comparison {
 
 impl fmt::Display for Comparison {
     fn fmt(&self, f: &mut fmt::Formatter<'_>) -> fmt::Result {
-        let Self { tried, runs, whole, short, refused, files, cut, fragments, rows, reused, differences, told } = self;
+        let Self { tried, runs, whole, short, refused, files, in_several, fragments, rows, reused, differences, told } = self;
         write!(f, "{runs} of {tried} runs ({whole} whole, the others up to the first call that is refused), {files} files, ")?;
-        write!(f, "{cut} of them cut, of {fragments} fragments and {rows} rows; {reused} sizes refused with 23; left out: {short} ")?;
+        write!(
+            f,
+            "{in_several} of them in more than one fragment, of {fragments} fragments and {rows} rows; {reused} sizes refused with 23; left out: {short} "
+        )?;
         write!(f, "runs of fewer than two cycles up to there, {refused} that pass 2 refuses; {differences} differences")?;
         told.iter().try_for_each(|text| write!(f, "\n  {text}"))
     }
@@ -171,7 +174,7 @@ impl Comparison {
 
     fn count(&mut self, fragments: usize, rows: usize) {
         self.files += 1;
-        self.cut += u64::from(fragments > 1);
+        self.in_several += u64::from(fragments > 1);
         self.fragments += fragments as u64;
         self.rows += rows as u64;
     }

@@ -9,8 +9,6 @@ use core_trace::profile::EXAMPLE;
 use core_trace::random::{Rng, Run};
 use core_trace::sizes::{cut, write};
 
-const START: Positions = Positions { addresses: 0, parents: 0, ends: 0 };
-
 /// C10 at every size up to one more than its rows.
 #[test]
 fn listing_at_each_size() {
@@ -20,7 +18,11 @@ fn listing_at_each_size() {
     for size in 1..=10 {
         let run = listing::run(size);
         for at_once in [false, true] {
-            assert_eq!(write(&rng, &run, START, &run.fragments, size, listing::HEIGHT, at_once).as_ref(), Ok(&trace), "{size}");
+            assert_eq!(
+                write(&rng, &run, Positions::default(), &run.fragments, size, listing::HEIGHT, at_once).as_ref(),
+                Ok(&trace),
+                "{size}"
+            );
         }
     }
 }
@@ -56,12 +58,12 @@ fn reuse_across_a_cut() {
         nesting: None,
         ..whole
     };
-    let file = write(&rng, &run, START, &[calls.clone()], 4, 6, true);
+    let file = write(&rng, &run, Positions::default(), &[calls.clone()], 4, 6, true);
     assert!(file.is_ok());
     for size in [2, 3, 5] {
-        assert_eq!(write(&rng, &run, START, &cut(&rng, &calls, size), size, 6, false), file, "{size}");
+        assert_eq!(write(&rng, &run, Positions::default(), &cut(&rng, &calls, size), size, 6, false), file, "{size}");
     }
     let parts = cut(&rng, &calls, 1);
     assert_eq!(parts[1], [cycle(1)]);
-    assert_eq!(write(&rng, &run, START, &parts, 1, 6, true), Err(Refusal(23)));
+    assert_eq!(write(&rng, &run, Positions::default(), &parts, 1, 6, true), Err(Refusal(23)));
 }

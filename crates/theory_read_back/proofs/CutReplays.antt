@@ -53,7 +53,7 @@ module _ (f : Forest) (directory : List ℕ) where
 
 module _ (p : Profile) (f : Forest) (directory : List ℕ) (q : Queues) where
   -- no cut stands inside a record, since a part of a record is refused
-  pub records-calls : (lents : List Lent) (here : Cursor) → AllReplayed p f directory q lents here → allCalls (fragmentsOf f directory lents) ≡ recordedCalls f directory (allNumbers lents)
+  records-calls : (lents : List Lent) (here : Cursor) → AllReplayed p f directory q lents here → allCalls (fragmentsOf f directory lents) ≡ recordedCalls f directory (allNumbers lents)
   unfolding AllReplayed fragmentsOf allCalls allNumbers
   records-calls [] here h = unfold callsOf in refl
   records-calls (l ∷ lents) here h =

@@ -1,5 +1,5 @@
 -- C10's run, lent as records in fragments of 4: the premises over replay can be met, and its rows, reading and counts computed over the
--- definitions.
+-- definitions. For N11 also in one fragment of 9, and as calls with a tally.
 use mathlib.Core.Path.{_≡_, refl}
 use mathlib.Core.List.{List, [], _∷_, _++_, map}
 use Prim.Native.Nat.{ℕ}

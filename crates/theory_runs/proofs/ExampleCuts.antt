@@ -13,7 +13,6 @@ use Rattle.groups.specs.Words.{wordAt}
 use Rattle.groups.specs.Batches.{isBatch, batchAt}
 use Rattle.groups.specs.Flags.{flagsUpTo8, batchFlags}
 use Rattle.groups.specs.declared.helpers.OperationHelperRegisters.{OperationHelperRegisters}
-use Rattle.rows.specs.declared.records.profile.Profile.{Profile}
 use Rattle.rows.specs.declared.records.continuation.Continuation.{Continuation}
 use Rattle.rows.specs.declared.records.continuation.LoopCondition.{LoopCondition}
 use Rattle.rows.specs.declared.records.continuation.CalleeWord.{CalleeWord}
@@ -152,17 +151,17 @@ same-files-mixed =
 unfoldable lent : (tally : List ℕ) → Fragment → LiveFragment
 lent tally fragment = record { calls = map call (fragment .calls); cells = fragment .cells; tally = tally }
 
-abbrev live-uncut : List LiveFragment
-live-uncut = map (lent (replicate 512 3)) uncut
+abbrev liveUncut : List LiveFragment
+liveUncut = map (lent (replicate 512 3)) uncut
 
-abbrev live-two : List LiveFragment
-live-two = map (lent (replicate 600 0)) byTwo
+abbrev liveByTwo : List LiveFragment
+liveByTwo = map (lent (replicate 600 0)) byTwo
 
-live-cut-uncut : LiveCut profile queued (opening ++ reusing ++ closing) 4 live-uncut begin
+live-cut-uncut : LiveCut profile queued (opening ++ reusing ++ closing) 4 liveUncut begin
 unfolding outer inner queued begin storeOf cycleOf opening reusing closing uncut byTwo finalState cycleWith scanOf anyBigOpcode forestTooLarge anyLongBlock anyLargeBatch systemCells stackCells anyFrom profileWrong opcodes twoEqual isOneOf lacksBits fragmentWrong made startNode startKind startBlock startDyn madeEnd dynKind blockKind entryKind nodeAt nodeOf isSlot digestAt blockOf startedAt entryAt endAt batchAt isBatch batchFlags flagsUpTo8 tracerAfter leftAfter storedIn fragmentAfter putRow rowCells decoderCells fresh builtSystem builtStack noSystem noStack lastSystem lastStack controlFlow basicBlockBatch wordAt cellAt reduced readSystem readStack readState readCaptured allCalls OneSize liveRefusal liveAfter liveAfterAll LiveAccepted AllLiveAccepted talliedCycle unlessFull tallyAfter countsNext bufferRow opcodeOf lowBits flaggedEnd lent plainAll plainCalls liveEnds liveFinals
 live-cut-uncut = record { calls-are = refl; accepted = ((refl, (refl, (refl, (refl, (refl, (refl, (refl, refl))))))), tt); one-size = tt }
 
-live-cut-two : LiveCut profile queued (opening ++ reusing ++ closing) 2 live-two begin
+live-cut-two : LiveCut profile queued (opening ++ reusing ++ closing) 2 liveByTwo begin
 unfolding outer inner queued begin storeOf cycleOf opening reusing closing uncut byTwo finalState cycleWith scanOf anyBigOpcode forestTooLarge anyLongBlock anyLargeBatch systemCells stackCells anyFrom profileWrong opcodes twoEqual isOneOf lacksBits fragmentWrong made startNode startKind startBlock startDyn madeEnd dynKind blockKind entryKind nodeAt nodeOf isSlot digestAt blockOf startedAt entryAt endAt batchAt isBatch batchFlags flagsUpTo8 tracerAfter leftAfter storedIn fragmentAfter putRow rowCells decoderCells fresh builtSystem builtStack noSystem noStack lastSystem lastStack controlFlow basicBlockBatch wordAt cellAt reduced readSystem readStack readState readCaptured allCalls OneSize liveRefusal liveAfter liveAfterAll LiveAccepted AllLiveAccepted talliedCycle unlessFull tallyAfter countsNext bufferRow opcodeOf lowBits flaggedEnd lent plainAll plainCalls liveEnds liveFinals countsOf forPasses
 live-cut-two = record {
   calls-are = refl;
@@ -170,20 +169,20 @@ live-cut-two = record {
   one-size = (refl, refl, tt);
 }
 
-live-passes-uncut : LiveFinisherPasses profile queued 4 live-uncut begin (replicate 98 5) (replicate 16 0) 6
+live-passes-uncut : LiveFinisherPasses profile queued 4 liveUncut begin (replicate 98 5) (replicate 16 0) 6
 unfolding outer inner queued begin storeOf cycleOf opening reusing closing uncut byTwo finalState cycleWith scanOf anyBigOpcode forestTooLarge anyLongBlock anyLargeBatch systemCells stackCells anyFrom profileWrong opcodes twoEqual isOneOf lacksBits fragmentWrong made startNode startKind startBlock startDyn madeEnd dynKind blockKind entryKind nodeAt nodeOf isSlot digestAt blockOf startedAt entryAt endAt batchAt isBatch batchFlags flagsUpTo8 tracerAfter leftAfter storedIn fragmentAfter putRow rowCells decoderCells fresh builtSystem builtStack noSystem noStack lastSystem lastStack controlFlow basicBlockBatch wordAt countsOf forPasses builtCells refusalAll firstOf sumOf fragmentsWrong bufferWrong fewerRows anyAbove heightWrong notFull loopWithoutBody anyWithoutBody bodyEnds rowsOf opcodeOf lowBits flaggedEnd cellAt reduced readSystem readStack readState readCaptured liveRefusal liveAfter liveAfterAll LiveAccepted AllLiveAccepted talliedCycle unlessFull tallyAfter countsNext bufferRow lent liveEnds liveFinals liveCells
 live-passes-uncut = refl
 
-live-five-two : LiveFivePass profile queued 2 live-two begin (replicate 147 6) (replicate 16 0) 6
+live-five-two : LiveFivePass profile queued 2 liveByTwo begin (replicate 147 6) (replicate 16 0) 6
 unfolding outer inner queued begin storeOf cycleOf opening reusing closing uncut byTwo finalState cycleWith scanOf anyBigOpcode forestTooLarge anyLongBlock anyLargeBatch systemCells stackCells anyFrom profileWrong opcodes twoEqual isOneOf lacksBits fragmentWrong made startNode startKind startBlock startDyn madeEnd dynKind blockKind entryKind nodeAt nodeOf isSlot digestAt blockOf startedAt entryAt endAt batchAt isBatch batchFlags flagsUpTo8 tracerAfter leftAfter storedIn fragmentAfter putRow rowCells decoderCells fresh builtSystem builtStack noSystem noStack lastSystem lastStack controlFlow basicBlockBatch wordAt countsOf forPasses builtCells refusalAll firstOf sumOf fragmentsWrong bufferWrong fewerRows anyAbove heightWrong notFull loopWithoutBody anyWithoutBody bodyEnds rowsOf opcodeOf lowBits flaggedEnd cellAt reduced readSystem readStack readState readCaptured buffer1 buffer2 buffer3 buffer4 refusal1 refusal2 refusal3 refusal4 refusal5 onRows flat fixedUp firstRow withSides laterRows builtOf multiplied withCounts inverted inverseOf euclid lastBuilt halted lastRow haltRow haltDecoder haltStack padded paddingRows paddingRow liveRefusal liveAfter liveAfterAll LiveAccepted AllLiveAccepted talliedCycle unlessFull tallyAfter countsNext bufferRow lent liveEnds liveFinals liveCells
 live-five-two = record { first = refl; second = refl; third = refl; fourth = refl; fifth = refl }
 
-live-same-files : liveByFinisher profile queued 4 live-uncut begin (replicate 98 5) (replicate 16 0) 6 ≡ liveByFive profile queued 2 live-two begin (replicate 147 6) (replicate 16 0) 6
+live-same-files : liveByFinisher profile queued 4 liveUncut begin (replicate 98 5) (replicate 16 0) 6 ≡ liveByFive profile queued 2 liveByTwo begin (replicate 147 6) (replicate 16 0) 6
 live-same-files =
-    same-written profile queued (opening ++ reusing ++ closing) 4 2 (plainAll live-uncut) (plainAll live-two) begin
-    (plain-cut profile queued 4 live-uncut begin _ live-cut-uncut) (plain-cut profile queued 2 live-two begin _ live-cut-two) (replicate 16 0) 6
-    (plain-written profile queued 4 live-uncut begin (live-cut-uncut .accepted) (replicate 16 0) 6 _ (FinishedTo.of-finisher (replicate 98 5) live-passes-uncut))
-    (plain-written profile queued 2 live-two begin (live-cut-two .accepted) (replicate 16 0) 6 _ (FinishedTo.of-five (replicate 147 6) live-five-two))
+    same-written profile queued (opening ++ reusing ++ closing) 4 2 (plainAll liveUncut) (plainAll liveByTwo) begin
+    (plain-cut profile queued 4 liveUncut begin _ live-cut-uncut) (plain-cut profile queued 2 liveByTwo begin _ live-cut-two) (replicate 16 0) 6
+    (plain-written profile queued 4 liveUncut begin (live-cut-uncut .accepted) (replicate 16 0) 6 _ (FinishedTo.of-finisher (replicate 98 5) live-passes-uncut))
+    (plain-written profile queued 2 liveByTwo begin (live-cut-two .accepted) (replicate 16 0) 6 _ (FinishedTo.of-five (replicate 147 6) live-five-two))
 
 -- 23
 

@@ -158,7 +158,7 @@ module _ (p : Profile) (q : Queues) where
   rows-in-one size size′ fragments here top cells n some a o long few room =
       unfragmented p q size size′ fragments here top cells some a o (accepted-in-one fragments here cells n a long few room)
 
-  -- the sum of the counts is the number of cycles
+  -- each cycle makes one row
   items-cycles : (calls : List Call) (z : Held) → Accepted p q calls z → length (itemsIn p q calls z) ≡ cyclesAmong calls
   unfolding Accepted callRefusal itemsIn cyclesAmong
   items-cycles [] z a = refl
@@ -167,6 +167,7 @@ module _ (p : Profile) (q : Queues) where
       let s = stepped p q z i (a .0) in
       rw (item-made p q z i (s .m) (s .answer)) (ap suc (items-cycles calls (after p q z (finish i)) (a .1)))
 
+  -- the sum of the counts is the number of cycles
   pub sum-cycles : (fragments : List Fragment) (here : Cursor) → AllAccepted p q fragments here → sumOf (countsOf (finalStates p q fragments here)) ≡ cyclesAmong (allCalls fragments)
   unfolding AllAccepted finalStates countsOf sumOf allCalls
   sum-cycles [] here a = unfold cyclesAmong in refl
@@ -179,7 +180,7 @@ module _ (p : Profile) (q : Queues) where
         cycles-app (fragment .calls) (allCalls fragments),
       )
 
-  -- nor does it matter how the calls are cut into fragments: the cycles make the same rows
+  -- nor does it matter how the calls, with at most 2^24 cycles, are cut into fragments: the cycles make the same rows
   pub same-items : (fragments fragments′ : List Fragment) (here : Cursor) → allCalls fragments ≡ allCalls fragments′ → AllAccepted p q fragments here → AllAccepted p q fragments′ here → cyclesAmong (allCalls fragments) ≤ 16777216 →
       together (itemsEach p q fragments here) ≡ together (itemsEach p q fragments′ here)
   unfolding AllAccepted fresh
@@ -192,6 +193,7 @@ module _ (p : Profile) (q : Queues) where
       sym (together-items p q fragments here (whole fragments) a (b .0) refl refl refl) ∙ ap (λ (l : List Call). itemsIn p q l (opened p q here (record { calls = l; cells = cells }))) e
       ∙ together-items p q fragments′ here (whole fragments′) a′ (b′ .0) refl refl refl
 
+  -- and after pass 1 they are the same
   pub rows-any-cut : (size size′ : ℕ) (fragments fragments′ : List Fragment) (here : Cursor) (top : List ℕ) → allCalls fragments ≡ allCalls fragments′ → 0 < size → 0 < size′ → AllAccepted p q fragments here → AllAccepted p q fragments′ here →
       OneSize size fragments (countsOf (finalStates p q fragments here)) → OneSize size′ fragments′ (countsOf (finalStates p q fragments′ here)) → cyclesAmong (allCalls fragments) ≤ 16777216 →
       fixedUp size top (builtOf (length (countsOf (finalStates p q fragments here)) - 1) (builtCells (finalStates p q fragments here))) (rowsRun p q fragments here)

@@ -341,7 +341,7 @@ module _ (p : Profile) (q : Queues) where
       items-app (fragment .calls) (allCalls fragments) w ∙ ap₂ (λ c d. c ++ d) (sym (x .rows-alike)) y
 
   -- the built cells that the first pass is given
-  pub final-cells : (here : Cursor) (fragment : Fragment) → Accepted p q (fragment .calls) (opened p q here fragment) →
+  final-cells : (here : Cursor) (fragment : Fragment) → Accepted p q (fragment .calls) (opened p q here fragment) →
       (finalState (closed p q here fragment .tracer) .«last_system_cols» ≡ readSystem (lastS noSystem (itemsIn (fragment .calls) (opened p q here fragment))))
       × (finalState (closed p q here fragment .tracer) .«last_stack_cols» ≡ readStack (lastK noStack (itemsIn (fragment .calls) (opened p q here fragment))))
   unfolding finalState fresh lastSystem lastStack
@@ -351,11 +351,11 @@ module _ (p : Profile) (q : Queues) where
       (rw (eq-eqb (closed p q here fragment .tracer .refusal) 0 k) (ap readSystem g), rw (eq-eqb (closed p q here fragment .tracer .refusal) 0 k) (ap readStack h))
 
   -- built cells that are read are the reduced built cells
-  pub read-cells : (s : SystemCols) (k : StackCols) → cells25 (readSystem s) (readStack k) ≡ reduced (cells25 s k)
+  read-cells : (s : SystemCols) (k : StackCols) → cells25 (readSystem s) (readStack k) ≡ reduced (cells25 s k)
   unfolding readSystem readStack systemCells stackCells reduced cellAt
   read-cells s k = refl
 
-  pub chunk : (s : SystemCols) (k : StackCols) (rest : List ℕ) → (take 25 (cells25 s k ++ rest) ≡ cells25 s k) × (drop 25 (cells25 s k ++ rest) ≡ rest)
+  chunk : (s : SystemCols) (k : StackCols) (rest : List ℕ) → (take 25 (cells25 s k ++ rest) ≡ cells25 s k) × (drop 25 (cells25 s k ++ rest) ≡ rest)
   unfolding systemCells stackCells
   chunk s k rest = (refl, refl)
 

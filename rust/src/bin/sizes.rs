@@ -1,6 +1,6 @@
 //! `sizes [SEED [RUNS]]`: random runs, some with cells from p on, each written at five fragment sizes by the proved library. Writes what was
-//! compared and the differences; exits with 1 where there is one, or where fewer files in more than one fragment were compared than there are
-//! runs.
+//! compared and the differences; exits with 1 where there is one or, of 100 runs or more, where fewer files in more than one fragment were
+//! compared than there are runs.
 
 #[cfg(not(archive))]
 fn main() {
@@ -26,7 +26,11 @@ fn main() {
             comparison.all(&rng, &if n.is_multiple_of(2) { raised_run(&rng, &run) } else { run });
         }
         println!("sizes, {name}: {comparison}");
-        bad |= comparison.differences > 0 || comparison.cut < runs;
+        let few = runs >= 100 && comparison.in_several < runs;
+        if few {
+            println!("sizes, {name}: too few files in more than one fragment");
+        }
+        bad |= comparison.differences > 0 || few;
     }
     if bad {
         std::process::exit(1);
