@@ -12,5 +12,6 @@ pub mod RowsFrom
 pub mod Sides
 pub mod Tallies
 pub mod Written
+pub mod OpenLoops
 pub mod ReducedRows
 pub mod ManyRows

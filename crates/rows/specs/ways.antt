@@ -1,5 +1,6 @@
 pub mod Order
 pub mod Sides
 pub mod LoopCounts
+pub mod OpenLoops
 pub mod ContinuationKinds
 pub mod Inner

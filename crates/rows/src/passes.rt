@@ -4,3 +4,4 @@ pub mod fixup;
 pub mod halt;
 pub mod helper_column;
 pub mod multiplicity;
+mod nested;

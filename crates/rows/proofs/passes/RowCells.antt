@@ -49,6 +49,10 @@ opcode-cells c i =
     ap lowBits (reduced-take 7 (drop 7 (bufferRow i c))) ∙ seven (reduced (drop 7 (bufferRow i c)))
     ∙ rw (bit c i 0 (omega arith), bit c i 1 (omega arith), bit c i 2 (omega arith), bit c i 3 (omega arith), bit c i 4 (omega arith), bit c i 5 (omega arith), bit c i 6 (omega arith))
 
+-- a row without the highest bit has a low opcode
+pub low-opcode : (c : List ℕ) (i : ℕ) → cellAt c (49 * i + 13) % 2 ≡ 0 → opcodeOf (bufferRow i c) < 64
+low-opcode c i e = omega (arith, opcode-cells c i, e)
+
 drop-past : (n : ℕ) (c : List ℕ) → length c ≤ n → drop n c ≡ []
 drop-past zero [] h = refl
 drop-past zero (x ∷ c) h = absurd (omega arith)

@@ -2,6 +2,8 @@
 //
 // LOOP rows are taken some thousands at a time. The addresses behind them are sorted, and one sweep over all rows counts each flagged END at
 // the address behind it; the LOOP rows taken then look their counts up.
+use crate::passes::nested::all_ended;
+use crate::passes::nested::count_nested;
 use crate::records::buffer::buffer_wrong;
 use crate::records::buffer::decode_opcode;
 use crate::records::buffer::fewer_rows;
@@ -16,7 +18,8 @@ use groups::constants::Row;
 ghost use mathlib.Core.Path.{_≡_};
 ghost use mathlib.Core.Bool.{_||_};
 ghost use Prim.Native.Nat.{ℕ, _+_, _*_, _<_, _≤_};
-ghost use lib.ListN.{length, take, getD};
+ghost use lib.Dec.{eqb};
+ghost use lib.ListN.{length, take, getD, replicate};
 ghost use Rattle.groups.specs.Constants.{rowWidth, mostRows};
 ghost use Rattle.rows.specs.ways.Order.{occurrences, Ordered};
 ghost use Rattle.rows.specs.records.Buffers.{rowsOf, onRows, addrOf, bufferRow, opcodeOf};
@@ -29,11 +32,24 @@ struct Taken {
     next: usize,
 }
 
+// Whether row i has the opcode. Where that has the highest of the seven bits, a row without it is not decoded.
+fn has_opcode(buffer: &[u64], i: usize, opcode: u8) -> bool
+    requires { ⌜ i < mostRows ⌝ }
+    ensures { λ r. ⌜ r ≡ eqb (opcodeOf (bufferRow i (now (buffer .entry)))) opcode ⌝ }
+{
+    if 64 <= opcode {
+        if cell(buffer, Row::WIDTH * i + 13) % 2 == 0 {
+            return false;
+        }
+    }
+    decode_opcode(buffer, i) == opcode as u64
+}
+
 fn is_loop(profile: Profile, buffer: &[u64], i: usize) -> bool
     requires { ⌜ i < mostRows ⌝ }
     ensures { λ r. ⌜ r ≡ isLoop profile (bufferRow i (now (buffer .entry))) ⌝ }
 {
-    decode_opcode(buffer, i) == profile.loop_op as u64
+    has_opcode(buffer, i, profile.loop_op)
 }
 
 pub(crate) fn is_flagged_end(profile: Profile, buffer: &[u64], i: usize) -> bool
@@ -41,13 +57,13 @@ pub(crate) fn is_flagged_end(profile: Profile, buffer: &[u64], i: usize) -> bool
     ensures { λ r. ⌜ r ≡ flaggedEnd profile (bufferRow i (now (buffer .entry))) ⌝ }
 {
     if cell(buffer, Row::WIDTH * i + Column::H4) == Felt::ONE {
-        decode_opcode(buffer, i) == profile.end as u64
+        has_opcode(buffer, i, profile.end)
     } else {
         false
     }
 }
 
-fn addr_at(buffer: &[u64], i: usize) -> u64
+pub(crate) fn addr_at(buffer: &[u64], i: usize) -> u64
     requires { ⌜ i ≤ mostRows ⌝ }
     ensures { λ r. ⌜ r ≡ addrOf (bufferRow i (now (buffer .entry))) ⌝ }
 {
@@ -100,22 +116,21 @@ fn bump(keys: &[u64], counts: &mut [u64], x: u64)
 }
 
 // Counts, at the first place of each key, the flagged ENDs but the last row that have the key's address behind them.
-fn count_ends(profile: Profile, buffer: &[u64], rows: usize, keys: &[u64]) -> [u64; 4096]
-    requires { ⌜ (0 < rows) × (rows ≤ mostRows) × (length (now keys) ≤ 4096) × Ordered (now keys) ⌝ }
-    ensures { λ r. ⌜ (length r ≡ 4096) × Tallied (now (keys .entry)) r (endsIn profile rows (now (buffer .entry))) ⌝ }
+fn count_ends(profile: Profile, buffer: &[u64], rows: usize, keys: &[u64], counts: &mut [u64])
+    requires { ⌜ (0 < rows) × (rows ≤ mostRows) × (length (now keys) ≤ 4096) × Ordered (now keys) × (now counts ≡ replicate 4096 0) ⌝ }
+    ensures { λ _. ⌜ (length (now (counts .exit)) ≡ 4096)
+        × Tallied (now (keys .entry)) (now (counts .exit)) (endsIn profile rows (now (buffer .entry))) ⌝ }
 {
-    let mut counts = [0u64; 4096];
     let mut i = 0;
     while i + 1 < rows {
         if is_flagged_end(profile, buffer, i) {
             let x = addr_at(buffer, i + 1);
-            bump(keys, &mut counts, x);
+            bump(keys, counts, x);
             i += 1;
         } else {
             i += 1;
         }
     }
-    counts
 }
 
 // The count of the key x.
@@ -155,8 +170,8 @@ fn any_between(
     false
 }
 
-// Refusal 14: whether the count of a LOOP row but the last comes to 0.
-pub(crate) fn any_without_body(profile: Profile, buffer: &[u64], rows: usize) -> bool
+// Refusal 14, by tables: whether the count of a LOOP row but the last comes to 0.
+fn any_by_tables(profile: Profile, buffer: &[u64], rows: usize) -> bool
     requires { ⌜ (rowWidth * rows ≤ length (now buffer)) × (rows ≤ mostRows) ⌝ }
     ensures { λ r. ⌜ r ≡ loopWithoutBody profile (rowsOf rows (now (buffer .entry))) ⌝ }
 {
@@ -166,13 +181,25 @@ pub(crate) fn any_without_body(profile: Profile, buffer: &[u64], rows: usize) ->
         let taken = take_loops(profile, buffer, rows, from, &mut keys);
         let count = taken.count;
         let next = taken.next;
-        let counts = count_ends(profile, buffer, rows, &keys[..count]);
+        let mut counts = [0u64; 4096];
+        count_ends(profile, buffer, rows, &keys[..count], &mut counts);
         if any_between(profile, buffer, rows, from, next, &keys[..count], &counts) {
             return true;
         }
         from = next;
     }
     false
+}
+
+// Refusal 14: whether the count of a LOOP row but the last comes to 0.
+pub(crate) fn any_without_body(profile: Profile, buffer: &[u64], rows: usize) -> bool
+    requires { ⌜ (rowWidth * rows ≤ length (now buffer)) × (rows ≤ mostRows) ⌝ }
+    ensures { λ r. ⌜ r ≡ loopWithoutBody profile (rowsOf rows (now (buffer .entry))) ⌝ }
+{
+    if all_ended(profile, buffer, rows) {
+        return false;
+    }
+    any_by_tables(profile, buffer, rows)
 }
 
 // Each LOOP row from `from` to `next` gets its count.
@@ -203,8 +230,8 @@ fn write_between(
     }
 }
 
-// Each LOOP row but the last row gets the number of its body's ENDs.
-pub(crate) fn write_multiplicities(profile: Profile, buffer: &mut [u64], rows: usize)
+// Each LOOP row but the last row gets the number of its body's ENDs, by tables.
+fn write_by_tables(profile: Profile, buffer: &mut [u64], rows: usize)
     requires { ⌜ (rowWidth * rows ≤ length (now buffer)) × (rows ≤ mostRows) ⌝ }
     ensures { λ _. ⌜ now (buffer .exit) ≡ onRows rows (multiplied profile) (now (buffer .entry)) ⌝ }
 {
@@ -214,10 +241,22 @@ pub(crate) fn write_multiplicities(profile: Profile, buffer: &mut [u64], rows: u
         let taken = take_loops(profile, buffer, rows, from, &mut keys);
         let count = taken.count;
         let next = taken.next;
-        let counts = count_ends(profile, buffer, rows, &keys[..count]);
+        let mut counts = [0u64; 4096];
+        count_ends(profile, buffer, rows, &keys[..count], &mut counts);
         write_between(profile, buffer, rows, from, next, &keys[..count], &counts);
         from = next;
     }
+}
+
+// Each LOOP row but the last row gets the number of its body's ENDs.
+pub(crate) fn write_multiplicities(profile: Profile, buffer: &mut [u64], rows: usize)
+    requires { ⌜ (rowWidth * rows ≤ length (now buffer)) × (rows ≤ mostRows) ⌝ }
+    ensures { λ _. ⌜ now (buffer .exit) ≡ onRows rows (multiplied profile) (now (buffer .entry)) ⌝ }
+{
+    if count_nested(profile, buffer, rows) {
+        return;
+    }
+    write_by_tables(profile, buffer, rows);
 }
 
 // What the pass refuses.

@@ -1,5 +1,5 @@
 -- Row by row, a flagged END counts at the address behind it.
-use mathlib.Core.Path.{_≡_, sym, _∙_}
+use mathlib.Core.Path.{_≡_, sym, ap, _∙_}
 use Prim.Native.Nat.{ℕ, _+_, _-_, _≤_, _<_}
 use native.Mathlib.Omega.{arith}
 use denote.Ref.{now}
@@ -17,27 +17,32 @@ abbrev μ-loop : tie.MeasureT-loop
 
 loop-holds : tie.Need-loop-holds Inv-loop μ-loop
 loop-holds c =
-    let a = c .before .before .args in
-    (omega arith, length-replicate {A = ℕ} 4096 0, (λ p. omega (arith, zero-at 4096 p)), tally-none (a .profile) (now (a .buffer)) (now (a .keys)) 4096)
+    let a = c .before .before .before .args in
+    let z = c .before .before .before .pre .4 in
+    (omega arith, ap length z ∙ length-replicate {A = ℕ} 4096 0, (λ p. rw z (omega (arith, zero-at 4096 p))), rw z (tally-none (a .profile) (now (a .buffer)) (now (a .keys)) 4096))
 
 bump-requires : tie.Need-bump-requires Inv-loop μ-loop
-bump-requires c κs = (omega arith, omega arith, c .before .before .before .before .before .before .before .before .pre .3, λ p. omega (arith, c .before .before .before .before .before .loop .inv .2 p))
+bump-requires c κs = (omega arith, omega arith, c .before .before .before .before .before .before .before .before .before .pre .3, λ p. omega (arith, c .before .before .before .before .before .loop .inv .2 p))
 
 loop-again : tie.Need-loop-again Inv-loop μ-loop
 loop-again c =
-    let l = c .before .before .before .before .before .before .before .loop in
-    let a = c .before .before .before .before .before .before .before .before .before .before .args in
-    (omega arith, omega arith, (λ p. omega (arith, l .inv .2 p, c .before .bump .ensures .small p)), tally-more (a .profile) (now (a .buffer)) (l .i) (now (a .keys)) (l .counts) (c .before .bump .last .1 .0) (sym (c .before .before .before .before .before .is-flagged-end .ensures) ∙ c .before .before .before .before .if1 .taken) (rw (← (c .before .before .before .addr-at .ensures)) (c .before .bump .ensures)) (l .inv .3))
+    let l = c .before .before .before .before .before .before .before .before .loop in
+    let a = c .before .before .before .before .before .before .before .before .before .before .before .before .args in
+    let b = c .before .before .bump in
+    (omega arith, omega arith, (λ p. omega (arith, l .inv .2 p, b .ensures .small p)), tally-more (a .profile) (now (a .buffer)) (l .i) (now (a .keys)) (l .counts) (b .last .1 .0) (sym (c .before .before .before .before .before .before .is-flagged-end .ensures) ∙ c .before .before .before .before .before .if1 .taken) (rw (← (c .before .before .before .before .addr-at .ensures)) (b .ensures)) (l .inv .3))
 
 loop-again-2 : tie.Need-loop-again-2 Inv-loop μ-loop
 loop-again-2 c =
     let l = c .before .before .before .loop in
-    let a = c .before .before .before .before .before .before .args in
+    let a = c .before .before .before .before .before .before .before .args in
     (omega arith, omega arith, (λ p. omega (arith, l .inv .2 p)), tally-skip (a .profile) (now (a .buffer)) (l .i) (now (a .keys)) (l .counts) (sym (c .before .is-flagged-end .ensures) ∙ c .if1 .left) (l .inv .3))
+
+same-length : tie.Need-same-length Inv-loop μ-loop
+same-length c = c .before .loop .inv .1 ∙ sym (ap length (c .before .before .before .before .before .pre .4) ∙ length-replicate {A = ℕ} 4096 0)
 
 returns : tie.Need-returns Inv-loop μ-loop
 returns c =
-    let e : c .before .loop .i + 1 ≡ c .before .before .before .before .args .rows = omega arith in
+    let e : c .before .loop .i + 1 ≡ c .before .before .before .before .before .args .rows = omega arith in
     (c .before .loop .inv .1, rw (← e) (c .before .loop .inv .3))
 
 pub count-ends-spec : {M : Type 1} → statement M
@@ -51,7 +56,6 @@ count-ends-spec =
     (λ c κs. omega arith)
     (λ c. omega arith)
     (λ c κs. omega arith)
-    (λ c. omega arith)
     bump-requires
     (λ c. omega arith)
     (λ c. omega arith)
@@ -59,4 +63,5 @@ count-ends-spec =
     (λ c. omega arith)
     (λ c. omega arith)
     loop-again-2
+    same-length
     returns)

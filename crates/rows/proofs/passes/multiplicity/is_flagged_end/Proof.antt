@@ -8,8 +8,8 @@ use Rattle.rows.proofs.passes.multiplicity.is_flagged_end.Tie as tie
 
 returns : tie.Need-returns
 returns c =
-    let a = c .before .before .before .before .before .args in
-    rw (c .before .decode-opcode .ensures) (sym (flagged-yes (a .profile) (now (a .buffer)) (a .i) (sym (c .before .before .before .cell .ensures) ∙ c .before .before .if1 .taken)))
+    let a = c .before .before .before .before .args in
+    c .has-opcode .ensures ∙ sym (flagged-yes (a .profile) (now (a .buffer)) (a .i) (sym (c .before .before .cell .ensures) ∙ c .before .if1 .taken))
 
 returns-2 : tie.Need-returns-2
 returns-2 c =
@@ -17,13 +17,4 @@ returns-2 c =
     sym (flagged-no (a .profile) (now (a .buffer)) (a .i) (λ e. c .if1 .left (c .before .cell .ensures ∙ e)))
 
 pub is-flagged-end-spec : {M : Type 1} → statement M
-is-flagged-end-spec =
-    tie.close
-    (tie.spec
-    (λ c. search needs)
-    (λ c. search needs)
-    (λ c κs. search needs)
-    (λ c κs. search needs)
-    (λ c. search needs)
-    returns
-    returns-2)
+is-flagged-end-spec = tie.close (tie.spec (λ c. search needs) (λ c. search needs) (λ c κs. search needs) (λ c κs. search needs) returns returns-2)
