@@ -7,6 +7,7 @@ use crate::compare::column;
 use crate::exports::{WIDTH, build_index, enclosing_block, read_trace, row};
 use crate::profile::{EXAMPLE, Profile};
 use crate::random::{Rng, raised};
+use crate::words::long_word;
 
 const P: u64 = 18446744069414584321;
 const H4: usize = 18;
@@ -163,6 +164,31 @@ impl Tally {
             if n > 9 {
                 self.index(&EXAMPLE, &other);
                 self.view(&other, rng.below(rows + 1));
+            }
+        }
+    }
+
+    /// Traces with as many rows as the library keeps kinds of in a list, with one more and with many more: read back, read with p added to
+    /// cells and with one cell changed; and their indexes.
+    pub fn long(&mut self, rng: &Rng) {
+        for rows in [4096, 4097, 65536, 65537, 100_000] {
+            let written = long_word(rng, rows);
+            let cells = written.cells;
+            self.read_back(&cells, Some(&written.depths[..written.program_rows]));
+            let (index, _) = indexed(&EXAMPLE, &cells, written.program_rows);
+            let mut ours = vec![7; index.len()];
+            if build_index(EXAMPLE, &cells, &mut ours).ok() != Some(index.len() / 3) || ours != index {
+                self.differ(format!("the index of {rows} rows"));
+            }
+            self.indexes += 1;
+            let places = Places::new(&cells);
+            for n in 0..12 {
+                let (row, cell) = places.pick(rng);
+                let mut changed = cells.clone();
+                changed[row * WIDTH + cell] =
+                    if n < 2 { other_number(cells[row * WIDTH + cell]) } else { other_value(rng, &cells, row, cell) };
+                let (answer, _) = self.read("a long trace, a cell changed", &EXAMPLE, &changed, rows);
+                if n < 2 { &mut self.raised } else { &mut self.damaged }.count(number(&answer));
             }
         }
     }

@@ -11,6 +11,7 @@ ghost use Rattle.groups.specs.Constants.{rowWidth, mostRows};
 ghost use Rattle.theory_indexes.specs.ways.IndexScan.{begins, ends, indexScan, starts, Fits};
 ghost use Rattle.reader.specs.Rows.{wordIn};
 ghost use Rattle.reader.specs.ways.FromRow.{rowsFrom};
+ghost use Rattle.reader.specs.ways.KeptKinds.{KeptKinds};
 ghost use Rattle.index.specs.ways.Steps.{toldChange, aroundIn, indexBehind, stackBehind, progressBehind, Room};
 
 // How many blocks are open, and where the numbers of the next block go.
@@ -87,9 +88,15 @@ fn step(
 }
 
 // Fills three numbers for each block; the numbers past them stay.
-pub(crate) fn fill(profile: Profile, cells: &[u64], index: &mut [u32])
+pub(crate) fn fill(
+    profile: Profile,
+    cells: &[u64],
+    index: &mut [u32],
+    table: &[u8; 256],
+    kinds: &[u8],
+)
     requires { ⌜ (length (now cells) / rowWidth ≤ mostRows) × (3 * starts (rowsFrom (wordIn profile (now cells)) 0) ≤ length (now index))
-        × Fits 0 (rowsFrom (wordIn profile (now cells)) 0) ⌝ }
+        × Fits 0 (rowsFrom (wordIn profile (now cells)) 0) × KeptKinds profile (now cells) (now table) (now kinds) ⌝ }
     ensures { λ _. ⌜ now (index .exit) ≡ indexScan (rowsFrom (wordIn profile (now (cells .entry))) 0) [] []
         ++ drop (3 * starts (rowsFrom (wordIn profile (now (cells .entry))) 0)) (now (index .entry)) ⌝ }
 {
@@ -97,7 +104,7 @@ pub(crate) fn fill(profile: Profile, cells: &[u64], index: &mut [u32])
     let mut s = Progress { opened: 0, next: 0 };
     let mut at: usize = 0;
     while at < cells.len() / Row::WIDTH {
-        let change = change_at(profile, cells, at);
+        let change = change_at(profile, cells, at, table, kinds);
         s = step(change, at as u32, s, &mut stack, index);
         at += 1;
     }

@@ -1,6 +1,6 @@
 // The depth of each row of a trace, by one scan that counts the open blocks.
+use crate::kept::kept_kind;
 use crate::token::RowKind;
-use crate::token::row_kind;
 use groups::constants::Row;
 use rows::records::profile::Profile;
 ghost use mathlib.Core.Path.{_≡_};
@@ -10,6 +10,7 @@ ghost use lib.ListN.{length, drop};
 ghost use Rattle.groups.specs.Constants.{rowWidth, mostRows};
 ghost use Rattle.theory_readings.specs.ways.Parser.{levels};
 ghost use Rattle.reader.specs.Rows.{wordIn};
+ghost use Rattle.reader.specs.ways.KeptKinds.{KeptKinds};
 ghost use Rattle.reader.specs.ways.Levels.{levelAt, levelBehind};
 
 // The depth of a row, where so many blocks are open before it.
@@ -39,15 +40,22 @@ fn open_behind(kind: RowKind, depth: u32) -> u32
 }
 
 // Fills one depth a row; the numbers past the rows stay.
-pub(crate) fn fill(profile: Profile, cells: &[u64], depths: &mut [u32])
-    requires { ⌜ (length (now cells) / rowWidth ≤ mostRows) × (length (now cells) / rowWidth ≤ length (now depths)) ⌝ }
+pub(crate) fn fill(
+    profile: Profile,
+    cells: &[u64],
+    depths: &mut [u32],
+    table: &[u8; 256],
+    kinds: &[u8],
+)
+    requires { ⌜ (length (now cells) / rowWidth ≤ mostRows) × (length (now cells) / rowWidth ≤ length (now depths))
+        × KeptKinds profile (now cells) (now table) (now kinds) ⌝ }
     ensures { λ _. ⌜ now (depths .exit) ≡ levels 0 (wordIn profile (now (cells .entry)))
         ++ drop (length (now (cells .entry)) / rowWidth) (now (depths .entry)) ⌝ }
 {
     let mut at = 0;
     let mut opened: u32 = 0;
     while at < cells.len() / Row::WIDTH {
-        let kind = row_kind(profile, cells, at);
+        let kind = kept_kind(profile, cells, at, table, kinds);
         let depth = depth_at(kind, opened);
         depths[at] = depth;
         opened = open_behind(kind, depth);

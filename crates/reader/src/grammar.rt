@@ -1,6 +1,6 @@
 // Block and Passes, from a row on. Each way through reads every row once.
+use crate::kept::note_kind;
 use crate::token::RowKind;
-use crate::token::row_kind;
 use field::cell::cell;
 use groups::constants::Column;
 use groups::constants::Refusal;
@@ -15,6 +15,7 @@ ghost use Rattle.groups.specs.Constants.{rowWidth};
 ghost use Rattle.theory_readings.specs.Readings.{rowAt, allRows};
 ghost use Rattle.theory_readings.specs.ways.Parser.{orElse};
 ghost use Rattle.reader.specs.Rows.{wordIn};
+ghost use Rattle.reader.specs.ways.KeptKinds.{KeptKinds};
 ghost use Rattle.reader.specs.ways.Parts.{toldWrong, toldPart, wrongUnless, tooDeep, closedAt, OpsRead, BlockRead, PassesRead};
 
 // The lowest row with a cell that is not as asked.
@@ -70,10 +71,20 @@ fn too_deep(kind: RowKind, row: usize) -> Part
 }
 
 // The END of a block; `flag` is what its h4 has to be, `wrong` the lowest wrong row of the block's parts.
-fn close(profile: Profile, cells: &[u64], row: usize, flag: u64, wrong: Wrong) -> Part
+fn close(
+    profile: Profile,
+    cells: &[u64],
+    row: usize,
+    flag: u64,
+    wrong: Wrong,
+    table: &[u8; 256],
+    kinds: &mut [u8],
+) -> Part
+    requires { ⌜ KeptKinds profile (now cells) (now table) (now kinds) ⌝ }
     ensures { λ r. ⌜ toldPart r ≡ closedAt profile (now (cells .entry)) row flag (toldWrong wrong) ⌝ }
+    ensures { λ _. ⌜ KeptKinds profile (now (cells .entry)) (now (table .entry)) (now (kinds .exit)) ⌝ }
 {
-    let kind = row_kind(profile, cells, row);
+    let kind = note_kind(profile, cells, row, table, kinds);
     if let RowKind::End = kind {
         let own = ask(cells, row, Column::H4, flag);
         Part::Done(row + 1, first(wrong, own))
@@ -83,13 +94,21 @@ fn close(profile: Profile, cells: &[u64], row: usize, flag: u64, wrong: Wrong) -
 }
 
 // The rows behind a SPAN: ops and RESPANs, then END.
-fn ops(profile: Profile, cells: &[u64], row: usize, flag: u64) -> Part
-    requires { ⌜ row ≤ length (now cells) / rowWidth ⌝ }
+fn ops(
+    profile: Profile,
+    cells: &[u64],
+    row: usize,
+    flag: u64,
+    table: &[u8; 256],
+    kinds: &mut [u8],
+) -> Part
+    requires { ⌜ (row ≤ length (now cells) / rowWidth) × KeptKinds profile (now cells) (now table) (now kinds) ⌝ }
     ensures { λ r. ⌜ OpsRead (allRows (now (cells .entry))) (wordIn profile (now (cells .entry))) row flag (toldPart r) ⌝ }
+    ensures { λ _. ⌜ KeptKinds profile (now (cells .entry)) (now (table .entry)) (now (kinds .exit)) ⌝ }
 {
     let mut at = row;
     loop {
-        let kind = row_kind(profile, cells, at);
+        let kind = note_kind(profile, cells, at, table, kinds);
         match kind {
             RowKind::Op | RowKind::Respan => {
                 at += 1;
@@ -112,35 +131,44 @@ fn ops(profile: Profile, cells: &[u64], row: usize, flag: u64) -> Part
 }
 
 // A Block, where `left` blocks may open one in another; `flag` is what h4 of its END has to be.
-pub(crate) fn block(profile: Profile, cells: &[u64], row: usize, left: u32, flag: u64) -> Part
-    requires { ⌜ row ≤ length (now cells) / rowWidth ⌝ }
+pub(crate) fn block(
+    profile: Profile,
+    cells: &[u64],
+    row: usize,
+    left: u32,
+    flag: u64,
+    table: &[u8; 256],
+    kinds: &mut [u8],
+) -> Part
+    requires { ⌜ (row ≤ length (now cells) / rowWidth) × KeptKinds profile (now cells) (now table) (now kinds) ⌝ }
     ensures { λ r. ⌜ BlockRead (allRows (now (cells .entry))) (wordIn profile (now (cells .entry))) row left flag (toldPart r) ⌝ }
+    ensures { λ _. ⌜ KeptKinds profile (now (cells .entry)) (now (table .entry)) (now (kinds .exit)) ⌝ }
 {
-    let kind = row_kind(profile, cells, row);
+    let kind = note_kind(profile, cells, row, table, kinds);
     if left == 0 {
         return too_deep(kind, row);
     }
     match kind {
-        RowKind::Span => ops(profile, cells, row + 1, flag),
+        RowKind::Span => ops(profile, cells, row + 1, flag, table, kinds),
         RowKind::Join => {
-            let one = block(profile, cells, row + 1, left - 1, 0);
+            let one = block(profile, cells, row + 1, left - 1, 0, table, kinds);
             let Part::Done(a, v) = one else {
                 return one;
             };
-            let two = block(profile, cells, a, left - 1, 0);
+            let two = block(profile, cells, a, left - 1, 0, table, kinds);
             let Part::Done(b, w) = two else {
                 return two;
             };
-            close(profile, cells, b, flag, first(v, w))
+            close(profile, cells, b, flag, first(v, w), table, kinds)
         }
         RowKind::One => {
-            let only = block(profile, cells, row + 1, left - 1, 0);
+            let only = block(profile, cells, row + 1, left - 1, 0, table, kinds);
             let Part::Done(a, v) = only else {
                 return only;
             };
-            close(profile, cells, a, flag, v)
+            close(profile, cells, a, flag, v, table, kinds)
         }
-        RowKind::Loop => passes(profile, cells, row, left - 1, flag),
+        RowKind::Loop => passes(profile, cells, row, left - 1, flag, table, kinds),
         RowKind::Op
         | RowKind::Respan
         | RowKind::Repeat
@@ -152,19 +180,28 @@ pub(crate) fn block(profile: Profile, cells: &[u64], row: usize, left: u32, flag
 
 // The Passes behind a LOOP row: a body and END, or a body, REPEAT, and Passes again; the row's count has to be their number (`count` has the
 // pass that is read), and h4 of END `flag`.
-fn passes(profile: Profile, cells: &[u64], row: usize, left: u32, flag: u64) -> Part
-    requires { ⌜ row < length (now cells) / rowWidth ⌝ }
+fn passes(
+    profile: Profile,
+    cells: &[u64],
+    row: usize,
+    left: u32,
+    flag: u64,
+    table: &[u8; 256],
+    kinds: &mut [u8],
+) -> Part
+    requires { ⌜ (row < length (now cells) / rowWidth) × KeptKinds profile (now cells) (now table) (now kinds) ⌝ }
     ensures { λ r. ⌜ PassesRead (allRows (now (cells .entry))) (wordIn profile (now (cells .entry))) row left flag (toldPart r) ⌝ }
+    ensures { λ _. ⌜ KeptKinds profile (now (cells .entry)) (now (table .entry)) (now (kinds .exit)) ⌝ }
 {
     let mut at = row + 1;
     let mut count: u64 = 1;
     let mut so_far = Wrong::Nowhere;
     loop {
-        let body = block(profile, cells, at, left, 1);
+        let body = block(profile, cells, at, left, 1, table, kinds);
         let Part::Done(next, wrong) = body else {
             return body;
         };
-        let kind = row_kind(profile, cells, next);
+        let kind = note_kind(profile, cells, next, table, kinds);
         so_far = first(so_far, wrong);
         match kind {
             RowKind::Repeat => {

@@ -55,7 +55,7 @@ fn later_control(profile: Profile, opcode: u8) -> RowKind
 }
 
 // The control row of an opcode.
-fn control(profile: Profile, opcode: u8) -> RowKind
+pub(crate) fn control(profile: Profile, opcode: u8) -> RowKind
     ensures { λ r. ⌜ r ≡ rowKindOf (controlToken profile opcode) ⌝ }
 {
     if opcode == profile.span {
@@ -80,7 +80,7 @@ fn control(profile: Profile, opcode: u8) -> RowKind
 }
 
 // An op, where its opcode is no control row's.
-fn op(control: RowKind) -> RowKind
+pub(crate) fn op(control: RowKind) -> RowKind
     ensures { λ r. ⌜ r ≡ opKind control ⌝ }
 {
     match control {

@@ -3,9 +3,11 @@ use crate::depths::fill;
 use crate::grammar::Part;
 use crate::grammar::Wrong;
 use crate::grammar::block;
+use crate::kept::forget;
+use crate::kept::note_kind;
+use crate::kept::table_of;
 use crate::scan::refusal;
 use crate::token::RowKind;
-use crate::token::row_kind;
 use groups::constants::Refusal;
 use groups::constants::Row;
 use rows::records::profile::Profile;
@@ -16,6 +18,7 @@ ghost use Rattle.groups.specs.Constants.{rowWidth};
 ghost use Rattle.theory_readings.specs.Readings.{allRows};
 ghost use Rattle.reader.specs.Rows.{wordIn};
 ghost use Rattle.reader.specs.Reads.{traceRead, TellsTrace, ReadsTrace};
+ghost use Rattle.reader.specs.ways.KeptKinds.{KeptKinds};
 ghost use Rattle.reader.specs.ways.Parts.{toldWrong};
 ghost use Rattle.reader.specs.ways.WholeWord.{HaltsRead, BehindRead, cellsAnswer};
 
@@ -28,13 +31,14 @@ pub struct TraceRead {
 }
 
 // The first row from `from` on that is no HALT, or the end.
-fn halts(profile: Profile, cells: &[u64], from: usize) -> usize
-    requires { ⌜ from ≤ length (now cells) / rowWidth ⌝ }
+fn halts(profile: Profile, cells: &[u64], from: usize, table: &[u8; 256], kinds: &mut [u8]) -> usize
+    requires { ⌜ (from ≤ length (now cells) / rowWidth) × KeptKinds profile (now cells) (now table) (now kinds) ⌝ }
     ensures { λ r. ⌜ HaltsRead (wordIn profile (now (cells .entry))) from r ⌝ }
+    ensures { λ _. ⌜ KeptKinds profile (now (cells .entry)) (now (table .entry)) (now (kinds .exit)) ⌝ }
 {
     let mut at = from;
     while at < cells.len() / Row::WIDTH {
-        let kind = row_kind(profile, cells, at);
+        let kind = note_kind(profile, cells, at, table, kinds);
         let RowKind::Halt = kind else {
             return at;
         };
@@ -44,11 +48,19 @@ fn halts(profile: Profile, cells: &[u64], from: usize) -> usize
 }
 
 // The answer behind a Block that ends before row `next`.
-fn behind_block(profile: Profile, cells: &[u64], next: usize, wrong: Wrong) -> TraceRead
-    requires { ⌜ next ≤ length (now cells) / rowWidth ⌝ }
+fn behind_block(
+    profile: Profile,
+    cells: &[u64],
+    next: usize,
+    wrong: Wrong,
+    table: &[u8; 256],
+    kinds: &mut [u8],
+) -> TraceRead
+    requires { ⌜ (next ≤ length (now cells) / rowWidth) × KeptKinds profile (now cells) (now table) (now kinds) ⌝ }
     ensures { λ r. ⌜ BehindRead (allRows (now (cells .entry))) (wordIn profile (now (cells .entry))) next (toldWrong wrong) r ⌝ }
+    ensures { λ _. ⌜ KeptKinds profile (now (cells .entry)) (now (table .entry)) (now (kinds .exit)) ⌝ }
 {
-    let end = halts(profile, cells, next);
+    let end = halts(profile, cells, next, table, kinds);
     let rows = cells.len() / Row::WIDTH;
     if (next == rows) | (end < rows) {
         return TraceRead {
@@ -72,23 +84,33 @@ fn behind_block(profile: Profile, cells: &[u64], next: usize, wrong: Wrong) -> T
 }
 
 // The answer of a buffer that 2 and 11 pass.
-pub(crate) fn read_cells(profile: Profile, cells: &[u64]) -> TraceRead
+fn read_cells(profile: Profile, cells: &[u64], table: &[u8; 256], kinds: &mut [u8]) -> TraceRead
+    requires { ⌜ KeptKinds profile (now cells) (now table) (now kinds) ⌝ }
     ensures { λ r. ⌜ r ≡ traceRead (cellsAnswer profile (now (cells .entry))) ⌝ }
+    ensures { λ _. ⌜ KeptKinds profile (now (cells .entry)) (now (table .entry)) (now (kinds .exit)) ⌝ }
 {
-    let root = block(profile, cells, 0, 64, 0);
+    let root = block(profile, cells, 0, 64, 0, table, kinds);
     match root {
         Part::Refused(number, row) => TraceRead {
             refusal: number,
             row,
             program_rows: 0,
         },
-        Part::Done(next, wrong) => behind_block(profile, cells, next, wrong),
+        Part::Done(next, wrong) => behind_block(profile, cells, next, wrong, table, kinds),
     }
 }
 
-// The answer of a reader that is lent so many depth numbers, without writing them: 2, 11, then 12, 15 or 13, else accepted.
-pub fn validate(profile: Profile, cells: &[u64], depths: usize) -> TraceRead
+// The answer of a reader that is lent so many depth numbers: 2, 11, then 12, 15 or 13, else accepted.
+fn answer(
+    profile: Profile,
+    cells: &[u64],
+    depths: usize,
+    table: &[u8; 256],
+    kinds: &mut [u8],
+) -> TraceRead
+    requires { ⌜ KeptKinds profile (now cells) (now table) (now kinds) ⌝ }
     ensures { λ r. ⌜ TellsTrace profile (now (cells .entry)) depths r ⌝ }
+    ensures { λ _. ⌜ KeptKinds profile (now (cells .entry)) (now (table .entry)) (now (kinds .exit)) ⌝ }
 {
     let number = refusal(profile, cells, depths);
     if number != 0 {
@@ -98,17 +120,78 @@ pub fn validate(profile: Profile, cells: &[u64], depths: usize) -> TraceRead
             program_rows: 0,
         };
     }
-    read_cells(profile, cells)
+    read_cells(profile, cells, table, kinds)
+}
+
+// The same with a table and a list that are lent for it, whatever they hold: it leaves the profile's table, and kinds of rows.
+pub fn validate_keeping(
+    profile: Profile,
+    cells: &[u64],
+    depths: usize,
+    table: &mut [u8; 256],
+    kinds: &mut [u8],
+) -> TraceRead
+    ensures { λ r. ⌜ TellsTrace profile (now (cells .entry)) depths r ⌝ }
+    ensures { λ _. ⌜ KeptKinds profile (now (cells .entry)) (now (table .exit)) (now (kinds .exit)) ⌝ }
+{
+    let made = table_of(profile);
+    *table = made;
+    forget(kinds);
+    answer(profile, cells, depths, table, kinds)
+}
+
+// The answer of a reader that is lent so many depth numbers, without writing them.
+pub fn validate(profile: Profile, cells: &[u64], depths: usize) -> TraceRead
+    ensures { λ r. ⌜ TellsTrace profile (now (cells .entry)) depths r ⌝ }
+{
+    let table = table_of(profile);
+    let mut kinds = [10u8; 1];
+    answer(profile, cells, depths, &table, &mut kinds)
+}
+
+// Reads a trace with a list that has nothing wrong of its rows.
+fn read_with(
+    profile: Profile,
+    cells: &[u64],
+    depths: &mut [u32],
+    table: &[u8; 256],
+    kinds: &mut [u8],
+) -> TraceRead
+    requires { ⌜ KeptKinds profile (now cells) (now table) (now kinds) ⌝ }
+    ensures { λ r. ⌜ ReadsTrace profile (now (cells .entry)) (now (depths .entry)) r (now (depths .exit)) ⌝ }
+{
+    let read = answer(profile, cells, depths.len(), table, kinds);
+    if read.refusal != 0 {
+        return read;
+    }
+    fill(profile, cells, depths, table, kinds);
+    read
+}
+
+// Reads a trace of up to 4,096 rows, or any other.
+fn read_short(profile: Profile, cells: &[u64], depths: &mut [u32]) -> TraceRead
+    ensures { λ r. ⌜ ReadsTrace profile (now (cells .entry)) (now (depths .entry)) r (now (depths .exit)) ⌝ }
+{
+    let table = table_of(profile);
+    let mut kinds = [10u8; 4096];
+    read_with(profile, cells, depths, &table, &mut kinds)
+}
+
+// Reads a trace of up to 65,536 rows, or any other.
+fn read_long(profile: Profile, cells: &[u64], depths: &mut [u32]) -> TraceRead
+    ensures { λ r. ⌜ ReadsTrace profile (now (cells .entry)) (now (depths .entry)) r (now (depths .exit)) ⌝ }
+{
+    let table = table_of(profile);
+    let mut kinds = [10u8; 65536];
+    read_with(profile, cells, depths, &table, &mut kinds)
 }
 
 // Reads a trace: the answer, and, where it is accepted, one depth a row. A refusal changes no depth.
 pub fn read_trace(profile: Profile, cells: &[u64], depths: &mut [u32]) -> TraceRead
     ensures { λ r. ⌜ ReadsTrace profile (now (cells .entry)) (now (depths .entry)) r (now (depths .exit)) ⌝ }
 {
-    let read = validate(profile, cells, depths.len());
-    if read.refusal != 0 {
-        return read;
+    if cells.len() / Row::WIDTH <= 4096 {
+        return read_short(profile, cells, depths);
     }
-    fill(profile, cells, depths);
-    read
+    read_long(profile, cells, depths)
 }

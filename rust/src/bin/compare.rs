@@ -48,6 +48,7 @@ fn main() {
         let written = word(&reader_rng, deep);
         reads.all(&reader_rng, written.cells, Some(&written.depths[..written.program_rows]));
     }
+    reads.long(&reader_rng);
     println!("traces as written: {}; of {} the nesting is known", reads.whole, reads.nested);
     println!("traces as written with SYSCALL rows: {}", reads.syscalls);
     println!("p added to cells: {}", reads.raised);

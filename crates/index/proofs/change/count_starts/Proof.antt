@@ -14,16 +14,16 @@ use Rattle.index.proofs.change.count_starts.Statement.{statement}
 use Rattle.index.proofs.change.count_starts.Tie as tie
 
 abbrev Inv-loop : tie.InvT-loop
-Inv-loop profile cells at₀ count₀ at count =
+Inv-loop profile cells table kinds at₀ count₀ at count =
     (at ≤ length cells / 49) × (count ≤ at) × (count + starts (rowsFrom (wordIn profile cells) at) ≡ starts (rowsFrom (wordIn profile cells) 0))
 
 abbrev μ-loop : tie.MeasureT-loop
-μ-loop profile cells at₀ count₀ at count = length cells / 49 - at
+μ-loop profile cells table kinds at₀ count₀ at count = length cells / 49 - at
 
 loop-again : tie.Need-loop-again Inv-loop μ-loop
 loop-again c =
     let l = c .before .before .before in
-    let a = l .before .before .args in
+    let a = l .before .before .before .args in
     let w = wordIn (a .profile) (a .cells .now) in
     let h : l .loop .at < length w = omega (arith, rows-in (a .profile) (a .cells .now)) in
     let e = starts-cons w (l .loop .at) _ h (c .before .change-at .ensures) in
@@ -33,7 +33,7 @@ loop-again c =
 
 returns : tie.Need-returns Inv-loop μ-loop
 returns c =
-    let a = c .before .before .before .args in
+    let a = c .before .before .before .before .args in
     let w = wordIn (a .profile) (a .cells .now) in
     omega (arith, starts-none w (c .before .loop .at) (omega (arith, rows-in (a .profile) (a .cells .now))))
 
@@ -50,7 +50,7 @@ count-starts-spec =
     Inv-loop
     μ-loop
     (λ c. search needs)
-    (λ c κs. tt)
+    (λ c κs. c .before .before .before .before .pre)
     (λ c κs. tt)
     add-count
     (λ c. search needs)

@@ -1,0 +1,47 @@
+-- Kinds of rows by a table over the bits of a row, and kinds that are kept in a list, one number a row.
+use mathlib.Core.Path.{_≡_}
+use mathlib.Core.List.{List, [], _∷_}
+use Prim.Native.Nat.{ℕ, _-_, _<_}
+use lib.Dec.{ltb}
+use lib.ListN.{length, getD}
+use Rattle.groups.specs.Answer.{pick}
+use Rattle.rows.specs.declared.records.profile.Profile.{Profile}
+use Rattle.theory_readings.specs.Tokens.{controlToken}
+use Rattle.reader.specs.Rows.{tokenAt, rowKindOf}
+use Rattle.reader.specs.ways.FromRow.{opKind}
+use Rattle.reader.specs.declared.token.RowKind.{RowKind}
+use Rattle.reader.specs.declared.token.RowKind.the-variants.{Span, Join, One, Loop, Op, Respan, Repeat, End, Halt, Nothing}
+
+-- the kinds by their numbers, from 0; past them, nothing
+unfoldable pub kindNumbered : (n : ℕ) → RowKind
+kindNumbered n = getD (Span ∷ Join ∷ One ∷ Loop ∷ Op ∷ Respan ∷ Repeat ∷ End ∷ Halt ∷ []) n Nothing
+
+-- the kind of a row whose in_span and op bits are 0 and 1: `code` is its opcode, and 128 more where in_span is 1
+unfoldable pub kindOfCode : Profile → (code : ℕ) → RowKind
+kindOfCode p code = pick (ltb code 128) (rowKindOf (controlToken p code)) (opKind (rowKindOf (controlToken p (code - 128))))
+
+-- a table has the number of each one's kind
+pub record KindTable (p : Profile) (table : List ℕ) : Type 0 where
+  pub places : length table ≡ 256
+  pub at-code : (code : ℕ) → code < 256 → kindNumbered (getD table code 0) ≡ kindOfCode p code
+
+-- a number below 10 is the number of the row's kind; from 10 on it says nothing
+abbrev pub Says : Profile → (cells : List ℕ) → (row n : ℕ) → Type 0
+Says p cells row n = n < 10 → kindNumbered n ≡ rowKindOf (tokenAt p cells row)
+
+-- whatever the profile, if the table is its
+abbrev pub SaysBy : (table cells : List ℕ) → (row n : ℕ) → Type 0
+SaysBy table cells row n = (p : Profile) → KindTable p table → Says p cells row n
+
+-- a list that says nothing
+abbrev pub KeepsNothing : (kinds : List ℕ) → Type 0
+KeepsNothing kinds = (row : ℕ) → row < length kinds → getD kinds row 0 ≡ 10
+
+-- the table of a profile, and a list with a number for each of the first rows
+pub record KeptKinds (p : Profile) (cells table kinds : List ℕ) : Type 0 where
+  pub by-table : KindTable p table
+  pub at-row : (row : ℕ) → row < length kinds → Says p cells row (getD kinds row 0)
+
+-- whatever the profile, if table and list are its
+abbrev pub SaysKept : (table kinds cells : List ℕ) → (row n : ℕ) → Type 0
+SaysKept table kinds cells row n = (p : Profile) → KeptKinds p cells table kinds → Says p cells row n
