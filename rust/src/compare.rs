@@ -223,6 +223,11 @@ pub struct Finished {
     pub is_cut: bool,
 }
 
+/// The same calls with each storing made twice. Then no storing stands between two cycles, and the library takes the calls one by one.
+fn stored_twice(calls: &[Call]) -> Vec<Call> {
+    calls.iter().flat_map(|call| vec![*call; if matches!(call, Call::Store(_)) { 2 } else { 1 }]).collect()
+}
+
 /// Carries out a run on both sides, and its passes. Answers the finished trace, where there is one.
 pub fn compare_run(run: &Run, rng: &Rng, tally: &mut Tally) -> Option<Finished> {
     tally.runs += 1;
@@ -255,6 +260,11 @@ pub fn compare_run(run: &Run, rng: &Rng, tally: &mut Tally) -> Option<Finished> 
         let replay =
             |calls: &[Call], fragment: &mut [u64]| replay_calls(&lent, &given.queues, EXAMPLE, ours_state, at, &records(calls), fragment);
         let mut answer = replay(given_calls, &mut buffer[ours.clone()]);
+        let mut singly = before.clone();
+        let told = replay(&stored_twice(given_calls), &mut singly);
+        if told != answer || singly != buffer[ours.clone()] {
+            tally.differ("pairs of calls and calls one by one differ".into());
+        }
         let mut listed = whole::fragment(run, &forests, &listed_calls, state, at, &mut data[place.clone()]);
         let mut accepted = calls.len();
         let is_refused = answer.is_err() || listed.refused.is_some();

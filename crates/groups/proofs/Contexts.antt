@@ -1,14 +1,20 @@
 -- What the calls at an operation come to in the definition's terms.
-use mathlib.Core.Path.{_≡_}
-use mathlib.Core.Bool.{true}
+use mathlib.Core.Path.{_≡_, refl}
+use mathlib.Core.Bool.{Bool, true, false}
 use mathlib.Core.List.{List}
-use Prim.Native.Nat.{ℕ, _+_, _-_, _*_, _≤_}
+use Prim.Native.Nat.{ℕ, _+_, _-_, _*_, _/_, _^_, _≤_}
 use native.Mathlib.Omega.{arith}
+use lib.Dec.{ltb}
 use Rattle.field.specs.Cells.{cellAt}
+use Rattle.groups.specs.Answer.{Answer, accepted, refused, andThen, pick}
 use Rattle.groups.specs.Batches.{startsAt}
 use Rattle.groups.specs.GroupsLeft.{counts, groupSum, pushes}
 use Rattle.groups.specs.GroupOfOperation.{groupOf, toldGroup}
-use Rattle.groups.specs.Contexts.{consumed}
+use Rattle.groups.specs.Constants.{overTotal, badLength}
+use Rattle.groups.specs.Contexts.{sumBefore, groupCell, consumed, contextInGroup, opContext, tooLarge}
+use Rattle.groups.specs.ways.OperationCells.{largeBy, contextIn}
+use Rattle.groups.specs.declared.context.BasicBlockContext.{BasicBlockContext}
+use Rattle.groups.specs.declared.batch.OpBatch.{OpBatch}
 use Rattle.groups.specs.declared.batch.BasicBlockNode.{BasicBlockNode}
 use Rattle.groups.specs.declared.sum.GroupSum.{GroupSum}
 use Rattle.groups.specs.declared.group.OpPlace.{OpPlace}
@@ -40,3 +46,26 @@ in-batch batches block index ops op starts found place s t e =
     let h = lies (startsAt batches block index) ops op place (rw (e, s) at t) in
     let g = h .a-group in
     (omega arith, h .up-to-8)
+
+two-picks : {A B : Type 0} (b c : Bool) (m n : ℕ) (x : A) (f : A → Answer B) →
+    pick b (refused m) (pick c (refused n) (f x)) ≡ andThen (pick b (refused m) (pick c (refused n) (accepted x))) f
+two-picks true c m n x f = refl
+two-picks false true m n x f = refl
+two-picks false false m n x f = refl
+
+-- the context at an operation, by what its row shows
+pub in-group-is : (push : ℕ) (block : BasicBlockNode) (batches groups : List ℕ) (index : ℕ) (batch : OpBatch) (place : OpPlace) →
+    contextInGroup push block batches groups index batch place
+    ≡ andThen (contextIn push block batches groups index (batch .«group_count») place) (λ context. accepted (record { context = context; batch = batch; place = place }))
+unfolding contextInGroup contextIn opContext tooLarge
+in-group-is push block batches groups index batch place =
+    two-picks {A = BasicBlockContext}
+    (ltb (block .total) (consumed push block batches groups index place))
+    (largeBy block (batch .«group_count») (sumBefore batches block index .above8))
+    overTotal
+    badLength
+    (record {
+      «current_op_group» = groupCell groups block index place / 2 ^ (7 * (place .index + 1));
+      «group_count_in_block» = block .total - consumed push block batches groups index place;
+    })
+    (λ context. accepted (record { context = context; batch = batch; place = place }))

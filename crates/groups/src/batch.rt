@@ -5,7 +5,7 @@ use crate::word::Word;
 use crate::word::word_at;
 ghost use mathlib.Core.Path.{_≡_};
 ghost use Prim.Native.Nat.{_^_, _<_};
-ghost use Rattle.groups.specs.Batches.{batchAt, toldBatch, startsOf, startsAt, lentBatches};
+ghost use Rattle.groups.specs.Batches.{isBatch, batchAt, toldBatch, startsOf, startsAt, lentBatches};
 
 // A block: its total of groups as `num_op_groups` answers, the record of its first batch, and how many batches it has.
 pub struct BasicBlockNode {
@@ -29,20 +29,25 @@ pub enum BatchFound {
     Missing,
 }
 
+// Whether the block has a batch `index` whose records lie whole in the slices.
+pub(crate) fn is_batch(batches: &[u32], groups: &[u64], block: BasicBlockNode, index: u32) -> bool
+    ensures { λ r. ⌜ r ≡ isBatch (now (batches .entry)) (now (groups .entry)) block index ⌝ }
+{
+    if block.batches <= index {
+        return false;
+    }
+    let record = block.first_batch as usize + index as usize;
+    (12 * record + 12 <= batches.len()) & (8 * record + 8 <= groups.len())
+}
+
 // Batch `index` of the block, or 5: the block has no such batch, or its records do not lie whole in the slices.
 pub fn batch_at(batches: &[u32], groups: &[u64], block: BasicBlockNode, index: u32) -> BatchFound
     ensures { λ r. ⌜ toldBatch r ≡ batchAt (now (batches .entry)) (now (groups .entry)) block index ⌝ }
 {
-    if block.batches <= index {
+    if !is_batch(batches, groups, block, index) {
         return BatchFound::Missing;
     }
     let record = block.first_batch as usize + index as usize;
-    if batches.len() < 12 * record + 12 {
-        return BatchFound::Missing;
-    }
-    if groups.len() < 8 * record + 8 {
-        return BatchFound::Missing;
-    }
     BatchFound::At(OpBatch {
         group_count: number(batches, 12 * record),
         num_ops: number(batches, 12 * record + 10),

@@ -3,6 +3,7 @@ use crate::batch::BasicBlockNode;
 use crate::batch::BatchFound;
 use crate::batch::OpBatch;
 use crate::batch::batch_at;
+use crate::batch::is_batch;
 use crate::batch::lent_batches;
 use crate::batch::starts_at;
 use crate::constants::Refusal;
@@ -12,12 +13,15 @@ use crate::flags::get_op_batch_flags;
 use crate::group::GroupFound;
 use crate::group::OpPlace;
 use crate::group::op_idx_in_batch_to_group;
+use crate::number::number;
 use crate::sum::push_count;
 use crate::sum::sum_groups;
 use field::cell::cell;
 ghost use mathlib.Core.Path.{_≡_};
 ghost use Prim.Native.Nat.{_+_, _*_, _/_, _^_, _≤_};
-ghost use Rattle.groups.specs.Contexts.{tooLarge, contextInGroup, contextAtOp, toldOp, contextAtBatchStart, toldBatchStart};
+ghost use Rattle.groups.specs.Answer.{refusal};
+ghost use Rattle.groups.specs.Contexts.{contextAtOp, toldOp, contextAtBatchStart, toldBatchStart};
+ghost use Rattle.groups.specs.ways.OperationCells.{largeBy, contextIn, toldContext, cellsAtOp, toldCells};
 
 // The current group, from the next operation on, and how many groups of the block are left.
 pub struct BasicBlockContext {
@@ -34,6 +38,22 @@ pub struct OpContext {
 
 pub enum OpContextFound {
     At(OpContext),
+    Refused(u32),
+}
+
+pub enum ContextFound {
+    Is(BasicBlockContext),
+    Refused(u32),
+}
+
+// What an operation's row shows: its index in its group, and the context.
+pub struct OpCells {
+    pub index: u64,
+    pub context: BasicBlockContext,
+}
+
+pub enum OpCellsFound {
+    At(OpCells),
     Refused(u32),
 }
 
@@ -58,13 +78,13 @@ fn after_op(group: u64, index: u64) -> u64
 }
 
 // Whether the block has too many batches, or the batch or one of the others added up has too many groups.
-fn is_too_large(block: BasicBlockNode, batch: OpBatch, above8: bool) -> bool
-    ensures { λ r. ⌜ r ≡ tooLarge block batch above8 ⌝ }
+fn is_too_large(block: BasicBlockNode, group_count: u32, above8: bool) -> bool
+    ensures { λ r. ⌜ r ≡ largeBy block «group_count» above8 ⌝ }
 {
     if 4096 < block.batches {
         return true;
     }
-    if 8 < batch.group_count {
+    if 8 < group_count {
         return true;
     }
     above8
@@ -77,11 +97,11 @@ fn in_group(
     batches: &[u32],
     groups: &[u64],
     index: u32,
-    batch: OpBatch,
+    group_count: u32,
     place: OpPlace,
-) -> OpContextFound
+) -> ContextFound
     requires { ⌜ (place .group ≤ 7) × (place .index ≤ 8) ⌝ }
-    ensures { λ r. ⌜ toldOp r ≡ contextInGroup push block (now (batches .entry)) (now (groups .entry)) index batch place ⌝ }
+    ensures { λ r. ⌜ toldContext r ≡ contextIn push block (now (batches .entry)) (now (groups .entry)) index «group_count» place ⌝ }
 {
     let sum = sum_groups(batches, block.first_batch, 0, index, true);
     let record = block.first_batch as usize + index as usize;
@@ -89,20 +109,25 @@ fn in_group(
     let consumed = sum.groups + push_count(push, group, place.index) + place.group + 1;
     let total = block.total as u64;
     if total < consumed {
-        return OpContextFound::Refused(Refusal::OVER_TOTAL);
+        return ContextFound::Refused(Refusal::OVER_TOTAL);
     }
-    if is_too_large(block, batch, sum.above8) {
-        return OpContextFound::Refused(Refusal::BAD_LENGTH);
+    if is_too_large(block, group_count, sum.above8) {
+        return ContextFound::Refused(Refusal::BAD_LENGTH);
     }
-    let context = BasicBlockContext {
+    ContextFound::Is(BasicBlockContext {
         current_op_group: after_op(group, place.index),
         group_count_in_block: total - consumed,
-    };
-    OpContextFound::At(OpContext {
-        context,
-        batch,
-        place,
     })
+}
+
+// The number that a context is refused with, or 0.
+fn context_refusal(found: ContextFound) -> u32
+    ensures { λ r. ⌜ r ≡ refusal (toldContext found) ⌝ }
+{
+    match found {
+        ContextFound::Refused(n) => n,
+        ContextFound::Is(_) => 0,
+    }
 }
 
 impl BasicBlockContext {
@@ -124,7 +149,61 @@ impl BasicBlockContext {
         let GroupFound::In(place) = op_idx_in_batch_to_group(starts, batch.num_ops, op) else {
             return OpContextFound::Refused(Refusal::NO_SUCH_OPERATION);
         };
-        in_group(push, block, batches, groups, index, batch, place)
+        let found = in_group(
+            push,
+            block,
+            batches,
+            groups,
+            index,
+            batch.group_count,
+            place,
+        );
+        let ContextFound::Is(context) = found else {
+            return OpContextFound::Refused(context_refusal(found));
+        };
+        OpContextFound::At(OpContext {
+            context,
+            batch,
+            place,
+        })
+    }
+
+    // What the row of operation `op` of batch `index` shows, refused as `new_at_op` refuses.
+    pub fn cells_at_op(
+        push: u8,
+        block: BasicBlockNode,
+        batches: &[u32],
+        groups: &[u64],
+        index: u32,
+        op: u32,
+    ) -> OpCellsFound
+        ensures { λ r. ⌜ toldCells r ≡ cellsAtOp push block (now (batches .entry)) (now (groups .entry)) index op ⌝ }
+    {
+        if !is_batch(batches, groups, block, index) {
+            return OpCellsFound::Refused(Refusal::NO_SUCH_BATCH);
+        }
+        let record = block.first_batch as usize + index as usize;
+        let starts = starts_at(batches, block, index);
+        let num_ops = number(batches, 12 * record + 10);
+        let GroupFound::In(place) = op_idx_in_batch_to_group(starts, num_ops, op) else {
+            return OpCellsFound::Refused(Refusal::NO_SUCH_OPERATION);
+        };
+        let found = in_group(
+            push,
+            block,
+            batches,
+            groups,
+            index,
+            number(batches, 12 * record),
+            place,
+        );
+        let ContextFound::Is(context) = found else {
+            return OpCellsFound::Refused(context_refusal(found));
+        };
+        OpCellsFound::At(OpCells {
+            index: place.index,
+            context,
+        })
     }
 
     // The context at the start of batch `index`, or the lowest number of 5, 7 and 11 that holds.
@@ -144,7 +223,7 @@ impl BasicBlockContext {
         let FlagsFound::Are(flags) = get_op_batch_flags(sum.groups) else {
             return BatchContextFound::Refused(Refusal::BAD_GROUP_COUNT);
         };
-        if is_too_large(block, batch, sum.above8) {
+        if is_too_large(block, batch.group_count, sum.above8) {
             return BatchContextFound::Refused(Refusal::BAD_LENGTH);
         }
         let context = BasicBlockContext {

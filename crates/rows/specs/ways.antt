@@ -4,3 +4,4 @@ pub mod LoopCounts
 pub mod OpenLoops
 pub mod ContinuationKinds
 pub mod Inner
+pub mod Pairs

@@ -1,7 +1,7 @@
 // The tracer, a cycle, and what a continuation makes.
 pub mod cycle;
 pub mod live;
-mod made;
+pub(crate) mod made;
 pub(crate) mod scan;
 mod tally;
 pub mod tracer;

@@ -10,14 +10,27 @@ use lib.Dec.{eqb}
 use lib.ListN.{take, drop}
 use Rattle.groups.specs.Answer.{Answer, accepted, refused, pick}
 use Rattle.rows.specs.declared.records.continuation.StoredValues.{StoredValues}
+use Rattle.rows.specs.declared.replay.directory.DirectoryEntry.{DirectoryEntry}
 use Rattle.rows.specs.declared.cycles.tracer.CoreTraceGenerationTracer.{CoreTraceGenerationTracer}
 use Rattle.rows.specs.declared.cycles.tracer.TracerFinalState.{TracerFinalState}
 use Rattle.rows.specs.records.Built.{noSystem, noStack, readSystem, readStack}
 use Rattle.rows.specs.cycles.Cycles.{finalState, lastSystem, lastStack}
-use Rattle.rows.specs.replay.Calls.{Setting, callDone, callWritten, through, written, told}
+use Rattle.rows.specs.records.Forests.{Forest, forest}
+use Rattle.rows.specs.replay.Calls.{directoryEntry, window, forestIn, Setting, callDone, callWritten, through, written, told}
 use Rattle.rows.specs.ways.Inner.{storingDone}
 use Rattle.rows.specs.records.CallRecords.{recordedStoring, callIn, recordAt}
 use Rattle.rows.proofs.cycles.Picks.{pick-same, pick-step}
+
+-- the parts that are lent to a cycle are the forest's
+pub parts-lent : (all : Forest) (directory : List ℕ) (k : ℕ) (w : DirectoryEntry) {nodes digests batches groups ops : List ℕ} → w ≡ directoryEntry directory k
+    → nodes ≡ window 6 (w .«first_slot») (w .slots) (all .nodes)
+    → digests ≡ window 4 (w .«first_slot») (w .slots) (all .digests)
+    → batches ≡ window 12 (w .«first_batch») (w .batches) (all .batches)
+    → groups ≡ window 8 (w .«first_batch») (w .batches) (all .groups)
+    → ops ≡ window 1 (w .«first_op») (w .ops) (all .ops)
+    → forestIn all (directoryEntry directory k) ≡ forest nodes digests batches groups ops
+unfolding forestIn
+parts-lent all directory k w p n d b g o = rw (← p, ← n, ← d, ← b, ← g, ← o)
 
 pub storing-done : (s : Setting) (t : CoreTraceGenerationTracer) (found : Answer StoredValues) → callDone s t (recordedStoring found) ≡ storingDone t found
 unfolding callDone storingDone

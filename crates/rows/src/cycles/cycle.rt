@@ -45,7 +45,7 @@ pub struct Finished {
 }
 
 // What is left of the captured values.
-fn left_after(used: Used, captured: Captured) -> Captured
+pub(crate) fn left_after(used: Used, captured: Captured) -> Captured
     ensures { λ r. ⌜ r ≡ leftAfter used captured ⌝ }
 {
     let condition = captured.finish_loop_condition;

@@ -181,7 +181,7 @@ fn continuation_at(numbers: &[u64]) -> ContinuationFound
 }
 
 // Whether flag (5), condition (6), or presence of the word (7) or the info (12) is a number that names nothing.
-fn names_nothing(numbers: &[u64]) -> bool
+pub(crate) fn names_nothing(numbers: &[u64]) -> bool
     ensures { λ r. ⌜ r ≡ namesNothing (now (numbers .entry)) ⌝ }
 {
     (1 < number_at(numbers, 5))

@@ -61,7 +61,7 @@ fn is_slot(nodes: &[u32], digests: &[u64], id: MastNodeId) -> bool
 }
 
 // What the slot holds: its first number, 0 where it does not lie whole in the slices.
-fn kind_at(nodes: &[u32], digests: &[u64], id: MastNodeId) -> u32
+pub(crate) fn kind_at(nodes: &[u32], digests: &[u64], id: MastNodeId) -> u32
     ensures { λ r. ⌜ r ≡ kindAt (now (nodes .entry)) (now (digests .entry)) (id .0) ⌝ }
 {
     if !is_slot(nodes, digests, id) {
@@ -71,7 +71,7 @@ fn kind_at(nodes: &[u32], digests: &[u64], id: MastNodeId) -> u32
 }
 
 // The block of a slot, where it is one.
-fn slot_block(nodes: &[u32], id: MastNodeId) -> BasicBlockNode
+pub(crate) fn slot_block(nodes: &[u32], id: MastNodeId) -> BasicBlockNode
     ensures { λ r. ⌜ r ≡ slotBlock (now (nodes .entry)) (id .0) ⌝ }
 {
     let at = 6 * (id.0 as usize);

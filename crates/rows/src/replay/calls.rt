@@ -23,15 +23,18 @@ use crate::replay::directory::directory_entry;
 use crate::replay::directory::part_of_cells;
 use crate::replay::directory::part_of_numbers;
 use crate::replay::directory::part_of_opcodes;
+use crate::replay::pairs::Followed;
+use crate::replay::pairs::follow;
 use field::cell::number_at;
 use groups::constants::Refusal;
 use groups::helpers::OperationHelperRegisters;
 ghost use mathlib.Core.Path.{_≡_};
-ghost use Prim.Native.Nat.{_/_};
+ghost use Prim.Native.Nat.{_/_, _<_};
 ghost use lib.ListN.{length};
 ghost use Rattle.groups.specs.Answer.{refusal, accepted, pick};
 ghost use Rattle.rows.specs.replay.Calls.{lentSetting, lentScanned, refusing, callDone, callWritten, through, written, ending, nextState, nextPositions, told, replayed, replayedFragment};
 ghost use Rattle.rows.specs.ways.Inner.{storingDone};
+ghost use Rattle.rows.specs.ways.Pairs.{Goes};
 ghost use Rattle.rows.specs.records.CallRecords.{storedInRecord, toldStored, finishIn, finishes, callIn};
 
 // What a replay answers: 0 or the refusal's number, and on 0 how many rows are written, the cells built last (clk, ctx, fn_hash 4; top
@@ -239,6 +242,74 @@ fn call(
     )
 }
 
+// Record k, and behind a cycle that wrote its row the stretch of pairs that follows.
+fn go_on(
+    write: bool,
+    scan: Scan,
+    nodes: &[u32],
+    digests: &[u64],
+    batches: &[u32],
+    groups: &[u64],
+    ops: &[u8],
+    directory: &[u32],
+    addresses: &[u64],
+    parents: &[u64],
+    ends: &[u64],
+    profile: Profile,
+    records: &[u64],
+    k: usize,
+    tracer: CoreTraceGenerationTracer,
+    fragment: &mut [u64],
+) -> Followed
+    requires { ⌜ k < length (now records) / 32 ⌝ }
+    ensures { λ r. ⌜ Goes (lentSetting scan profile nodes digests batches groups ops directory addresses parents ends fragment)
+        (now (records .entry)) k tracer write (now (fragment .entry)) (now (fragment .exit)) r ⌝ }
+{
+    let start = 32 * k;
+    let end = start + 32;
+    let done = call(
+        write,
+        scan,
+        nodes,
+        digests,
+        batches,
+        groups,
+        ops,
+        directory,
+        addresses,
+        parents,
+        ends,
+        profile,
+        &records[start..end],
+        tracer,
+        fragment,
+    );
+    if done.row_write_index <= tracer.row_write_index {
+        return Followed {
+            next: k + 1,
+            tracer: done,
+        };
+    }
+    follow(
+        write,
+        scan,
+        nodes,
+        digests,
+        batches,
+        groups,
+        ops,
+        directory,
+        addresses,
+        parents,
+        ends,
+        profile,
+        records,
+        k + 1,
+        done,
+        fragment,
+    )
+}
+
 // All whole records in their order, on a tracer.
 fn run(
     write: bool,
@@ -267,9 +338,7 @@ fn run(
     let mut tracer = first;
     let mut k = 0;
     while k < records.len() / 32 {
-        let start = 32 * k;
-        let end = start + 32;
-        tracer = call(
+        let went = go_on(
             write,
             scan,
             nodes,
@@ -282,11 +351,13 @@ fn run(
             parents,
             ends,
             profile,
-            &records[start..end],
+            records,
+            k,
             tracer,
             fragment,
         );
-        k += 1;
+        tracer = went.tracer;
+        k = went.next;
     }
     tracer
 }

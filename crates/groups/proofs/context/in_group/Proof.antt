@@ -3,7 +3,8 @@ use mathlib.Core.Path.{_≡_}
 use Prim.Native.Nat.{_+_}
 use borrow.Author.Tests.{lt-ltb, le-ltb}
 use borrow.Author.Needs.{needs}
-use Rattle.groups.specs.Contexts.{contextInGroup, opContext, consumed}
+use Rattle.groups.specs.Contexts.{consumed}
+use Rattle.groups.specs.ways.OperationCells.{contextIn}
 use Rattle.groups.proofs.Contexts.{counts-first, consumed-is}
 use Rattle.groups.proofs.context.in_group.Statement.{statement}
 use Rattle.groups.proofs.context.in_group.Tie as tie
@@ -16,11 +17,11 @@ consumed-at c =
     consumed-is (a .push) (a .batches .now) (a .groups .now) (a .block) (a .index) (a .place) _ _ _ (s .sum-groups .ensures .0) (c .before .cell .ensures) (c .push-count .ensures .0)
 
 returns : tie.Need-returns
-unfolding contextInGroup
+unfolding contextIn
 returns c = rw (consumed-at (c .before .before .before .before), lt-ltb _ _ (c .if1 .taken))
 
 returns-2 : tie.Need-returns-2
-unfolding contextInGroup
+unfolding contextIn
 returns-2 c =
     let t = c .before in
     let i = t .before in
@@ -31,7 +32,7 @@ returns-2 c =
     rw (consumed-at u, le-ltb _ _ (i .if1 .left), ← z, ← (s .sum-groups .ensures .0), ← (t .is-too-large .ensures), c .if2 .taken)
 
 returns-3 : tie.Need-returns-3
-unfolding contextInGroup opContext
+unfolding contextIn
 returns-3 c =
     let e = c .before in
     let t = e .before in

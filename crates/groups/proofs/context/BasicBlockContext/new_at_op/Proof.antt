@@ -1,7 +1,7 @@
 -- `BasicBlockContext::new_at_op` meets its contract.
 use borrow.Author.Needs.{needs}
 use Rattle.groups.specs.Contexts.{contextAtOp}
-use Rattle.groups.proofs.Contexts.{in-batch}
+use Rattle.groups.proofs.Contexts.{in-batch, in-group-is}
 use Rattle.groups.proofs.context.BasicBlockContext.new_at_op.Statement.{statement}
 use Rattle.groups.proofs.context.BasicBlockContext.new_at_op.Tie as tie
 
@@ -29,11 +29,24 @@ in-group-requires c κs =
 returns-3 : tie.Need-returns-3
 unfolding contextAtOp
 returns-3 c =
-    let p = c .before .before in
+    let f = c .before in
+    let g = f .before .before in
+    let p = g .before .before in
     let o = p .before .before in
     let s = o .before in
     let b = s .before .before in
-    rw (← (b .before .before .batch-at .ensures), b .batch .given .1, ← (s .starts-at .ensures), ← (o .op-idx-in-batch-to-group .ensures), p .place .given .1) (c .in-group .ensures)
+    rw (← (b .before .before .batch-at .ensures), b .batch .given .1, ← (s .starts-at .ensures), ← (o .op-idx-in-batch-to-group .ensures), p .place .given .1, in-group-is, ← (g .in-group .ensures), c .context-refusal .ensures, f .enum-told3 .given .1)
+
+returns-4 : tie.Need-returns-4
+unfolding contextAtOp
+returns-4 c =
+    let f = c .before in
+    let g = f .before .before in
+    let p = g .before .before in
+    let o = p .before .before in
+    let s = o .before in
+    let b = s .before .before in
+    rw (← (b .before .before .batch-at .ensures), b .batch .given .1, ← (s .starts-at .ensures), ← (o .op-idx-in-batch-to-group .ensures), p .place .given .1, in-group-is, ← (g .in-group .ensures), f .found .given .1)
 
 pub new-at-op-spec : {M : Type 1} → statement M
 new-at-op-spec =
@@ -49,4 +62,8 @@ new-at-op-spec =
     (λ c. search needs)
     returns-2
     in-group-requires
-    returns-3)
+    (λ c. search needs)
+    (λ c. search needs)
+    (λ c κs. search needs)
+    returns-3
+    returns-4)

@@ -4,12 +4,11 @@ use Prim.Native.Nat.{_≤_, _-_, _/_}
 use native.Mathlib.Omega.{arith}
 use borrow.Author.Needs.{needs}
 use lib.ListN.{length}
-use Rattle.groups.specs.Answer.{pick}
 use Rattle.rows.specs.records.Forests.{forest}
 use Rattle.rows.specs.records.Addresses.{queues}
-use Rattle.rows.specs.replay.Calls.{setting, through, written}
-use Rattle.rows.proofs.cycles.Picks.{pick-same}
-use Rattle.rows.proofs.replay.CallSteps.{Ran, ran-none, ran-more}
+use Rattle.rows.specs.replay.Calls.{setting}
+use Rattle.rows.proofs.replay.CallSteps.{Ran, ran-none}
+use Rattle.rows.proofs.replay.GoingOn.{ran-on}
 use Rattle.rows.proofs.replay.calls.run.Statement.{statement}
 use Rattle.rows.proofs.replay.calls.run.Tie as tie
 
@@ -24,38 +23,24 @@ abbrev μ-loop : tie.MeasureT-loop
 loop-holds : tie.Need-loop-holds Inv-loop μ-loop
 loop-holds c = (omega arith, (omega arith, ran-none (c .before .before .before .before .before .before .before .before .before .before .before .args .write) _ _ _ _))
 
-mul-start : tie.Need-mul-start Inv-loop μ-loop
-mul-start c = omega arith
-
-add-end : tie.Need-add-end Inv-loop μ-loop
-add-end c = omega arith
-
-mul-call : tie.Need-mul-call Inv-loop μ-loop
-mul-call c = omega arith
-
-sub-call : tie.Need-sub-call Inv-loop μ-loop
-sub-call c = omega arith
-
-part-call-start : tie.Need-part-call-start Inv-loop μ-loop
-part-call-start c = omega arith
-
-part-call-end : tie.Need-part-call-end Inv-loop μ-loop
-part-call-end c = omega arith
-
-add-k : tie.Need-add-k Inv-loop μ-loop
-add-k c = omega (arith, c .before .before .before .before .before .loop-test .taken, c .before .before .before .before .before .before .before .before .before .before .before .before .before .before .before .before .before .before .good .1 .1 .1 .1 .1 .1 .1 .1 .1 .1 .1 .1 .0)
+go-on-requires : tie.Need-go-on-requires Inv-loop μ-loop
+go-on-requires c κs = omega arith
 
 loop-less : tie.Need-loop-less Inv-loop μ-loop
-loop-less c = omega arith
+loop-less c =
+    let l = c .before .before .before .before .before .before in
+    let a = l .before .before .before .before .before .before .before .before .before .before .before .before in
+    let inv = l .loop .inv in
+    let (more, within, ran) = ran-on _ (a .args .records .now) (a .args .first) (a .args .write) _ _ _ (l .loop .k) (l .loop .tracer) (c .before .before .before .go-on .result) (inv .1 .1) (rw (inv .1 .0) at (c .before .before .before .go-on .ensures)) in
+    omega (arith, more, within)
 
 loop-again : tie.Need-loop-again Inv-loop μ-loop
 loop-again c =
-    let inv = c .before .before .before .before .before .before .loop .inv in
-    let done = rw (inv .1 .0) at (c .before .before .call .ensures) in
-    (omega arith, (search needs, ran-more (c .before .before .before .before .before .before .before .before .before .before .before .before .before .before .before .before .before .before .args .write) _ _ _ _ _ _ _ _ _ (inv .1 .1) (done .0) (done .1)))
-
-same-length : tie.Need-same-length Inv-loop μ-loop
-same-length c = search needs
+    let l = c .before .before .before .before .before .before in
+    let a = l .before .before .before .before .before .before .before .before .before .before .before .before in
+    let inv = l .loop .inv in
+    let (more, within, ran) = ran-on _ (a .args .records .now) (a .args .first) (a .args .write) _ _ _ (l .loop .k) (l .loop .tracer) (c .before .before .before .go-on .result) (inv .1 .1) (rw (inv .1 .0) at (c .before .before .before .go-on .ensures)) in
+    (within, (omega (arith, inv .1 .0, c .before .before .fragment .given), ran))
 
 returns : tie.Need-returns Inv-loop μ-loop
 returns c =
@@ -65,19 +50,4 @@ returns c =
 pub run-spec : {M : Type 1} → statement M
 run-spec =
     tie.close
-    (tie.spec
-    Inv-loop
-    μ-loop
-    loop-holds
-    mul-start
-    add-end
-    mul-call
-    sub-call
-    part-call-start
-    part-call-end
-    (λ c κs. tt)
-    add-k
-    loop-less
-    loop-again
-    same-length
-    returns)
+    (tie.spec Inv-loop μ-loop loop-holds go-on-requires loop-less loop-again (λ c. search needs) returns)
