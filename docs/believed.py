@@ -384,6 +384,9 @@ def written():
         "the claims are document 01's cases (`theory_cases`), what came of cells before change request N2 (`theory_reductions`), and the further laws of docs/THEOREMS.md,",
         "which rest on definitions of their own as well.",
         "",
+        "A function counts as public that only another crate of the library calls. Of `reader` these are `validate_keeping` and `kept_kind`, for `index`: `opKind` and what",
+        "is listed of `specs/ways/KeptKinds.antt` stand here for their contracts alone, and those of `read_trace`, `row` and `build_index` do not rest on them.",
+        "",
         "Claims:",
         "",
     ]

@@ -130,8 +130,23 @@ CASES = [
     ("node, then clk", at(START, NODE=OVER) | at(CYCLE, CLK=OVER), 3),
     ("operation, then node", at(RESUME, OP=OVER) | at(FINISH, NODE=OVER), 6),
     ("continuation, then part of a record", at(START, KIND=0) | lent(ALL - 1), 23),
-    ("as they are, again", {}, 0),
 ]
+
+
+def later(changes, cycle):
+    """The same numbers of the first cycle's record, in another cycle's."""
+    return {place + 32 * (cycle - CYCLE): number for place, number in changes.items()}
+
+
+def of_first_cycle(changes):
+    return changes and all(1 + 32 * CYCLE <= place < 1 + 32 * (CYCLE + 1) for place in changes)
+
+
+# What is wrong in the first cycle, in the second one and in the operation's, which stand behind a row.
+for name, cycle in (("second cycle", SECOND + 1), ("the operation's cycle", RESUME + 1)):
+    CASES += [(f"{words}, {name}", later(changes, cycle), number) for words, changes, number in CASES if of_first_cycle(changes)]
+CASES += [("depth below the least, second cycle", at(SECOND + 1, DEPTH=15), 10), ("depth below the least, the operation's cycle", at(RESUME + 1, DEPTH=15), 10),
+          ("as they are, again", {}, 0)]
 
 # The run's nodes, and its step.
 BLOCK, LOOP, STEP = 0, 1, 2

@@ -18,14 +18,19 @@ use crate::listed::stand_ins::air::{StackCols, SystemCols};
 use crate::listed::stand_ins::core_crate::mast::SparseMastForest;
 use crate::listed::stand_ins::field::Felt;
 use crate::listed::whole::{self, Start, refusal};
+use crate::loops::{behind_an_end, count_by_map, loop_counts, nested_rows, nests, shuffled};
 use crate::overflow::{DEPTH, HELPER, is_deep_halt, is_inverse, overflow_rule};
 use crate::profile::EXAMPLE;
 use crate::random::{DEPTHS, Rng, Run, first_syscall, raised, raised_run, raised_state};
+use crate::stack::on_painted_stack;
 
 const P: u64 = 18446744069414584321;
 const IN_SPAN: usize = 22;
 const GROUP_COUNT: usize = 23;
 const STACK: usize = 30;
+/// The refusal of a LOOP row without an END, and how many words the smaller of pass 2's tables has.
+const NO_BODY_END: u32 = 14;
+const TABLE_WORDS: usize = 4096;
 /// The refusal of a start of a SYSCALL node, those before it that a run here can have, and what the listed Rust may answer where it is 31: a
 /// row, or what would come behind it, an absent child or a full fragment.
 const SYSCALL_START: u32 = 31;
@@ -76,6 +81,11 @@ pub struct Tally {
     /// Starts of a SYSCALL node that the library refused with 31, and of how many of them the listed Rust wrote a row.
     pub syscalls: u64,
     pub syscall_rows: u64,
+    /// Lists of rows as written, changed ones and random ones, on which pass 2 was held to a map in plain Rust; their LOOP rows; and on how many
+    /// it filled no table.
+    pub counted: [u64; 3],
+    pub loops: [u64; 3],
+    pub tableless: [u64; 3],
     pub differences: u64,
     /// The first differences, in words.
     pub told: Vec<String>,
@@ -163,6 +173,38 @@ impl Tally {
     fn refused(&mut self, ours: u32, listed: &str) {
         *self.refusals.entry((ours, listed.into())).or_default() += 1;
     }
+    /// Pass 2, held to a map in plain Rust: its answer and every cell. It fills its tables where the loops do not nest as
+    /// in a run, and only there.
+    fn hold_to_map(&mut self, kind: usize, given: &[u64]) {
+        let rows = given.len() / WIDTH;
+        let (mut made, mut wanted) = (given.to_vec(), given.to_vec());
+        let (stack, answer) = on_painted_stack(|| exports::set_loop_body_multiplicities(EXAMPLE, &mut made, rows));
+        let counted = count_by_map(&EXAMPLE, &mut wanted, rows).ok_or(NO_BODY_END);
+        if counted.is_err() {
+            wanted.copy_from_slice(given);
+        }
+        if answer.map_err(|refusal| refusal.0) != counted || made != wanted {
+            self.differ(format!("pass 2: {answer:?}, a map: {counted:?}; or a cell differs"));
+        }
+        let (is_nested, has_tables) = (nests(&EXAMPLE, given, rows), stack.words >= TABLE_WORDS);
+        if is_nested == has_tables {
+            self.differ(format!("pass 2: loops nest: {is_nested}; tables are filled: {has_tables}"));
+        }
+        self.counted[kind] += 1;
+        self.loops[kind] += loop_counts(&EXAMPLE, given, rows).len() as u64;
+        self.tableless[kind] += u64::from(!has_tables);
+    }
+    /// The same of the rows as they are, behind an END that ends no loop, and with the addresses behind LOOP rows and ENDs shuffled; and of random
+    /// loops that nest.
+    fn hold_all_to_map(&mut self, given: &[u64]) {
+        let rng = Rng::new(self.runs);
+        self.hold_to_map(0, given);
+        self.hold_to_map(1, &behind_an_end(&EXAMPLE, given));
+        self.hold_to_map(1, &shuffled(&EXAMPLE, &rng, given));
+        let random = nested_rows(&EXAMPLE, &rng, 2 + rng.below(300));
+        self.hold_to_map(2, &random);
+        self.hold_to_map(2, &shuffled(&EXAMPLE, &rng, &random));
+    }
     /// Holds the first refused call to N8: a start of a SYSCALL node that no earlier check refuses, on either side, gets 31, and no other
     /// call does. `row` is what the listed Rust writes of the call, where it does.
     fn hold_to_31(&mut self, is_syscall: bool, number: u32, listed: &str, row: Option<[u64; WIDTH]>) {
@@ -195,6 +237,13 @@ impl core::fmt::Display for Tally {
         write!(f, "\n  finished at depth {}", self.ends())?;
         let Self { syscalls, syscall_rows, .. } = self;
         write!(f, "\n  {syscalls} starts of a SYSCALL node refused with 31; of {syscall_rows} of them the listed Rust wrote a row")?;
+        for (i, kind) in ["as written", "changed", "of random loops"].into_iter().enumerate() {
+            let (lists, loops, tableless) = (self.counted[i], self.loops[i], self.tableless[i]);
+            write!(
+                f,
+                "\n  pass 2 and a map, rows {kind}: {lists} lists with {loops} LOOP rows; {tableless} without a table, as loops nest"
+            )?;
+        }
         write!(
             f,
             "\n  {raised} of the {runs} runs with cells from p on: {run_cells} in the run, {row_cells} in the rows and built cells "
@@ -223,7 +272,7 @@ pub struct Finished {
     pub is_cut: bool,
 }
 
-/// The same calls with each storing made twice. Then no storing stands between two cycles, and the library takes the calls one by one.
+/// The same calls with each storing made twice. Then no single storing stands between two cycles, and the library takes the calls one by one.
 fn stored_twice(calls: &[Call]) -> Vec<Call> {
     calls.iter().flat_map(|call| vec![*call; if matches!(call, Call::Store(_)) { 2 } else { 1 }]).collect()
 }
@@ -376,6 +425,7 @@ fn compare_passes(made: Made<'_>, mut buffer: Vec<u64>, mut data: Vec<Felt>, tal
     tally.same_rows("pass 1", rows, &replayed, &buffer, &data, fixes);
     // Pass 2.
     let mut before = buffer.clone();
+    tally.hold_all_to_map(&before[..rows * WIDTH]);
     let second = exports::set_loop_body_multiplicities(EXAMPLE, &mut buffer, rows);
     let listed = refusal(Ok(passes::multiplicities(&mut data, rows)));
     tally.same("the finisher and pass 2", all, second);

@@ -4,6 +4,7 @@
 pub mod answers;
 pub mod calls;
 pub mod checker;
+pub mod clock;
 #[cfg(all(listed, archive))]
 pub mod compare;
 pub mod dump;
@@ -15,6 +16,8 @@ pub mod forest;
 #[cfg(listed)]
 pub mod listed;
 pub mod listing;
+#[cfg(archive)]
+pub mod loops;
 pub mod overflow;
 pub mod profile;
 pub mod random;
@@ -22,6 +25,7 @@ pub mod random;
 pub mod reading;
 #[cfg(archive)]
 pub mod sizes;
+pub mod stack;
 #[cfg(archive)]
 pub mod waves;
 pub mod words;

@@ -96,7 +96,8 @@ pub type Pair = (StoredValues, Cycle);
 // FORESTS
 // ------------------------------------------------------------------------------------------------
 
-fn operation(rng: &Rng) -> u8 {
+/// The opcode of an operation, now and then PUSH.
+pub fn operation(rng: &Rng) -> u8 {
     loop {
         let opcode = if rng.one_in(6) { EXAMPLE.push } else { rng.below(128) as u8 };
         if EXAMPLE.is_operation(opcode) {

@@ -3,6 +3,8 @@ use crate::change::count_starts;
 use crate::fill::fill;
 use groups::constants::Refusal;
 use groups::constants::Row;
+use reader::kept::LONG_LIST;
+use reader::kept::SHORT_LIST;
 use reader::trace::validate_keeping;
 use rows::records::profile::Profile;
 ghost use mathlib.Core.Path.{_≡_};
@@ -32,7 +34,7 @@ fn no_index(number: u32, row: usize) -> IndexBuilt
 fn build_with(profile: Profile, cells: &[u64], index: &mut [u32], kinds: &mut [u8]) -> IndexBuilt
     ensures { λ r. ⌜ BuildsIndex profile (now (cells .entry)) (now (index .entry)) r (now (index .exit)) ⌝ }
 {
-    let mut table = [10u8; 256];
+    let mut table = [0u8; 256];
     let read = validate_keeping(profile, cells, cells.len() / Row::WIDTH, &mut table, kinds);
     if read.refusal != 0 {
         return no_index(read.refusal, read.row);
@@ -49,19 +51,19 @@ fn build_with(profile: Profile, cells: &[u64], index: &mut [u32], kinds: &mut [u
     }
 }
 
-// Builds it of a trace of up to 4,096 rows, or any other.
+// Builds it of a trace that the smaller list holds, or any other.
 fn build_short(profile: Profile, cells: &[u64], index: &mut [u32]) -> IndexBuilt
     ensures { λ r. ⌜ BuildsIndex profile (now (cells .entry)) (now (index .entry)) r (now (index .exit)) ⌝ }
 {
-    let mut kinds = [10u8; 4096];
+    let mut kinds = [0u8; SHORT_LIST];
     build_with(profile, cells, index, &mut kinds)
 }
 
-// Builds it of a trace of up to 65,536 rows, or any other.
+// Builds it of a longer trace, or any other.
 fn build_long(profile: Profile, cells: &[u64], index: &mut [u32]) -> IndexBuilt
     ensures { λ r. ⌜ BuildsIndex profile (now (cells .entry)) (now (index .entry)) r (now (index .exit)) ⌝ }
 {
-    let mut kinds = [10u8; 65536];
+    let mut kinds = [0u8; LONG_LIST];
     build_with(profile, cells, index, &mut kinds)
 }
 
@@ -70,7 +72,7 @@ fn build_long(profile: Profile, cells: &[u64], index: &mut [u32]) -> IndexBuilt
 pub fn build_index(profile: Profile, cells: &[u64], index: &mut [u32]) -> IndexBuilt
     ensures { λ r. ⌜ BuildsIndex profile (now (cells .entry)) (now (index .entry)) r (now (index .exit)) ⌝ }
 {
-    if cells.len() / Row::WIDTH <= 4096 {
+    if cells.len() / Row::WIDTH <= SHORT_LIST {
         return build_short(profile, cells, index);
     }
     build_long(profile, cells, index)

@@ -1,6 +1,6 @@
 pub mod RowTokens
 pub mod CellTokens
-pub mod KeptLaws
+pub mod KindLaws
 pub mod WrongRows
 pub mod PartLaws
 pub mod LevelLaws

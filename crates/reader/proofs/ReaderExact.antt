@@ -1,4 +1,4 @@
--- What `read_trace` and `validate` tell and leave, by their contracts alone: it is one, it accepts exactly the traces, and the answers are
+-- What `read_trace` and `validate_keeping` tell and leave, by their contracts alone: it is one, it accepts exactly the traces, and the answers are
 -- those of the one reading.
 use mathlib.Core.Path.{_≡_, _∙_, refl, sym, ap}
 use mathlib.Core.List.{List, _++_}

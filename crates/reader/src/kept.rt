@@ -1,4 +1,4 @@
-// The kind of a row by a table, and kinds that are kept in a list, one number a row: 10 and more where none is known.
+// The kind of a row by a table, and kinds that are kept in a list, one number a row: UNKNOWN and more where none is known.
 use crate::token::RowKind;
 use crate::token::control;
 use crate::token::op;
@@ -8,10 +8,21 @@ use groups::constants::Row;
 use rows::records::profile::Profile;
 ghost use mathlib.Core.Path.{_≡_};
 ghost use Rattle.reader.specs.Rows.{rowKindOf, tokenAt};
-ghost use Rattle.reader.specs.ways.KeptKinds.{kindNumbered, kindOfCode, KindTable, Says, SaysBy, KeepsNothing, KeptKinds, SaysKept};
+ghost use Rattle.reader.specs.ways.KeptKinds.{kindNumbered, kindOfCode, KindTable, TellsKind, TellsByTable, KeepsNothing, KeptKinds, TellsKept};
+
+// The number that tells no kind.
+pub(crate) const UNKNOWN: u8 = 10;
+
+// The most rows for which a table would take longer to make than it spares.
+pub(crate) const FEW_ROWS: usize = 4;
+
+// The rows that the smaller list keeps, and the larger.
+pub const SHORT_LIST: usize = 4096;
+
+pub const LONG_LIST: usize = 65536;
 
 // The number of a kind.
-fn number_of(kind: RowKind) -> u8
+fn kind_number(kind: RowKind) -> u8
     ensures { λ r. ⌜ kindNumbered r ≡ kind ⌝ }
 {
     match kind {
@@ -57,25 +68,35 @@ fn kind_of_code(profile: Profile, code: u8) -> RowKind
 }
 
 // The table of a profile.
-pub(crate) fn table_of(profile: Profile) -> [u8; 256]
+fn table_of(profile: Profile) -> [u8; 256]
     ensures { λ r. ⌜ KindTable profile r ⌝ }
 {
-    let mut table = [10u8; 256];
+    let mut table = [UNKNOWN; 256];
     let mut code: usize = 0;
     while code < 256 {
         let kind = kind_of_code(profile, code as u8);
-        table[code] = number_of(kind);
+        table[code] = kind_number(kind);
         code += 1;
     }
     table
 }
 
-// The number of a row's kind by the table, where in_span and the op bits are 0 or 1 as they stand; else, and past the end, 10.
+// The table of a profile for so many rows; where they are few, one that tells nothing.
+pub(crate) fn table_for(profile: Profile, rows: usize) -> [u8; 256]
+    ensures { λ r. ⌜ KindTable profile r ⌝ }
+{
+    if rows <= FEW_ROWS {
+        return [UNKNOWN; 256];
+    }
+    table_of(profile)
+}
+
+// The number of a row's kind by the table, where in_span and the op bits are 0 or 1 as they stand; else, and past the end, UNKNOWN.
 fn number_by(cells: &[u64], row: usize, table: &[u8; 256]) -> u8
-    ensures { λ r. ⌜ SaysBy (now (table .entry)) (now (cells .entry)) row r ⌝ }
+    ensures { λ r. ⌜ TellsByTable (now (table .entry)) (now (cells .entry)) row r ⌝ }
 {
     if cells.len() / Row::WIDTH <= row {
-        return 10;
+        return UNKNOWN;
     }
     let at = Row::WIDTH * row;
     let a = cells[at + 7];
@@ -90,14 +111,14 @@ fn number_by(cells: &[u64], row: usize, table: &[u8; 256]) -> u8
         let code = a + 2 * b + 4 * c + 8 * d + 16 * e + 32 * f + 64 * g + 128 * h;
         return table[code as usize];
     }
-    10
+    UNKNOWN
 }
 
-// What a row is, by a number that says it or nothing.
-fn kind_said(profile: Profile, cells: &[u64], row: usize, number: u8) -> RowKind
-    ensures { λ r. ⌜ (Says profile (now (cells .entry)) row number → r ≡ rowKindOf (tokenAt profile (now (cells .entry)) row)) ⌝ }
+// What a row is, by a number that tells it or nothing.
+fn kind_told(profile: Profile, cells: &[u64], row: usize, number: u8) -> RowKind
+    ensures { λ r. ⌜ (TellsKind profile (now (cells .entry)) row number → r ≡ rowKindOf (tokenAt profile (now (cells .entry)) row)) ⌝ }
 {
-    if number < 10 {
+    if number < UNKNOWN {
         return kind_numbered(number);
     }
     row_kind(profile, cells, row)
@@ -109,7 +130,7 @@ pub(crate) fn forget(kinds: &mut [u8])
 {
     let mut row = 0;
     while row < kinds.len() {
-        kinds[row] = 10;
+        kinds[row] = UNKNOWN;
         row += 1;
     }
 }
@@ -130,16 +151,16 @@ pub(crate) fn note_kind(
     if row < kinds.len() {
         kinds[row] = number;
     }
-    kind_said(profile, cells, row, number)
+    kind_told(profile, cells, row, number)
 }
 
 // The number of a row's kind, as it is kept if it is, else by the table.
 fn kept_number(cells: &[u64], row: usize, table: &[u8; 256], kinds: &[u8]) -> u8
-    ensures { λ r. ⌜ SaysKept (now (table .entry)) (now (kinds .entry)) (now (cells .entry)) row r ⌝ }
+    ensures { λ r. ⌜ TellsKept (now (table .entry)) (now (kinds .entry)) (now (cells .entry)) row r ⌝ }
 {
     if row < kinds.len() {
         let kept = kinds[row];
-        if kept < 10 {
+        if kept < UNKNOWN {
             return kept;
         }
     }
@@ -158,7 +179,7 @@ pub fn kept_kind(
         → r ≡ rowKindOf (tokenAt profile (now (cells .entry)) row)) ⌝ }
 {
     let number = kept_number(cells, row, table, kinds);
-    if 10 <= number {
+    if UNKNOWN <= number {
         return row_kind(profile, cells, row);
     }
     kind_numbered(number)

@@ -121,7 +121,7 @@ fn opcode(cells: &[u64], row: usize) -> u8
 }
 
 // What a row is; past the end, nothing.
-pub fn row_kind(profile: Profile, cells: &[u64], row: usize) -> RowKind
+pub(crate) fn row_kind(profile: Profile, cells: &[u64], row: usize) -> RowKind
     ensures { λ r. ⌜ r ≡ rowKindOf (tokenAt profile (now (cells .entry)) row) ⌝ }
 {
     if cells.len() / Row::WIDTH <= row {

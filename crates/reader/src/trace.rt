@@ -3,9 +3,13 @@ use crate::depths::fill;
 use crate::grammar::Part;
 use crate::grammar::Wrong;
 use crate::grammar::block;
+use crate::kept::FEW_ROWS;
+use crate::kept::LONG_LIST;
+use crate::kept::SHORT_LIST;
+use crate::kept::UNKNOWN;
 use crate::kept::forget;
 use crate::kept::note_kind;
-use crate::kept::table_of;
+use crate::kept::table_for;
 use crate::scan::refusal;
 use crate::token::RowKind;
 use groups::constants::Refusal;
@@ -101,7 +105,7 @@ fn read_cells(profile: Profile, cells: &[u64], table: &[u8; 256], kinds: &mut [u
 }
 
 // The answer of a reader that is lent so many depth numbers: 2, 11, then 12, 15 or 13, else accepted.
-fn answer(
+fn tell_trace(
     profile: Profile,
     cells: &[u64],
     depths: usize,
@@ -134,19 +138,9 @@ pub fn validate_keeping(
     ensures { λ r. ⌜ TellsTrace profile (now (cells .entry)) depths r ⌝ }
     ensures { λ _. ⌜ KeptKinds profile (now (cells .entry)) (now (table .exit)) (now (kinds .exit)) ⌝ }
 {
-    let made = table_of(profile);
-    *table = made;
+    *table = table_for(profile, cells.len() / Row::WIDTH);
     forget(kinds);
-    answer(profile, cells, depths, table, kinds)
-}
-
-// The answer of a reader that is lent so many depth numbers, without writing them.
-pub fn validate(profile: Profile, cells: &[u64], depths: usize) -> TraceRead
-    ensures { λ r. ⌜ TellsTrace profile (now (cells .entry)) depths r ⌝ }
-{
-    let table = table_of(profile);
-    let mut kinds = [10u8; 1];
-    answer(profile, cells, depths, &table, &mut kinds)
+    tell_trace(profile, cells, depths, table, kinds)
 }
 
 // Reads a trace with a list that has nothing wrong of its rows.
@@ -160,7 +154,7 @@ fn read_with(
     requires { ⌜ KeptKinds profile (now cells) (now table) (now kinds) ⌝ }
     ensures { λ r. ⌜ ReadsTrace profile (now (cells .entry)) (now (depths .entry)) r (now (depths .exit)) ⌝ }
 {
-    let read = answer(profile, cells, depths.len(), table, kinds);
+    let read = tell_trace(profile, cells, depths.len(), table, kinds);
     if read.refusal != 0 {
         return read;
     }
@@ -168,21 +162,30 @@ fn read_with(
     read
 }
 
-// Reads a trace of up to 4,096 rows, or any other.
-fn read_short(profile: Profile, cells: &[u64], depths: &mut [u32]) -> TraceRead
+// Reads a trace of few rows, or any other.
+fn read_few(profile: Profile, cells: &[u64], depths: &mut [u32]) -> TraceRead
     ensures { λ r. ⌜ ReadsTrace profile (now (cells .entry)) (now (depths .entry)) r (now (depths .exit)) ⌝ }
 {
-    let table = table_of(profile);
-    let mut kinds = [10u8; 4096];
+    let table = table_for(profile, 0);
+    let mut kinds = [UNKNOWN; FEW_ROWS];
     read_with(profile, cells, depths, &table, &mut kinds)
 }
 
-// Reads a trace of up to 65,536 rows, or any other.
+// Reads a trace that the smaller list holds, or any other.
+fn read_short(profile: Profile, cells: &[u64], depths: &mut [u32]) -> TraceRead
+    ensures { λ r. ⌜ ReadsTrace profile (now (cells .entry)) (now (depths .entry)) r (now (depths .exit)) ⌝ }
+{
+    let table = table_for(profile, cells.len() / Row::WIDTH);
+    let mut kinds = [UNKNOWN; SHORT_LIST];
+    read_with(profile, cells, depths, &table, &mut kinds)
+}
+
+// Reads a longer trace, or any other.
 fn read_long(profile: Profile, cells: &[u64], depths: &mut [u32]) -> TraceRead
     ensures { λ r. ⌜ ReadsTrace profile (now (cells .entry)) (now (depths .entry)) r (now (depths .exit)) ⌝ }
 {
-    let table = table_of(profile);
-    let mut kinds = [10u8; 65536];
+    let table = table_for(profile, cells.len() / Row::WIDTH);
+    let mut kinds = [UNKNOWN; LONG_LIST];
     read_with(profile, cells, depths, &table, &mut kinds)
 }
 
@@ -190,7 +193,10 @@ fn read_long(profile: Profile, cells: &[u64], depths: &mut [u32]) -> TraceRead
 pub fn read_trace(profile: Profile, cells: &[u64], depths: &mut [u32]) -> TraceRead
     ensures { λ r. ⌜ ReadsTrace profile (now (cells .entry)) (now (depths .entry)) r (now (depths .exit)) ⌝ }
 {
-    if cells.len() / Row::WIDTH <= 4096 {
+    if cells.len() / Row::WIDTH <= FEW_ROWS {
+        return read_few(profile, cells, depths);
+    }
+    if cells.len() / Row::WIDTH <= SHORT_LIST {
         return read_short(profile, cells, depths);
     }
     read_long(profile, cells, depths)

@@ -5,6 +5,11 @@
 //! Then reading: a trace of one loop with passes of up to 12 levels, read by the proved library and by the checker, and copied into a buffer
 //! that is there. One line a number of rows, measured in the same way.
 //!
+//! Then pass 2 and the finisher: rows with loops, beside a map in plain Rust and a copy. One line a number of rows, a distance of LOOP rows and an
+//! order of them: nanoseconds a row, the medians of rounds in which the four are made in turn, and the ratios of the medians, with the least and
+//! the greatest of a round; and so pass 3 beside a copy. `bench passes [LOG2_OF_THE_MOST_ROWS]` makes these alone, and
+//! `bench passes LOG2 EVERY ORDER` one round of a line.
+//!
 //! Then dumps: rows of a finished trace, equal rows and random ones, written and read back by the proved library and in plain Rust. One line a
 //! kind and a number of rows, measured in the same way.
 
@@ -15,7 +20,17 @@ fn main() {
 
 #[cfg(all(listed, archive))]
 fn main() {
-    let most = std::env::args().nth(1).map_or(20, |word| word.parse().expect("a number"));
+    let words: Vec<String> = std::env::args().skip(1).collect();
+    let number = |i: usize| words.get(i).map(|word| word.parse::<usize>().expect("a number"));
+    if words.first().is_some_and(|word| word == "passes") {
+        let most = number(1).unwrap_or(18);
+        if let Some(order) = words.get(3) {
+            return measure::passes_once(most, number(2).unwrap(), order);
+        }
+        measure::all_passes(most);
+        return measure::all_inverting(most);
+    }
+    let most = number(0).unwrap_or(20);
     println!("nodes rows fragment proved listed copy proved/listed proved/copy Mrows/s");
     for nodes in [10, 10_000] {
         for log in [10, 14, 17, 20].into_iter().filter(|&log| log <= most) {
@@ -29,6 +44,8 @@ fn main() {
     for log in (10..=20).step_by(2).filter(|&log| log <= most) {
         measure::reading(1 << log);
     }
+    measure::all_passes(most.min(18));
+    measure::all_inverting(most);
     println!("kind rows bytes/row write_dump plain ratio read_dump plain ratio");
     for log in [10, 14, 17].into_iter().filter(|&log| log <= most) {
         measure::dumps(1 << log);
@@ -42,38 +59,22 @@ mod measure {
 
     use core_trace::calls::{DecoderState, Positions, records};
     use core_trace::checker::check;
+    use core_trace::clock::time;
     use core_trace::dump;
-    use core_trace::exports::{BUILT, WIDTH, dump_size, finish, read_dump, read_trace, replay_calls, write_dump};
+    use core_trace::exports::{
+        BUILT, MODULUS, WIDTH, dump_size, finish, invert_helper_column, read_dump, read_trace, replay_calls, set_loop_body_multiplicities,
+        write_dump,
+    };
     use core_trace::forest::{Forests, Queues};
     use core_trace::listed::convert;
     use core_trace::listed::parallel::passes;
     use core_trace::listed::processor::Call;
     use core_trace::listed::whole::{self, Start};
-    use core_trace::overflow::{invert_deep_halts, overflow_rule};
+    use core_trace::loops::{Order, count_by_map, loop_counts, loop_rows};
+    use core_trace::overflow::{invert_deep_halts, is_inverse, overflow_rule};
     use core_trace::profile::EXAMPLE;
     use core_trace::random::{Rng, Run, long_run};
     use core_trace::words::long_word;
-
-    /// Seconds and nanoseconds, as C has them on this machine.
-    #[repr(C)]
-    struct Time(i64, i64);
-
-    unsafe extern "C" {
-        fn clock_gettime(clock: i32, time: *mut Time) -> i32;
-    }
-
-    /// The processor time that the work takes on this thread, in nanoseconds.
-    fn time<T>(work: impl FnOnce() -> T) -> (f64, T) {
-        let now = || {
-            let mut t = Time(0, 0);
-            // SAFETY: 3 is CLOCK_THREAD_CPUTIME_ID, and the struct is C's.
-            assert_eq!(unsafe { clock_gettime(3, &mut t) }, 0);
-            t.0 as f64 * 1e9 + t.1 as f64
-        };
-        let from = now();
-        let made = work();
-        (now() - from, made)
-    }
 
     /// A fragment's records, its part of the queues, and its state.
     struct Fragment {
@@ -163,6 +164,89 @@ mod measure {
         }
         let [a, b, c] = best.map(|t| t / rows as f64);
         println!("{rows} {a:.1} {b:.1} {c:.1} {:.2} {:.2} {:.2}", a / b, a / c, 1e3 / a);
+    }
+
+    pub fn all_passes(most: usize) {
+        println!("rows every order pass2 map finish copy pass2/map finish/copy");
+        for order in Order::ALL {
+            for every in [8, 1024] {
+                for log in (12..=20).step_by(2).filter(|&log| log <= most) {
+                    passes_line(log, every, order, 9 << (18usize.saturating_sub(log) / 2));
+                }
+            }
+        }
+    }
+
+    /// Pass 3: the helper cells of a column inverted.
+    pub fn all_inverting(most: usize) {
+        println!("rows helper-cells pass3 copy pass3/copy");
+        for (kind, limit) in [("below-1024", 1024), ("any", MODULUS)] {
+            [14, 18].into_iter().filter(|&log| log <= most).for_each(|log| inverting_line(log, kind, limit, 9));
+        }
+    }
+
+    pub fn passes_once(log: usize, every: usize, order: &str) {
+        let order = Order::ALL.into_iter().find(|o| format!("{o:?}") == order).expect("InOrder, Shuffled, EarlyEnd or LateEnd");
+        passes_line(log, every, order, 1);
+    }
+
+    fn passes_line(log: usize, every: usize, order: Order, rounds: usize) {
+        let rows = (1 << log) - 1;
+        let mut start = loop_rows(&EXAMPLE, rows, every, order);
+        let counts: Vec<u32> = (0..rows).step_by(1024).map(|row| (rows - row).min(1024) as u32).collect();
+        let built = vec![16; BUILT * counts.len()];
+        start.resize((rows + 1) * WIDTH, 0);
+        let mut cells = start.clone();
+        let mut times = [const { Vec::new() }; 4];
+        for _ in 0..rounds {
+            let mut made = [const { Vec::new() }; 3];
+            for (i, made) in made.iter_mut().enumerate() {
+                let (t, _) = time(|| black_box(&mut cells).copy_from_slice(black_box(&start)));
+                if i == 0 {
+                    times[3].push(t);
+                }
+                let (t, _) = time(|| match i {
+                    0 => set_loop_body_multiplicities(EXAMPLE, black_box(&mut cells), rows).unwrap(),
+                    1 => count_by_map(&EXAMPLE, black_box(&mut cells), rows).unwrap(),
+                    _ => finish(EXAMPLE, black_box(&mut cells), 1024, &counts, &built, &[5; 16], rows + 1).unwrap(),
+                });
+                times[i].push(t);
+                *made = loop_counts(&EXAMPLE, &cells, rows);
+            }
+            assert!(made[0] == made[1] && made[0] == made[2], "the three differ");
+        }
+        let [a, b, c, d] = times.each_ref().map(|times| median(times) / rows as f64);
+        let [p, q] = [(0, 1), (2, 3)].map(|(i, j)| range(&times[i], &times[j]));
+        println!("2^{log} {every} {order:?} {a:.1} {b:.1} {c:.1} {d:.1} {:.2} {p} {:.2} {q}", a / b, c / d);
+    }
+
+    fn inverting_line(log: usize, kind: &str, limit: u64, rounds: usize) {
+        let (rows, rng) = (1 << log, Rng::new(7));
+        let start: Vec<u64> = (0..rows * WIDTH).map(|_| rng.next() % limit).collect();
+        let mut cells = start.clone();
+        let mut times = [const { Vec::new() }; 2];
+        for _ in 0..rounds {
+            let (t, _) = time(|| black_box(&mut cells).copy_from_slice(black_box(&start)));
+            times[1].push(t);
+            let (t, _) = time(|| invert_helper_column(black_box(&mut cells), rows).unwrap());
+            times[0].push(t);
+            let pairs = || start.chunks(WIDTH).zip(cells.chunks(WIDTH)).map(|(a, b)| (a[WIDTH - 1], b[WIDTH - 1]));
+            assert!(pairs().all(|(a, b)| is_inverse(b, a)), "no inverse");
+        }
+        let [a, b] = times.each_ref().map(|times| median(times) / rows as f64);
+        println!("2^{log} {kind} {a:.1} {b:.1} {:.2} {}", a / b, range(&times[0], &times[1]));
+    }
+
+    fn median(times: &[f64]) -> f64 {
+        let mut sorted = times.to_vec();
+        sorted.sort_by(f64::total_cmp);
+        sorted[sorted.len() / 2]
+    }
+
+    /// The least and the greatest ratio of a round.
+    fn range(a: &[f64], b: &[f64]) -> String {
+        let ratios = || a.iter().zip(b).map(|(a, b)| a / b);
+        format!("({:.2}–{:.2})", ratios().fold(f64::MAX, f64::min), ratios().fold(0.0, f64::max))
     }
 
     /// A finished trace of so many rows.

@@ -20,28 +20,32 @@ kindNumbered n = getD (Span ∷ Join ∷ One ∷ Loop ∷ Op ∷ Respan ∷ Repe
 unfoldable pub kindOfCode : Profile → (code : ℕ) → RowKind
 kindOfCode p code = pick (ltb code 128) (rowKindOf (controlToken p code)) (opKind (rowKindOf (controlToken p (code - 128))))
 
--- a table has the number of each one's kind
+-- from this number on, a number tells no kind
+abbrev pub unknownKind : ℕ
+unknownKind = 10
+
+-- a table has the number of each one's kind, or one that tells nothing
 pub record KindTable (p : Profile) (table : List ℕ) : Type 0 where
   pub places : length table ≡ 256
-  pub at-code : (code : ℕ) → code < 256 → kindNumbered (getD table code 0) ≡ kindOfCode p code
+  pub at-code : (code : ℕ) → code < 256 → getD table code 0 < unknownKind → kindNumbered (getD table code 0) ≡ kindOfCode p code
 
--- a number below 10 is the number of the row's kind; from 10 on it says nothing
-abbrev pub Says : Profile → (cells : List ℕ) → (row n : ℕ) → Type 0
-Says p cells row n = n < 10 → kindNumbered n ≡ rowKindOf (tokenAt p cells row)
+-- a number is that of the row's kind, or tells nothing
+abbrev pub TellsKind : Profile → (cells : List ℕ) → (row n : ℕ) → Type 0
+TellsKind p cells row n = n < unknownKind → kindNumbered n ≡ rowKindOf (tokenAt p cells row)
 
 -- whatever the profile, if the table is its
-abbrev pub SaysBy : (table cells : List ℕ) → (row n : ℕ) → Type 0
-SaysBy table cells row n = (p : Profile) → KindTable p table → Says p cells row n
+abbrev pub TellsByTable : (table cells : List ℕ) → (row n : ℕ) → Type 0
+TellsByTable table cells row n = (p : Profile) → KindTable p table → TellsKind p cells row n
 
--- a list that says nothing
+-- a list that tells nothing
 abbrev pub KeepsNothing : (kinds : List ℕ) → Type 0
-KeepsNothing kinds = (row : ℕ) → row < length kinds → getD kinds row 0 ≡ 10
+KeepsNothing kinds = (row : ℕ) → row < length kinds → getD kinds row 0 ≡ unknownKind
 
 -- the table of a profile, and a list with a number for each of the first rows
 pub record KeptKinds (p : Profile) (cells table kinds : List ℕ) : Type 0 where
   pub by-table : KindTable p table
-  pub at-row : (row : ℕ) → row < length kinds → Says p cells row (getD kinds row 0)
+  pub at-row : (row : ℕ) → row < length kinds → TellsKind p cells row (getD kinds row 0)
 
 -- whatever the profile, if table and list are its
-abbrev pub SaysKept : (table kinds cells : List ℕ) → (row n : ℕ) → Type 0
-SaysKept table kinds cells row n = (p : Profile) → KeptKinds p cells table kinds → Says p cells row n
+abbrev pub TellsKept : (table kinds cells : List ℕ) → (row n : ℕ) → Type 0
+TellsKept table kinds cells row n = (p : Profile) → KeptKinds p cells table kinds → TellsKind p cells row n

@@ -8,28 +8,22 @@ use native.Mathlib.Omega.{arith}
 use native.Mathlib.Decide.{ℕ-discrete, decLt, decLe}
 use lib.ListN.{length, getD, set, replicate}
 use lib.Seq.{getD-set-same, getD-set-other, set-set, set-comm, set-getD}
-use lib.Dec.{eqb}
-use borrow.Author.Tests.{eq-eqb, ne-eqb, eqb-true}
-use Rattle.groups.proofs.OneGroup.{both}
+use borrow.Author.Tests.{eq-eqb, ne-eqb}
 use Rattle.rows.specs.declared.records.profile.Profile.{Profile}
-use Rattle.rows.specs.records.Buffers.{bufferRow, opcodeOf, h4Of}
+use Rattle.rows.specs.records.Buffers.{bufferRow, opcodeOf}
 use Rattle.rows.specs.passes.Passes.{flaggedEnd}
 use Rattle.rows.specs.ways.LoopCounts.{isLoop, nextAddr, endsIn, lacksFrom, countedFrom, Alike}
+use Rattle.rows.proofs.cycles.PartScans.{never}
 use Rattle.rows.proofs.passes.RowCells.{alike-refl, alike-set, opcode-alike, cell-alike}
 use Rattle.rows.proofs.passes.RowsFrom.{ends-one, ends-more, lacks-no, lacks-skip, lacks-last}
 use Rattle.rows.proofs.passes.Written.{counted-last, counted-skip, counted-loop}
 use Rattle.rows.proofs.passes.Tallies.{zero-at}
 
 -- a test does not say both
-pub clash : (b : Bool) {T : Type 0} → b ≡ true → b ≡ false → T
-clash true e f = let z : _≡_ {A = ℕ} 0 1 = cc in absurd (omega arith)
-clash false e f = let z : _≡_ {A = ℕ} 0 1 = cc in absurd (omega arith)
+clash : (b : Bool) {T : Type 0} → b ≡ true → b ≡ false → T
+clash b e f = never (sym f ∙ e)
 
--- the opcode of a flagged END, and a row of another opcode
-pub flagged-opcode : (p : Profile) (row : List ℕ) → flaggedEnd p row ≡ true → opcodeOf row ≡ p .end
-unfolding flaggedEnd
-flagged-opcode p row e = eqb-true (opcodeOf row) (p .end) (both (eqb (opcodeOf row) (p .end)) (eqb (h4Of row) 1) e .0)
-
+-- a row of another opcode is no flagged END
 pub not-flagged : (p : Profile) (row : List ℕ) → (opcodeOf row ≡ p .end → ⊥) → flaggedEnd p row ≡ false
 unfolding flaggedEnd
 not-flagged p row n = rw (ne-eqb (opcodeOf row) (p .end) n)
@@ -86,18 +80,18 @@ abbrev IsOpen : (stack : List ℕ) → (depth j : ℕ) → Type 0
 IsOpen stack depth j = (k : ℕ) × (0 < k) × (k ≤ depth) × (getD stack k 0 ≡ j)
 
 -- a LOOP row before row i is open or has a body END
-pub record Ended (p : Profile) (c : List ℕ) (rows : ℕ) (stack : List ℕ) (depth i : ℕ) : Type 0 where
+pub record LoopsEnded (p : Profile) (c : List ℕ) (rows : ℕ) (stack : List ℕ) (depth i : ℕ) : Type 0 where
   pub inside : (k : ℕ) → getD stack k 0 ≤ i
   pub each : (j : ℕ) → j < i → isLoop p (bufferRow j c) ≡ true → IsOpen stack depth j ⊎ (0 < endsIn p rows c (nextAddr j c))
 
-pub ended-start : (p : Profile) (c : List ℕ) (rows n : ℕ) → Ended p c rows (replicate n 0) 0 0
+pub ended-start : (p : Profile) (c : List ℕ) (rows n : ℕ) → LoopsEnded p c rows (replicate n 0) 0 0
 ended-start p c rows n = record { inside = λ k. omega (arith, zero-at n k); each = λ j h. absurd (omega arith) }
 
-module _ (p : Profile) (c : List ℕ) (rows : ℕ) (stack : List ℕ) (depth i : ℕ) (was : Ended p c rows stack depth i) where
-  pub ended-other : isLoop p (bufferRow i c) ≡ false → Ended p c rows stack depth (i + 1)
+module _ (p : Profile) (c : List ℕ) (rows : ℕ) (stack : List ℕ) (depth i : ℕ) (was : LoopsEnded p c rows stack depth i) where
+  pub ended-other : isLoop p (bufferRow i c) ≡ false → LoopsEnded p c rows stack depth (i + 1)
   ended-other n = record { inside = λ k. omega (arith, was .inside k); each = earlier p c i (was .each) n }
 
-  pub ended-opens : depth + 1 < length stack → Ended p c rows (set stack (depth + 1) i) (depth + 1) (i + 1)
+  pub ended-opens : depth + 1 < length stack → LoopsEnded p c rows (set stack (depth + 1) i) (depth + 1) (i + 1)
   ended-opens room = record { inside = λ k. inside-at k (ℕ-discrete k (depth + 1)); each = λ j h l. each-at j h l (ℕ-discrete j i) }
     where
       inside-at : (k : ℕ) → Dec (k ≡ depth + 1) → getD (set stack (depth + 1) i) k 0 ≤ i + 1
@@ -113,7 +107,7 @@ module _ (p : Profile) (c : List ℕ) (rows : ℕ) (stack : List ℕ) (depth i :
       each-at j h l (no e) = stays j (was .each j (omega (arith, e)) l)
 
   pub ended-ends : (left : ℕ) → i + 1 < rows → left ≤ depth → depth ≤ left + 1 → isLoop p (bufferRow i c) ≡ false → flaggedEnd p (bufferRow i c) ≡ true →
-      nextAddr (getD stack depth 0) c ≡ nextAddr i c → Ended p c rows stack left (i + 1)
+      nextAddr (getD stack depth 0) c ≡ nextAddr i c → LoopsEnded p c rows stack left (i + 1)
   ended-ends left low most least n f same = record { inside = λ k. omega (arith, was .inside k); each = earlier p c i (λ j h l. stays j (was .each j h l)) n }
     where
       found : (j k : ℕ) → k ≤ depth → 0 < k → getD stack k 0 ≡ j → Dec (k ≤ left) → IsOpen stack left j ⊎ (0 < endsIn p rows c (nextAddr j c))
@@ -141,7 +135,7 @@ none-lacks p count rows c h (suc n) i low = by-place (none-lacks p count rows c 
     by-place rest (no l) = lacks-last p count rows i c (omega (arith, l))
     by-place rest (yes l) = by-row rest l (isLoop p (bufferRow i c)) refl
 
-pub ended-all : (p : Profile) (c : List ℕ) (rows : ℕ) (stack : List ℕ) (i : ℕ) → rows ≤ i + 1 → Ended p c rows stack 0 i → lacksFrom p (endsIn p rows c) rows 0 c ≡ false
+pub ended-all : (p : Profile) (c : List ℕ) (rows : ℕ) (stack : List ℕ) (i : ℕ) → rows ≤ i + 1 → LoopsEnded p c rows stack 0 i → lacksFrom p (endsIn p rows c) rows 0 c ≡ false
 ended-all p c rows stack i low was = none-lacks p (endsIn p rows c) rows c (λ j l e. has j (was .each j (omega arith) e)) rows 0 (omega arith)
   where
     has : (j : ℕ) → IsOpen stack 0 j ⊎ (0 < endsIn p rows c (nextAddr j c)) → 0 < endsIn p rows c (nextAddr j c)
@@ -151,7 +145,7 @@ ended-all p c rows stack i low was = none-lacks p (endsIn p rows c) rows c (λ j
 -- THE COUNTS, WHERE THE ADDRESSES BEHIND THE LOOP ROWS RISE
 
 -- of the rows before row i: the LOOP rows hold the counts so far, and no two have one address behind them
-pub record Counted (p : Profile) (first cells stack : List ℕ) (depth above i : ℕ) : Type 0 where
+pub record LoopsCounted (p : Profile) (first cells stack : List ℕ) (depth above i : ℕ) : Type 0 where
   pub inside : (k : ℕ) → getD stack k 0 ≤ i
   pub opened : (k : ℕ) → 0 < k → k ≤ depth → (getD stack k 0 < i) × (isLoop p (bufferRow (getD stack k 0) first) ≡ true)
   pub counts : (j : ℕ) → j < i → isLoop p (bufferRow j first) ≡ true → getD cells (49 * j + 23) 0 ≡ endsIn p (i + 1) first (nextAddr j first)
@@ -159,7 +153,7 @@ pub record Counted (p : Profile) (first cells stack : List ℕ) (depth above i :
   pub one : (j k : ℕ) → j < i → k < i → isLoop p (bufferRow j first) ≡ true → isLoop p (bufferRow k first) ≡ true → nextAddr j first ≡ nextAddr k first → j ≡ k
   pub none : (x : ℕ) → above ≤ x → endsIn p (i + 1) first x ≡ 0
 
-pub counted-start : (p : Profile) (c : List ℕ) (n : ℕ) → Counted p c c (replicate n 0) 0 0 0
+pub counted-start : (p : Profile) (c : List ℕ) (n : ℕ) → LoopsCounted p c c (replicate n 0) 0 0 0
 counted-start p c n = record {
   inside = λ k. omega (arith, zero-at n k);
   opened = λ k a b. absurd (omega arith);
@@ -169,8 +163,8 @@ counted-start p c n = record {
   none = λ x h. ends-one p x c;
 }
 
-module _ (p : Profile) (first cells stack : List ℕ) (depth above i : ℕ) (was : Counted p first cells stack depth above i) where
-  pub counted-other : isLoop p (bufferRow i first) ≡ false → flaggedEnd p (bufferRow i first) ≡ false → Counted p first cells stack depth above (i + 1)
+module _ (p : Profile) (first cells stack : List ℕ) (depth above i : ℕ) (was : LoopsCounted p first cells stack depth above i) where
+  pub counted-other : isLoop p (bufferRow i first) ≡ false → flaggedEnd p (bufferRow i first) ≡ false → LoopsCounted p first cells stack depth above (i + 1)
   counted-other n f = record {
     inside = λ k. omega (arith, was .inside k);
     opened = λ k a b. (omega (arith, was .opened k a b .0), was .opened k a b .1);
@@ -181,7 +175,7 @@ module _ (p : Profile) (first cells stack : List ℕ) (depth above i : ℕ) (was
   }
 
   module _ (l : isLoop p (bufferRow i first) ≡ true) (f : flaggedEnd p (bufferRow i first) ≡ false) (high : above ≤ nextAddr i first) (room : depth + 1 < length stack) (fits : 49 * i + 23 < length cells) where
-    pub counted-opens : Counted p first (set cells (49 * i + 23) 0) (set stack (depth + 1) i) (depth + 1) (nextAddr i first + 1) (i + 1)
+    pub counted-opens : LoopsCounted p first (set cells (49 * i + 23) 0) (set stack (depth + 1) i) (depth + 1) (nextAddr i first + 1) (i + 1)
     counted-opens = record {
       inside = λ k. inside-at k (ℕ-discrete k (depth + 1));
       opened = λ k a b. opened-at k a b (ℕ-discrete k (depth + 1));
@@ -220,7 +214,7 @@ module _ (p : Profile) (first cells stack : List ℕ) (depth above i : ℕ) (was
     abbrev top : ℕ
     top = getD stack depth 0
 
-    pub counted-ends : 49 * top + 23 < length cells → Counted p first (set cells (49 * top + 23) (getD cells (49 * top + 23) 0 + 1)) stack left above (i + 1)
+    pub counted-ends : 49 * top + 23 < length cells → LoopsCounted p first (set cells (49 * top + 23) (getD cells (49 * top + 23) 0 + 1)) stack left above (i + 1)
     counted-ends fits = record {
       inside = λ k. omega (arith, was .inside k);
       opened = λ k a b. let o = was .opened k a (omega arith) in (omega (arith, o .0), o .1);
@@ -307,7 +301,7 @@ module _ (p : Profile) (count : ℕ → ℕ) (rows : ℕ) where
       by-place rest (yes l) = by-row rest l (isLoop p (bufferRow i c)) refl
 
 -- behind the last row but one the LOOP rows hold their counts
-pub counted-all : (p : Profile) (first cells stack : List ℕ) (depth above i rows : ℕ) → Counted p first cells stack depth above i → Alike cells first → i ≤ rows - 1 → rows ≤ i + 1 →
+pub counted-all : (p : Profile) (first cells stack : List ℕ) (depth above i rows : ℕ) → LoopsCounted p first cells stack depth above i → Alike cells first → i ≤ rows - 1 → rows ≤ i + 1 →
     countedFrom p (endsIn p rows first) rows 0 cells ≡ cells
 counted-all p first cells stack depth above i rows was g most low = settled p (endsIn p rows first) rows cells holds rows 0 (omega arith) (omega arith)
   where

@@ -4,10 +4,11 @@ use mathlib.Core.Bool.{false, and-true, and-false}
 use mathlib.Core.List.{List, [], _∷_}
 use Prim.Native.Nat.{ℕ, zero, suc, _+_, _*_, _/_, _%_, _<_, _≤_}
 use native.Mathlib.Omega.{arith}
-use lib.Dec.{eqb}
+use native.Mathlib.Decide.{ℕ-discrete}
+use lib.Dec.{eqb, ltb}
 use lib.ListN.{length, getD, set, take, drop, length-set}
 use lib.Seq.{getD-take, getD-drop, getD-set-other}
-use borrow.Author.Tests.{eq-eqb, ne-eqb}
+use borrow.Author.Tests.{eq-eqb, ne-eqb, lt-ltb, le-ltb}
 use Rattle.field.specs.Modulus.{P}
 use Rattle.field.specs.Cells.{cellAt, reduced}
 use Rattle.field.proofs.CellLaws.{getD-reduced, reduced-take}
@@ -49,9 +50,13 @@ opcode-cells c i =
     ap lowBits (reduced-take 7 (drop 7 (bufferRow i c))) ∙ seven (reduced (drop 7 (bufferRow i c)))
     ∙ rw (bit c i 0 (omega arith), bit c i 1 (omega arith), bit c i 2 (omega arith), bit c i 3 (omega arith), bit c i 4 (omega arith), bit c i 5 (omega arith), bit c i 6 (omega arith))
 
--- a row without the highest bit has a low opcode
-pub low-opcode : (c : List ℕ) (i : ℕ) → cellAt c (49 * i + 13) % 2 ≡ 0 → opcodeOf (bufferRow i c) < 64
-low-opcode c i e = omega (arith, opcode-cells c i, e)
+-- the rows without the highest bit are those of a low opcode
+pub low-opcode : (c : List ℕ) (i : ℕ) → eqb (cellAt c (49 * i + 13) % 2) 0 ≡ ltb (opcodeOf (bufferRow i c)) 64
+low-opcode c i = by-bit (ℕ-discrete (cellAt c (49 * i + 13) % 2) 0)
+  where
+    by-bit : Dec (cellAt c (49 * i + 13) % 2 ≡ 0) → eqb (cellAt c (49 * i + 13) % 2) 0 ≡ ltb (opcodeOf (bufferRow i c)) 64
+    by-bit (yes e) = eq-eqb _ _ e ∙ sym (lt-ltb (opcodeOf (bufferRow i c)) 64 (omega (arith, opcode-cells c i, e)))
+    by-bit (no n) = ne-eqb _ _ n ∙ sym (le-ltb (opcodeOf (bufferRow i c)) 64 (omega (arith, opcode-cells c i, n)))
 
 drop-past : (n : ℕ) (c : List ℕ) → length c ≤ n → drop n c ≡ []
 drop-past zero [] h = refl

@@ -1,12 +1,14 @@
 // The second finishing pass, `set_loop_body_multiplicities`: each LOOP row but the last row gets the number of its body's ENDs.
 //
-// LOOP rows are taken some thousands at a time. The addresses behind them are sorted, and one sweep over all rows counts each flagged END at
-// the address behind it; the LOOP rows taken then look their counts up.
+// `nested` is asked first, whether each LOOP row has a body END, and to write the counts. Where it says nothing, the tables answer, and what it
+// wrote is written again: LOOP rows are taken some thousands at a time. The addresses behind them are sorted, and one sweep over all rows
+// counts each flagged END at the address behind it; the LOOP rows taken then look their counts up.
 use crate::passes::nested::all_ended;
 use crate::passes::nested::count_nested;
 use crate::records::buffer::buffer_wrong;
 use crate::records::buffer::decode_opcode;
 use crate::records::buffer::fewer_rows;
+use crate::records::buffer::is_low;
 use crate::records::profile::Profile;
 use crate::records::profile::is_wrong;
 use field::cell::cell;
@@ -38,7 +40,7 @@ fn has_opcode(buffer: &[u64], i: usize, opcode: u8) -> bool
     ensures { λ r. ⌜ r ≡ eqb (opcodeOf (bufferRow i (now (buffer .entry)))) opcode ⌝ }
 {
     if 64 <= opcode {
-        if cell(buffer, Row::WIDTH * i + 13) % 2 == 0 {
+        if is_low(buffer, i) {
             return false;
         }
     }

@@ -1,7 +1,9 @@
 // The second finishing pass where loops nest as in a run: the LOOP rows that are open stand on a stack, and each flagged END is the body's of the
-// innermost one. Where that is not so, nothing is said, and `multiplicity` counts by a table.
+// innermost one. A sweep says that it is so, or gives up and says nothing, be it in the last row; then `multiplicity` answers by tables. The sweep
+// that writes may have written counts before it gives up: the tables write all of them again.
 use crate::passes::multiplicity::addr_at;
 use crate::records::buffer::decode_opcode;
+use crate::records::buffer::is_low;
 use crate::records::profile::Profile;
 use field::cell::cell;
 use field::felt::Felt;
@@ -12,8 +14,7 @@ ghost use mathlib.Core.Bool.{true, false};
 ghost use Prim.Native.Nat.{_+_, _*_, _<_, _≤_};
 ghost use lib.ListN.{length};
 ghost use Rattle.groups.specs.Constants.{rowWidth, mostRows};
-ghost use Rattle.rows.specs.records.Buffers.{bufferRow};
-ghost use Rattle.rows.specs.passes.Passes.{flaggedEnd};
+ghost use Rattle.rows.specs.records.Buffers.{bufferRow, opcodeOf};
 ghost use Rattle.rows.specs.ways.LoopCounts.{endsIn, lacksFrom, countedFrom, Alike};
 ghost use Rattle.rows.specs.ways.OpenLoops.{RoleOf};
 
@@ -25,13 +26,16 @@ pub(crate) enum RowRole {
     Unknown,
 }
 
-// A flagged END: whether the row behind it has the address behind LOOP row `top`.
+// An END: whether it is flagged, and the row behind it has the address behind LOOP row `top`.
 fn end_role(profile: Profile, buffer: &[u64], i: usize, depth: usize, top: usize) -> RowRole
-    requires { ⌜ (i < mostRows) × (top < mostRows) × (flaggedEnd profile (bufferRow i (now buffer)) ≡ true) ⌝ }
+    requires { ⌜ (i < mostRows) × (top < mostRows) × (opcodeOf (bufferRow i (now buffer)) ≡ profile .end) ⌝ }
     ensures { λ r. ⌜ RoleOf profile (now (buffer .entry)) i depth top r ⌝ }
 {
     if profile.loop_op == profile.end {
         return RowRole::Unknown;
+    }
+    if cell(buffer, Row::WIDTH * i + Column::H4) != Felt::ONE {
+        return RowRole::Other;
     }
     if depth == 0 {
         return RowRole::Unknown;
@@ -42,16 +46,14 @@ fn end_role(profile: Profile, buffer: &[u64], i: usize, depth: usize, top: usize
     RowRole::Unknown
 }
 
-// What row i is by its opcode, where `depth` LOOP rows are open and `top` is the innermost.
+// What row i is by its opcode, which is decoded once for both questions, where `depth` LOOP rows are open and `top` is the innermost.
 fn decoded_role(profile: Profile, buffer: &[u64], i: usize, depth: usize, top: usize) -> RowRole
     requires { ⌜ (i < mostRows) × (top < mostRows) ⌝ }
     ensures { λ r. ⌜ RoleOf profile (now (buffer .entry)) i depth top r ⌝ }
 {
     let opcode = decode_opcode(buffer, i);
     if opcode == profile.end as u64 {
-        if cell(buffer, Row::WIDTH * i + Column::H4) == Felt::ONE {
-            return end_role(profile, buffer, i, depth, top);
-        }
+        return end_role(profile, buffer, i, depth, top);
     }
     if opcode == profile.loop_op as u64 {
         return RowRole::Opens;
@@ -64,7 +66,7 @@ fn row_role(profile: Profile, buffer: &[u64], i: usize, depth: usize, top: usize
     requires { ⌜ (i < mostRows) × (top < mostRows) ⌝ }
     ensures { λ r. ⌜ RoleOf profile (now (buffer .entry)) i depth top r ⌝ }
 {
-    if cell(buffer, Row::WIDTH * i + 13) % 2 == 0 {
+    if is_low(buffer, i) {
         if 64 <= profile.loop_op {
             if 64 <= profile.end {
                 return RowRole::Other;
@@ -75,7 +77,7 @@ fn row_role(profile: Profile, buffer: &[u64], i: usize, depth: usize, top: usize
 }
 
 // How many LOOP rows are open behind the END of a body: as many as before where another pass follows it.
-fn open_behind(profile: Profile, buffer: &[u64], next: usize, depth: usize) -> usize
+fn left_open(profile: Profile, buffer: &[u64], next: usize, depth: usize) -> usize
     requires { ⌜ 0 < depth ⌝ }
     ensures { λ r. ⌜ (r ≤ depth) × (depth ≤ r + 1) ⌝ }
 {
@@ -108,7 +110,7 @@ pub(crate) fn all_ended(profile: Profile, buffer: &[u64], rows: usize) -> bool
                 i += 1;
             }
             RowRole::Ends => {
-                depth = open_behind(profile, buffer, i + 1, depth);
+                depth = left_open(profile, buffer, i + 1, depth);
                 i += 1;
             }
             RowRole::Unknown => {
@@ -155,7 +157,7 @@ pub(crate) fn count_nested(profile: Profile, buffer: &mut [u64], rows: usize) ->
             }
             RowRole::Ends => {
                 buffer[Row::WIDTH * top + Column::GROUP_COUNT] += 1;
-                depth = open_behind(profile, buffer, i + 1, depth);
+                depth = left_open(profile, buffer, i + 1, depth);
                 i += 1;
             }
             RowRole::Unknown => {

@@ -2,6 +2,9 @@
 use field::cell::cell;
 use groups::constants::Row;
 ghost use mathlib.Core.Path.{_≡_};
+ghost use Prim.Native.Nat.{_<_};
+ghost use lib.Dec.{ltb};
+ghost use Rattle.groups.specs.Constants.{mostRows};
 ghost use Rattle.rows.specs.records.Buffers.{bufferRow, opcodeOf, bufferWrong, fewerRows};
 
 // Refusal 11: the buffer has a part of a row, or over 2^24 rows.
@@ -33,4 +36,12 @@ pub fn decode_opcode(buffer: &[u64], i: usize) -> u64
         + 16 * (cell(buffer, at + 11) % 2)
         + 32 * (cell(buffer, at + 12) % 2)
         + 64 * (cell(buffer, at + 13) % 2)
+}
+
+// Whether row i's opcode is below 64, by its highest bit alone.
+pub(crate) fn is_low(buffer: &[u64], i: usize) -> bool
+    requires { ⌜ i < mostRows ⌝ }
+    ensures { λ r. ⌜ r ≡ ltb (opcodeOf (bufferRow i (now (buffer .entry)))) 64 ⌝ }
+{
+    cell(buffer, Row::WIDTH * i + 13) % 2 == 0
 }

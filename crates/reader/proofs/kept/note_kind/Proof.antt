@@ -3,7 +3,7 @@ use mathlib.Core.Path.{_∙_, ap}
 use mathlib.Core.Logic.{⊎-elim}
 use borrow.Author.Needs.{needs}
 use lib.ListN.{length, length-set}
-use Rattle.reader.proofs.KeptLaws.{kept-more}
+use Rattle.reader.proofs.KindLaws.{kinds-more}
 use Rattle.reader.proofs.kept.note_kind.Statement.{statement}
 use Rattle.reader.proofs.kept.note_kind.Tie as tie
 
@@ -16,9 +16,9 @@ returns : tie.Need-returns
 returns c =
     let n = c .before .before .number-by in
     let s = c .before .before .before .before .before in (
-      c .kind-said .ensures (n .ensures _ (s .pre .by-table)),
+      c .kind-told .ensures (n .ensures _ (s .pre .by-table)),
       ⊎-elim
-          (λ w. rw (w .1) (kept-more _ _ _ _ _ (n .result) (s .pre) (n .ensures _ (s .pre .by-table))))
+          (λ w. rw (w .1) (kinds-more _ _ _ _ _ (n .result) (s .pre) (n .ensures _ (s .pre .by-table))))
           (λ w. rw (w .1) (s .pre))
           (c .before .if1 .came),
     )

@@ -2,7 +2,7 @@
 use mathlib.Core.Path.{_∙_}
 use Prim.Native.Nat.{_-_}
 use borrow.Author.Needs.{needs}
-use Rattle.reader.proofs.KeptLaws.{TableTo, table-none, table-more, table-all}
+use Rattle.reader.proofs.KindLaws.{TableTo, table-none, table-more, table-all}
 use Rattle.reader.proofs.kept.table_of.Statement.{statement}
 use Rattle.reader.proofs.kept.table_of.Tie as tie
 
@@ -24,7 +24,7 @@ array-write-table c = search needs
 loop-again : tie.Need-loop-again Inv-loop μ-loop
 loop-again c =
     let l = c .before .before .before .loop in
-    table-more _ (l .table) (l .code) (c .number-of .result) (l .inv) (search needs) (c .number-of .ensures ∙ c .before .kind-of-code .ensures)
+    table-more _ (l .table) (l .code) (c .kind-number .result) (l .inv) (search needs) (c .kind-number .ensures ∙ c .before .kind-of-code .ensures)
 
 returns : tie.Need-returns Inv-loop μ-loop
 returns c = table-all _ (c .before .loop .table) (c .before .loop .code) (c .before .loop .inv) (search needs)

@@ -9,6 +9,9 @@ read-trace-spec =
     (tie.spec
     (λ c κs. tt)
     (λ c. search needs)
+    (λ c. c .before .before .read-few .ensures)
+    (λ c κs. tt)
+    (λ c. search needs)
     (λ c. c .before .before .read-short .ensures)
     (λ c κs. tt)
     (λ c. search needs)

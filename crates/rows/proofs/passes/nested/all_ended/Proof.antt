@@ -8,12 +8,13 @@ use borrow.Author.Tests.{eqb-true}
 use denote.Ref.{now}
 use lib.ListN.{length, length-set, length-replicate}
 use Rattle.rows.specs.ways.OpenLoops.{RoleOf}
-use Rattle.rows.proofs.passes.OpenLoops.{clash, Ended, ended-start, ended-other, ended-opens, ended-ends, ended-all}
+use Rattle.rows.proofs.cycles.PartScans.{never}
+use Rattle.rows.proofs.passes.OpenLoops.{LoopsEnded, ended-start, ended-other, ended-opens, ended-ends, ended-all}
 use Rattle.rows.proofs.passes.nested.all_ended.Statement.{statement}
 use Rattle.rows.proofs.passes.nested.all_ended.Tie as tie
 
 abbrev Inv-loop : tie.InvT-loop
-Inv-loop profile buffer rows stack₀ depth₀ i₀ stack depth i = (i ≤ rows) × (length stack ≡ 65) × (depth ≤ 64) × Ended profile buffer rows stack depth i
+Inv-loop profile buffer rows stack₀ depth₀ i₀ stack depth i = (i ≤ rows) × (length stack ≡ 65) × (depth ≤ 64) × LoopsEnded profile buffer rows stack depth i
 
 abbrev μ-loop : tie.MeasureT-loop
 μ-loop profile buffer rows stack₀ depth₀ i₀ stack depth i = rows - i
@@ -38,9 +39,9 @@ loop-again-2 c =
     let a = c .before .before .before .before .before .before .before .args in
     (omega arith, simp length-set (l .inv .1), omega arith, ended-opens (a .profile) (now (a .buffer)) (a .rows) (l .stack) (l .depth) (l .i) (l .inv .3) (omega arith))
 
-open-behind-requires : tie.Need-open-behind-requires Inv-loop μ-loop
+left-open-requires : tie.Need-left-open-requires Inv-loop μ-loop
 unfolding RoleOf
-open-behind-requires c κs =
+left-open-requires c κs =
     let r = rw (c .enum-told3 .given .1) at (c .before .before .row-role .ensures) in
     r .2
 
@@ -50,15 +51,15 @@ loop-again-3 c =
     let l = c .before .before .before .before .before .loop in
     let a = c .before .before .before .before .before .before .before .args in
     let r = rw (c .before .enum-told3 .given .1) at (c .before .before .before .row-role .ensures) in
-    let o = c .open-behind .ensures in
-    (omega arith, l .inv .1, omega (arith, o .0), ended-ends (a .profile) (now (a .buffer)) (a .rows) (l .stack) (l .depth) (l .i) (l .inv .3) (c .open-behind .result) (omega arith) (o .0) (o .1) (r .0) (r .1) (r .3))
+    let o = c .left-open .ensures in
+    (omega arith, l .inv .1, omega (arith, o .0), ended-ends (a .profile) (now (a .buffer)) (a .rows) (l .stack) (l .depth) (l .i) (l .inv .3) (c .left-open .result) (omega arith) (o .0) (o .1) (r .0) (r .1) (r .3))
 
 returns-3 : tie.Need-returns-3 Inv-loop μ-loop
 returns-3 c =
     let l = c .before .loop in
     let a = c .before .before .before .args in
     λ e.
-    let none : l .depth ≡ 0 = eqb-true (l .depth) 0 e in
+    let none : l .depth ≡ 0 = omega (arith, eqb-true (l .depth) _ e) in
     ended-all (a .profile) (now (a .buffer)) (a .rows) (l .stack) (l .i) (omega arith) (rw none at (l .inv .3))
 
 pub all-ended-spec : {M : Type 1} → statement M
@@ -77,7 +78,7 @@ all-ended-spec =
     (λ c. omega arith)
     loop-again
     (λ c. search needs)
-    (λ c e. clash false e refl)
+    (λ c. never)
     (λ c. omega arith)
     (λ c. omega arith)
     (λ c. omega arith)
@@ -86,10 +87,10 @@ all-ended-spec =
     loop-again-2
     (λ c. search needs)
     (λ c. omega arith)
-    open-behind-requires
+    left-open-requires
     (λ c. omega arith)
     (λ c. omega arith)
     loop-again-3
     (λ c. search needs)
-    (λ c e. clash false e refl)
+    (λ c. never)
     returns-3)

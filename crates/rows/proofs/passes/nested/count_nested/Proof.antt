@@ -13,13 +13,14 @@ use Rattle.rows.specs.records.Buffers.{bufferRow}
 use Rattle.rows.specs.ways.LoopCounts.{isLoop, nextAddr, endsIn, countedFrom, Alike}
 use Rattle.rows.specs.ways.OpenLoops.{RoleOf}
 use Rattle.rows.proofs.passes.RowCells.{alike-refl, alike-set, opcode-alike, flagged-alike, cell-alike}
-use Rattle.rows.proofs.passes.OpenLoops.{clash, Counted, counted-start, counted-other, counted-opens, counted-ends, count-small, still-counted, counted-all}
+use Rattle.rows.proofs.cycles.PartScans.{never}
+use Rattle.rows.proofs.passes.OpenLoops.{LoopsCounted, counted-start, counted-other, counted-opens, counted-ends, count-small, still-counted, counted-all}
 use Rattle.rows.proofs.passes.nested.count_nested.Statement.{statement}
 use Rattle.rows.proofs.passes.nested.count_nested.Tie as tie
 
 abbrev Inv-loop : tie.InvT-loop
 Inv-loop profile buffer₀ rows stack₀ depth₀ above₀ i₀ buffer stack depth above i =
-    (i ≤ rows - 1) × (length stack ≡ 65) × (depth ≤ 64) × Alike buffer buffer₀ × Counted profile buffer₀ buffer stack depth above i
+    (i ≤ rows - 1) × (length stack ≡ 65) × (depth ≤ 64) × Alike buffer buffer₀ × LoopsCounted profile buffer₀ buffer stack depth above i
     × (countedFrom profile (endsIn profile rows buffer₀) rows 0 buffer ≡ countedFrom profile (endsIn profile rows buffer₀) rows 0 buffer₀)
 
 abbrev μ-loop : tie.MeasureT-loop
@@ -67,7 +68,7 @@ loop-again-2 c =
     )
 
 -- the innermost open LOOP row stands before row i
-top-row : (p : Profile) (first cells stack : List ℕ) (depth above i : ℕ) → Counted p first cells stack depth above i → 0 < depth → (getD stack depth 0 < i) × (isLoop p (bufferRow (getD stack depth 0) first) ≡ true)
+top-row : (p : Profile) (first cells stack : List ℕ) (depth above i : ℕ) → LoopsCounted p first cells stack depth above i → 0 < depth → (getD stack depth 0 < i) × (isLoop p (bufferRow (getD stack depth 0) first) ≡ true)
 top-row p first cells stack depth above i was some = was .opened depth some (omega arith)
 
 slice-read-buffer : tie.Need-slice-read-buffer Inv-loop μ-loop
@@ -90,9 +91,9 @@ add-buffer-3 c =
 slice-write-buffer-2 : tie.Need-slice-write-buffer-2 Inv-loop μ-loop
 slice-write-buffer-2 c = slice-read-buffer c
 
-open-behind-requires : tie.Need-open-behind-requires Inv-loop μ-loop
+left-open-requires : tie.Need-left-open-requires Inv-loop μ-loop
 unfolding RoleOf
-open-behind-requires c κs =
+left-open-requires c κs =
     let r = rw (c .before .before .enum-told3 .given .1) at (c .before .before .before .before .row-role .ensures) in
     r .2
 
@@ -109,13 +110,13 @@ loop-again-3 c =
     let same : nextAddr top first ≡ nextAddr (l .i) first = sym (cell-alike (l .buffer) first (l .inv .3) (top + 1) 6 (omega arith)) ∙ r .3 ∙ cell-alike (l .buffer) first (l .inv .3) (l .i + 1) 6 (omega arith) in
     let t = top-row (a .profile) first (l .buffer) (l .stack) (l .depth) (l .above) (l .i) (l .inv .4) (r .2) in
     let y : isLoop (a .profile) (bufferRow top (l .buffer)) ≡ true = rw (opcode-alike (l .buffer) first (l .inv .3) top) (t .1) in
-    let o = c .open-behind .ensures in
+    let o = c .left-open .ensures in
     let count : ℕ = getD (l .buffer) (49 * top + 23) 0 + 1 in (
       omega arith,
       l .inv .1,
       omega (arith, o .0),
       alike-set (l .buffer) first top count (l .inv .3),
-      counted-ends (a .profile) first (l .buffer) (l .stack) (l .depth) (l .above) (l .i) (l .inv .4) n f (r .2) same (c .open-behind .result) (o .0) (omega (arith, l .inv .3 .size, t .0)),
+      counted-ends (a .profile) first (l .buffer) (l .stack) (l .depth) (l .above) (l .i) (l .inv .4) n f (r .2) same (c .left-open .result) (o .0) (omega (arith, l .inv .3 .size, t .0)),
       still-counted (a .profile) (endsIn (a .profile) (a .rows) first) (a .rows) top count (l .buffer) (omega (arith, t .0)) y ∙ l .inv .5,
     )
 
@@ -145,9 +146,9 @@ count-nested-spec =
     (λ c. omega arith)
     (λ c κs. omega arith)
     (λ c. c .before .before .before .before .before .before .before .before .loop .inv .3 .size)
-    (λ c. (c .before .before .before .before .before .before .before .before .loop .inv .3, c .before .before .before .before .before .before .before .before .loop .inv .5, λ e. clash false e refl))
+    (λ c. (c .before .before .before .before .before .before .before .before .loop .inv .3, c .before .before .before .before .before .before .before .before .loop .inv .5, never))
     (λ c. c .before .before .before .before .before .before .before .before .before .loop .inv .3 .size)
-    (λ c. (c .before .before .before .before .before .before .before .before .before .loop .inv .3, c .before .before .before .before .before .before .before .before .before .loop .inv .5, λ e. clash false e refl))
+    (λ c. (c .before .before .before .before .before .before .before .before .before .loop .inv .3, c .before .before .before .before .before .before .before .before .before .loop .inv .5, never))
     (λ c. omega arith)
     (λ c. omega arith)
     (λ c. omega arith)
@@ -167,12 +168,12 @@ count-nested-spec =
     add-buffer-3
     slice-write-buffer-2
     (λ c. omega arith)
-    open-behind-requires
+    left-open-requires
     (λ c. omega arith)
     (λ c. omega arith)
     loop-again-3
     (λ c. search needs)
     (λ c. c .before .before .before .before .before .loop .inv .3 .size)
-    (λ c. (c .before .before .before .before .before .loop .inv .3, c .before .before .before .before .before .loop .inv .5, λ e. clash false e refl))
+    (λ c. (c .before .before .before .before .before .loop .inv .3, c .before .before .before .before .before .loop .inv .5, never))
     (λ c. c .before .loop .inv .3 .size)
     returns-4)

@@ -1,12 +1,12 @@
--- `kept::number_of` meets its contract.
+-- `kept::kind_number` meets its contract.
 use borrow.Author.Needs.{needs}
 use Rattle.reader.specs.ways.KeptKinds.{kindNumbered}
-use Rattle.reader.proofs.kept.number_of.Statement.{statement}
-use Rattle.reader.proofs.kept.number_of.Tie as tie
+use Rattle.reader.proofs.kept.kind_number.Statement.{statement}
+use Rattle.reader.proofs.kept.kind_number.Tie as tie
 
-pub number-of-spec : {M : Type 1} → statement M
+pub kind-number-spec : {M : Type 1} → statement M
 unfolding kindNumbered
-number-of-spec =
+kind-number-spec =
     tie.close
     (tie.spec
     (λ c. search needs)

@@ -20,7 +20,7 @@ use Rattle.theory_readings.specs.Tokens.{controlToken, inSpanOf, opBitsOf, allB
 use Rattle.theory_readings.specs.Readings.{rowAt, allRows}
 use Rattle.reader.specs.Rows.{wordIn, tokenIn, rowKindOf}
 use Rattle.reader.specs.ways.FromRow.{opKind}
-use Rattle.reader.specs.ways.KeptKinds.{kindNumbered, kindOfCode, KindTable, Says, SaysBy, KeepsNothing, KeptKinds}
+use Rattle.reader.specs.ways.KeptKinds.{kindNumbered, kindOfCode, unknownKind, KindTable, TellsKind, TellsByTable, KeepsNothing, KeptKinds}
 use Rattle.reader.specs.declared.token.RowKind.the-variants.{Nothing}
 use Rattle.reader.proofs.RowTokens.{token-of}
 use Rattle.reader.proofs.CellTokens.{cell-of, opcode-of, bits-of, kind-control, kind-op}
@@ -46,15 +46,15 @@ numbered-rest (suc (suc (suc (suc (suc (suc (suc (suc (suc n))))))))) r = refl
 
 -- THE TABLE
 
--- the table up to a code
+-- the table up to a code, each kind told
 pub record TableTo (p : Profile) (table : List ℕ) (to : ℕ) : Type 0 where
   pub places : length table ≡ 256
   pub below : to ≤ 256
   pub at-code : (code : ℕ) → code < to → kindNumbered (getD table code 0) ≡ kindOfCode p code
 
 module _ (p : Profile) where
-  pub table-none : TableTo p (replicate 256 10) 0
-  table-none = record { places = length-replicate {A = ℕ} 256 10; below = omega arith; at-code = λ code h. absurd (omega arith) }
+  pub table-none : TableTo p (replicate 256 unknownKind) 0
+  table-none = record { places = length-replicate {A = ℕ} 256 unknownKind; below = omega arith; at-code = λ code h. absurd (omega arith) }
 
   pub table-more : (table : List ℕ) (to n : ℕ) → TableTo p table to → to < 256 → kindNumbered n ≡ kindOfCode p to → TableTo p (set table to n) (to + 1)
   table-more table to n t h e = record { places = length-set table to n ∙ t .places; below = omega arith; at-code = λ code k. by code (eqb code to) refl k }
@@ -66,36 +66,55 @@ module _ (p : Profile) where
       by code false s k = rw (getD-set-other table to code n 0 (eqb-false code to s)) (t .at-code code (omega (arith, eqb-false code to s)))
 
   pub table-all : (table : List ℕ) (to : ℕ) → TableTo p table to → 256 ≤ to → KindTable p table
-  table-all table to t h = record { places = t .places; at-code = λ code k. t .at-code code (omega arith) }
+  table-all table to t h = record { places = t .places; at-code = λ code k told. t .at-code code (omega arith) }
+
+  -- one that tells nothing
+  pub table-unknown : KindTable p (replicate 256 unknownKind)
+  table-unknown = record {
+    places = length-replicate {A = ℕ} 256 unknownKind;
+    at-code = λ code k told. absurd (omega (arith, told, getD-replicate {A = ℕ} 256 code unknownKind 0 k));
+  }
 
 -- THE LIST
 
+-- how many numbers the lists have, as in `src/kept.rt`
+abbrev pub fewRows : ℕ
+fewRows = 4
+
+abbrev pub shortList : ℕ
+shortList = 4096
+
+abbrev pub longList : ℕ
+longList = 65536
+
 -- one more row of which nothing is known
-pub forget-more : (kinds : List ℕ) (row : ℕ) → row < length kinds → ((i : ℕ) → i < row → getD kinds i 0 ≡ 10) → (i : ℕ) → i < row + 1 → getD (set kinds row 10) i 0 ≡ 10
+pub forget-more : (kinds : List ℕ) (row : ℕ) → row < length kinds → ((i : ℕ) → i < row → getD kinds i 0 ≡ unknownKind) → (i : ℕ) → i < row + 1 → getD (set kinds row unknownKind) i 0 ≡ unknownKind
 forget-more kinds row inside before i h = by (eqb i row) refl
   where
-    by : (same : Bool) → eqb i row ≡ same → getD (set kinds row 10) i 0 ≡ 10
+    by : (same : Bool) → eqb i row ≡ same → getD (set kinds row unknownKind) i 0 ≡ unknownKind
     by true s =
         let is : i ≡ row = eqb-true i row s in
-        rw is (getD-set-same kinds row 10 0 inside)
-    by false s = rw (getD-set-other kinds row i 10 0 (eqb-false i row s)) (before i (omega (arith, eqb-false i row s)))
+        rw is (getD-set-same kinds row unknownKind 0 inside)
+    by false s = rw (getD-set-other kinds row i unknownKind 0 (eqb-false i row s)) (before i (omega (arith, eqb-false i row s)))
 
 module _ (p : Profile) (cells table : List ℕ) where
   -- nothing is kept
-  pub kept-nothing : (kinds : List ℕ) → KindTable p table → KeepsNothing kinds → KeptKinds p cells table kinds
-  kept-nothing kinds t none = record { by-table = t; at-row = λ row h k. absurd (omega (arith, k, none row h)) }
+  pub kinds-unknown : (kinds : List ℕ) → KindTable p table → KeepsNothing kinds → KeptKinds p cells table kinds
+  kinds-unknown kinds t none = record { by-table = t; at-row = λ row h k. absurd (omega (arith, k, none row h)) }
 
-  pub kept-none : (n : ℕ) → KindTable p table → KeptKinds p cells table (replicate n 10)
-  kept-none n t = kept-nothing (replicate n 10) t (λ row h. getD-replicate {A = ℕ} n row 10 0 (omega (arith, h, length-replicate {A = ℕ} n 10)))
+  pub kinds-none : (n : ℕ) → KindTable p table → KeptKinds p cells table (replicate n unknownKind)
+  kinds-none n t =
+      kinds-unknown (replicate n unknownKind) t
+      (λ row h. getD-replicate {A = ℕ} n row unknownKind 0 (omega (arith, h, length-replicate {A = ℕ} n unknownKind)))
 
   -- one more
-  pub kept-more : (kinds : List ℕ) (row n : ℕ) → KeptKinds p cells table kinds → Says p cells row n → KeptKinds p cells table (set kinds row n)
-  kept-more kinds row n kept said = record { by-table = kept .by-table; at-row = λ i h. by i (eqb i row) refl (omega (arith, h, length-set kinds row n)) }
+  pub kinds-more : (kinds : List ℕ) (row n : ℕ) → KeptKinds p cells table kinds → TellsKind p cells row n → KeptKinds p cells table (set kinds row n)
+  kinds-more kinds row n kept told = record { by-table = kept .by-table; at-row = λ i h. by i (eqb i row) refl (omega (arith, h, length-set kinds row n)) }
     where
-      by : (i : ℕ) (same : Bool) → eqb i row ≡ same → i < length kinds → Says p cells i (getD (set kinds row n) i 0)
+      by : (i : ℕ) (same : Bool) → eqb i row ≡ same → i < length kinds → TellsKind p cells i (getD (set kinds row n) i 0)
       by i true s h =
           let is : i ≡ row = eqb-true i row s in
-          rw (is, getD-set-same kinds row n 0 (omega (arith, is, h))) said
+          rw (is, getD-set-same kinds row n 0 (omega (arith, is, h))) told
       by i false s h = rw (getD-set-other kinds row i n 0 (eqb-false i row s)) (kept .at-row i h)
 
 -- THE BITS OF A ROW
@@ -174,11 +193,11 @@ module _ (cells : List ℕ) (row : ℕ) (inside : row < length cells / 49) where
             (ap (λ (x : ℕ). opKind (rowKindOf (controlToken p x))) (e ∙ sym opcode-is) ∙ kind-op p _ all-bits (λ z. n (omega (arith, z, in-span-is))))
 
     -- and by the table
-    pub said-by-table : (table : List ℕ) → SaysBy table cells row (getD table (opcodeThere + 128 * cell 22) 0)
-    said-by-table table p t h =
-        t .at-code (opcodeThere + 128 * cell 22) (omega (arith, bits))
+    pub told-by-table : (table : List ℕ) → TellsByTable table cells row (getD table (opcodeThere + 128 * cell 22) 0)
+    told-by-table table p t h =
+        t .at-code (opcodeThere + 128 * cell 22) (omega (arith, bits)) h
         ∙ kind-by-code p
 
--- nothing is said
-pub said-none : (table cells : List ℕ) (row : ℕ) → SaysBy table cells row 10
-said-none table cells row p t h = absurd (omega arith)
+-- nothing is told
+pub told-none : (table cells : List ℕ) (row : ℕ) → TellsByTable table cells row unknownKind
+told-none table cells row p t h = absurd (omega arith)
