@@ -1,6 +1,6 @@
 -- Where there is room, a row is put and cells are copied in.
-use mathlib.Core.Path.{_≡_, refl, ap, _∙_}
-use mathlib.Core.List.{List, [], _∷_, _++_, append-assoc}
+use mathlib.Core.Path.{_≡_, refl, _∙_}
+use mathlib.Core.List.{List, _++_, append-assoc}
 use Prim.Native.Nat.{ℕ, _+_, _*_, _/_, _≤_, _<_}
 use native.Mathlib.Nat.{add-assoc}
 use native.Mathlib.Omega.{arith}
@@ -8,14 +8,13 @@ use borrow.Author.Tests.{lt-ltb, le-leb}
 use lib.ListN.{length, length-append}
 use lib.Seq.{paste, take-length, length-paste, take-paste, drop-paste, drop-drop}
 use Rattle.field.specs.Cells.{reduced}
-use Rattle.field.proofs.CellLaws.{length-reduced, reduced-append}
+use Rattle.field.proofs.CellLaws.{length-reduced}
 use Rattle.rows.specs.records.Built.{systemCells, stackCells}
 use Rattle.rows.specs.records.Cells.{rowCells, putRow, rowWritten, putIn, copiedIn}
 use Rattle.rows.specs.records.DecoderRows.{decoderCells}
 use Rattle.rows.specs.declared.records.decoder_row.DecoderRow.{DecoderRow}
 use Rattle.rows.specs.declared.records.state.StackCols.{StackCols}
 use Rattle.rows.specs.declared.records.state.SystemCols.{SystemCols}
-use Rattle.rows.proofs.records.Windows.{all-16}
 
 pub row-fits : (buffer : List ℕ) (r : ℕ) (cells : List ℕ) → 49 * r + 49 ≤ length buffer → rowWritten buffer r cells ≡ putRow buffer r cells
 unfolding rowWritten
@@ -30,7 +29,7 @@ pub row-next : (r cells : ℕ) → r < cells / 49 → cells < 184467440737095516
 row-next r cells h l = omega arith
 
 -- numbers put in where they fit
-put-fits : (buffer : List ℕ) (at : ℕ) (cells : List ℕ) → at + length cells ≤ length buffer → putIn buffer at cells ≡ paste buffer at cells (length cells)
+pub put-fits : (buffer : List ℕ) (at : ℕ) (cells : List ℕ) → at + length cells ≤ length buffer → putIn buffer at cells ≡ paste buffer at cells (length cells)
 unfolding putIn
 put-fits buffer at cells h = rw (le-leb (at + length cells) (length buffer) h)
 
@@ -66,26 +65,12 @@ pub copied-row : (buffer : List ℕ) (r : ℕ) (cells : List ℕ) → length cel
 unfolding copiedIn
 copied-row buffer r cells e h = put-row buffer r (reduced cells) (length-reduced cells ∙ e) h
 
--- cells copied in right after others are copied in with them
-pub copied-on : (buffer : List ℕ) (at n : ℕ) (xs ys : List ℕ) → length xs ≡ n → at + n + length ys ≤ length buffer → copiedIn (copiedIn buffer at xs) (at + n) ys ≡ copiedIn buffer at (xs ++ ys)
-unfolding copiedIn
-copied-on buffer at n xs ys e h =
-    rw (reduced-append xs ys) (put-on buffer at n (reduced xs) (reduced ys) (length-reduced xs ∙ e) (rw (length-reduced ys) h))
+-- a row put in by two parts
+pub row-put : (buffer : List ℕ) (r : ℕ) (xs ys : List ℕ) → length xs ≡ 30 → length ys ≡ 19 → 49 * r + 49 ≤ length buffer → putIn (putIn buffer (49 * r) xs) (49 * r + 30) ys ≡ putRow buffer r (xs ++ ys)
+row-put buffer r xs ys a b h =
+    rw (put-on buffer (49 * r) 30 xs ys a (omega arith))
+    (put-row buffer r (xs ++ ys) (simp length-append (omega arith)) h)
 
--- a row copied in by three parts
-pub row-copied : (buffer : List ℕ) (r : ℕ) (xs ys zs : List ℕ) → length xs ≡ 30 → length ys ≡ 16 → length zs ≡ 3 → 49 * r + 49 ≤ length buffer → copiedIn (copiedIn (copiedIn buffer (49 * r) xs) (49 * r + 30) ys) (49 * r + 46) zs ≡ putRow buffer r (reduced (xs ++ ys ++ zs))
-row-copied buffer r xs ys zs a b c h =
-    rw (
-      copied-on buffer (49 * r) 30 xs ys a (omega arith),
-      copied-on buffer (49 * r) 46 (xs ++ ys) zs (simp length-append (omega arith)) (omega arith),
-    )
-    (copied-row buffer r (xs ++ ys ++ zs) (simp length-append (omega arith)) h)
-
-pub first-30 : (system : SystemCols) (d : DecoderRow) → length (systemCells system ++ decoderCells d) ≡ 30
-unfolding systemCells decoderCells
-first-30 system d = refl
-
-pub cells-by-parts : (system : SystemCols) (d : DecoderRow) (stack : StackCols) → length (stack .top) ≡ 16 → rowCells system d stack ≡ reduced ((systemCells system ++ decoderCells d) ++ stack .top ++ (stack .b0 ∷ stack .b1 ∷ stack .h0 ∷ []))
-unfolding rowCells systemCells decoderCells stackCells
-cells-by-parts system d stack h =
-    ap (λ (l : List ℕ). reduced ((systemCells system ++ decoderCells d) ++ l ++ (stack .b0 ∷ stack .b1 ∷ stack .h0 ∷ []))) (all-16 (stack .top) h)
+pub cells-in-two : (system : SystemCols) (d : DecoderRow) (stack : StackCols) → rowCells system d stack ≡ reduced (systemCells system ++ decoderCells d) ++ reduced (stackCells stack)
+unfolding rowCells systemCells decoderCells reduced
+cells-in-two system d stack = refl

@@ -9,7 +9,8 @@ use borrow.Author.Tests.{ltb-true, leb-false, eqb-true, not-true, not-false, lt-
 use lib.Dec.{leb, ltb, eqb}
 use lib.ListN.{length, getD}
 use Rattle.field.specs.Modulus.{P}
-use Rattle.field.specs.Cells.{read, cellAt}
+use Rattle.field.specs.Cells.{read, cellAt, reduced}
+use Rattle.field.proofs.CellLaws.{read-small}
 use Rattle.groups.specs.Answer.{Answer, accepted, refused, andThen, pick}
 use Rattle.groups.specs.Words.{wordAt, readWord}
 use Rattle.groups.specs.Batches.{recordOf, batchOf, isBatch, batchAt, startsAt}
@@ -30,10 +31,9 @@ use Rattle.rows.specs.declared.records.forest.MastNode.{MastNode}
 use Rattle.rows.specs.declared.records.continuation.Continuation.{Continuation}
 use Rattle.rows.specs.declared.records.continuation.ContextInfo.{ContextInfo}
 use Rattle.rows.specs.declared.records.state.SystemState.{SystemState}
-use Rattle.rows.specs.declared.records.state.StackCols.{StackCols}
 use Rattle.rows.specs.declared.replay.pairs.OpStored.{OpStored}
 use Rattle.rows.specs.declared.replay.pairs.OpFound.{OpFound}
-use Rattle.rows.specs.records.Built.{builtSystem, builtStack}
+use Rattle.rows.specs.records.Built.{builtSystem, builtStack, stackCells}
 use Rattle.rows.specs.records.CallRecords.{of32, conditionIn, calleeIn, infoIn, resumeIn, continuationOn, namesNoKind, continuationIn, namesNothing, storedInRecord, systemIn, stackIn, fewCells, manyCells, registersIn}
 use Rattle.rows.specs.records.Forests.{Forest, nodeId, nodeEntry, nodeOf, slotBlock, nodeAt, opcodeAt, blockOf}
 use Rattle.rows.specs.cycles.Made.{operationMade, resumed}
@@ -99,22 +99,14 @@ system-built r clk h state e = let (few, is) = system-is r state e in rw (is, h 
 -- THE STACK
 
 -- the cells of a record that has its depth
-abbrev stackCols : List ℕ → (depth : ℕ) → StackCols
-stackCols r depth = record {
-  top =
-      cellAt r 23 ∷ cellAt r 22 ∷ cellAt r 21 ∷ cellAt r 20 ∷ cellAt r 19 ∷ cellAt r 18 ∷ cellAt r 17 ∷ cellAt r 16
-      ∷ cellAt r 15 ∷ cellAt r 14 ∷ cellAt r 13 ∷ cellAt r 12 ∷ cellAt r 11 ∷ cellAt r 10 ∷ cellAt r 9 ∷ cellAt r 8 ∷ [];
-  b0 = depth;
-  b1 = cellAt r 25;
-  h0 = depth - 16;
-}
-
-stack-is : (r : List ℕ) (depth : ℕ) → builtStack (stackIn r depth) ≡ stackCols r depth
-unfolding builtStack stackIn cellAt
-stack-is r depth = simp mod-mod
-
-pub stack-built : (r : List ℕ) (depth : ℕ) → of32 23 (getD r 24 0) ≡ accepted depth → builtStack (stackIn r depth) ≡ stackCols r (getD r 24 0)
-stack-built r depth e = let (few, is) = small 23 (getD r 24 0) depth e in rw (is, stack-is r depth)
+pub stack-built : (r : List ℕ) (depth : ℕ) → of32 23 (getD r 24 0) ≡ accepted depth →
+    cellAt r 23 ∷ cellAt r 22 ∷ cellAt r 21 ∷ cellAt r 20 ∷ cellAt r 19 ∷ cellAt r 18 ∷ cellAt r 17 ∷ cellAt r 16
+    ∷ cellAt r 15 ∷ cellAt r 14 ∷ cellAt r 13 ∷ cellAt r 12 ∷ cellAt r 11 ∷ cellAt r 10 ∷ cellAt r 9 ∷ cellAt r 8
+    ∷ getD r 24 0 ∷ cellAt r 25 ∷ (getD r 24 0 - 16) ∷ [] ≡ reduced (stackCells (builtStack (stackIn r depth)))
+unfolding builtStack stackIn stackCells reduced cellAt
+stack-built r depth e =
+    let (few, is) = small 23 (getD r 24 0) depth e in
+    rw (is, read-small depth (omega arith), read-small (depth - 16) (omega arith)) (simp mod-mod)
 
 -- THE HELPERS
 
@@ -157,21 +149,29 @@ three-of-32 x y z e =
     let (b, c) = neither (leb 4294967296 y) _ rest in
     (leb-false _ _ a, leb-false _ _ b, leb-false _ _ c)
 
-pub stores : (s : List ℕ) → (not (eqb (getD s 1 0) 7) || not (eqb (getD s 12 0) 0)) ≡ false
+-- context info that has its depth, or is absent
+abbrev infoBy : (s : List ℕ) → (present : Bool) → ContextInfo
+infoBy s present = pick present (ContextInfo.Is (record { «stack_depth» = getD s 13 0; «next_overflow_addr» = cellAt s 14 })) ContextInfo.Absent
+
+info-by : (s : List ℕ) (present : Bool) → (present && leb 4294967296 (getD s 13 0)) ≡ false
+    → pick present (andThen (of32 23 (getD s 13 0)) (λ depth. accepted (ContextInfo.Is (record { «stack_depth» = depth; «next_overflow_addr» = cellAt s 14 })))) (accepted ContextInfo.Absent) ≡ accepted (infoBy s present)
+info-by s true e = rw (of-32 23 (getD s 13 0) (leb-false _ _ e))
+info-by s false e = refl
+
+pub stores : (s : List ℕ) → (not (eqb (getD s 1 0) 7) || (eqb (getD s 12 0) 1 && leb 4294967296 (getD s 13 0))) ≡ false
     → (leb 4294967296 (getD s 2 0) || (leb 4294967296 (getD s 3 0) || leb 4294967296 (getD s 4 0))) ≡ false → namesNothing s ≡ false
     → StoresOperation (OpStored.Is (nodeId (getD s 2 0)) (getD s 3 0) (getD s 4 0)) s
 unfolding storedInRecord continuationIn namesNoKind continuationOn resumeIn infoIn
 stores s resumes few named =
     let (k, n) = neither (not (eqb (getD s 1 0) 7)) _ resumes in
     let kind = eqb-true (getD s 1 0) 7 (not-false _ k) in
-    let none = eqb-true (getD s 12 0) 0 (not-false _ n) in
     let (id, index, op) = three-of-32 (getD s 2 0) (getD s 3 0) (getD s 4 0) few in (
       record {
         continuation = Continuation.ResumeBasicBlock (nodeId (getD s 2 0)) (getD s 3 0) (getD s 4 0);
         «is_loop_body» = eqb (getD s 5 0) 1;
-        captured = record { «finish_loop_condition» = conditionIn s; «dyn_callee_hash» = calleeIn s; «ctx_info» = ContextInfo.Absent };
+        captured = record { «finish_loop_condition» = conditionIn s; «dyn_callee_hash» = calleeIn s; «ctx_info» = infoBy s (eqb (getD s 12 0) 1) };
       },
-      rw (kind, none, of-32 3 (getD s 2 0) id, of-32 5 (getD s 3 0) index, of-32 6 (getD s 4 0) op, named),
+      rw (kind, of-32 3 (getD s 2 0) id, of-32 5 (getD s 3 0) index, of-32 6 (getD s 4 0) op, info-by s (eqb (getD s 12 0) 1) n, named),
       refl,
     )
 

@@ -1,10 +1,11 @@
 -- One pair of a stretch: what its parts come to.
 use mathlib.Core.Path.{_≡_, refl, sym, _∙_, ap}
 use mathlib.Core.Bool.{Bool, true, false}
-use mathlib.Core.List.{List}
+use mathlib.Core.List.{List, _++_}
 use Prim.Native.Nat.{ℕ, _+_, _-_, _*_, _/_, _<_, _≤_}
 use native.Mathlib.Omega.{arith}
 use lib.ListN.{length, take, drop, getD}
+use Rattle.field.specs.Cells.{reduced}
 use Rattle.groups.specs.Answer.{Answer, accepted, refused, pick}
 use Rattle.groups.specs.Constants.{rowWidth}
 use Rattle.groups.specs.declared.helpers.OperationHelperRegisters.{OperationHelperRegisters}
@@ -17,7 +18,6 @@ use Rattle.rows.specs.declared.records.address_state.DecoderState.{Decod
 use Rattle.rows.specs.declared.records.address_state.Positions.{Positions}
 use Rattle.rows.specs.declared.records.state.SystemState.{SystemState}
 use Rattle.rows.specs.declared.records.state.SystemCols.{SystemCols}
-use Rattle.rows.specs.declared.records.state.StackCols.{StackCols}
 use Rattle.rows.specs.declared.records.decoder_row.DecoderRow.{DecoderRow}
 use Rattle.rows.specs.declared.records.continuation.Used.{Used}
 use Rattle.rows.specs.declared.records.continuation.StoredValues.{StoredValues}
@@ -31,12 +31,13 @@ use Rattle.rows.specs.declared.replay.pairs.PairFound.{PairFound}
 use Rattle.rows.specs.declared.replay.pairs.Walk.{Walk}
 use Rattle.rows.specs.records.Forests.{Forest}
 use Rattle.rows.specs.records.Addresses.{Queues}
-use Rattle.rows.specs.records.Built.{builtSystem, builtStack}
+use Rattle.rows.specs.records.Built.{builtSystem, builtStack, systemCells}
 use Rattle.rows.specs.records.Cells.{rowCells, rowWritten}
-use Rattle.rows.specs.records.DecoderRows.{operation}
-use Rattle.rows.specs.records.CallRecords.{of32, storedInRecord, systemIn, recordAt}
+use Rattle.rows.specs.records.DecoderRows.{operation, decoderCells}
+use Rattle.rows.specs.records.CallRecords.{of32, storedInRecord, systemIn, stackIn, recordAt}
 use Rattle.rows.specs.cycles.Made.{Cursor, cursor, toldMade, made}
-use Rattle.rows.specs.ways.Pairs.{SystemBuilt, StackBuilt, StoresOperation, OperationIn, HelpersIn, pairMade, Makes, ArePair, PutBehind, TakesOperation, TakesPair, Onward, behind, StandsAt}
+use Rattle.rows.specs.ways.Pairs.{SystemBuilt, StackBuilt, RowBehind, StoresOperation, OperationIn, HelpersIn, pairMade, Makes, ArePair, PutBehind, TakesOperation, TakesPair, Onward, behind, StandsAt}
+use Rattle.rows.proofs.records.Rooms.{cells-in-two}
 use Rattle.rows.proofs.replay.PairRecords.{never}
 
 pub makes-told : (r : Made) (answer : Answer MadeRow) → toldMade r ≡ answer → Makes r answer
@@ -44,11 +45,14 @@ makes-told (Made.Row m) answer e = sym e
 makes-told (Made.Refused n) answer e = tt
 
 -- the row that is written, and none where nothing is
-pub put-row : (write : Bool) (before : List ℕ) (row : ℕ) (m : MadeRow) (entry exit : List ℕ) (system : SystemCols) (decoder : DecoderRow) (stack : StackCols) →
-    write ≡ true → SystemBuilt before system → StackBuilt before stack → decoder ≡ m .row → exit ≡ rowWritten entry row (rowCells system decoder stack) →
-    PutBehind write before row m entry exit
-put-row write before row m entry exit system decoder stack w sys stk d put state depth es ed =
-    rw (w, ← (sys state es), ← (stk depth ed), ← d) put
+pub row-behind : (before : List ℕ) (row : ℕ) (decoder : DecoderRow) (entry exit first last : List ℕ) (system : SystemCols) →
+    SystemBuilt before system → first ≡ reduced (systemCells system ++ decoderCells decoder) → StackBuilt before last → exit ≡ rowWritten entry row (first ++ last) → RowBehind before row decoder entry exit
+row-behind before row decoder entry exit first last system sys f stk put state depth es ed =
+    rw (cells-in-two (builtSystem state) decoder (builtStack (stackIn before depth)), ← (sys state es), ← f, ← (stk depth ed)) put
+
+pub put-row : (write : Bool) (before : List ℕ) (row : ℕ) (m : MadeRow) (entry exit : List ℕ) (decoder : DecoderRow) →
+    write ≡ true → decoder ≡ m .row → RowBehind before row decoder entry exit → PutBehind write before row m entry exit
+put-row write before row m entry exit decoder w d put state depth es ed = rw (w, ← d) (put state depth es ed)
 
 pub put-none : (write : Bool) (before : List ℕ) (row : ℕ) (m : MadeRow) (fragment : List ℕ) → write ≡ false → PutBehind write before row m fragment fragment
 put-none write before row m fragment w state depth es ed = rw w

@@ -6,6 +6,7 @@ use mathlib.Core.List.{List}
 use Prim.Native.Nat.{ℕ, zero, suc, _+_, _-_, _/_, _<_, _≤_}
 use lib.Dec.{ltb, eqb}
 use lib.ListN.{length, getD}
+use Rattle.field.specs.Cells.{reduced}
 use Rattle.groups.specs.Answer.{Answer, accepted, andThen, pick}
 use Rattle.groups.specs.Constants.{rowWidth, mostRows}
 use Rattle.groups.specs.Helpers.{helpersAnswer}
@@ -16,7 +17,7 @@ use Rattle.rows.specs.declared.records.ids.MastNodeId.{MastNodeId}
 use Rattle.rows.specs.declared.records.profile.Profile.{Profile}
 use Rattle.rows.specs.declared.records.state.SystemState.{SystemState}
 use Rattle.rows.specs.declared.records.state.SystemCols.{SystemCols}
-use Rattle.rows.specs.declared.records.state.StackCols.{StackCols}
+use Rattle.rows.specs.declared.records.decoder_row.DecoderRow.{DecoderRow}
 use Rattle.rows.specs.declared.records.continuation.Continuation.{Continuation}
 use Rattle.rows.specs.declared.records.continuation.StoredValues.{StoredValues}
 use Rattle.rows.specs.declared.records.continuation.Used.{Used}
@@ -34,7 +35,7 @@ use Rattle.rows.specs.declared.replay.pairs.Followed.{Followed}
 use Rattle.rows.specs.records.Forests.{Forest}
 use Rattle.rows.specs.records.Addresses.{Queues}
 use Rattle.rows.specs.records.Captured.{readCaptured}
-use Rattle.rows.specs.records.Built.{builtSystem, builtStack}
+use Rattle.rows.specs.records.Built.{builtSystem, builtStack, stackCells}
 use Rattle.rows.specs.records.Cells.{rowCells, rowWritten}
 use Rattle.rows.specs.records.DecoderRows.{operation}
 use Rattle.rows.specs.records.CallRecords.{of32, storedInRecord, systemIn, stackIn, registersIn, callIn, recordAt}
@@ -65,8 +66,14 @@ ClkBehind clk r = clk < 4294967296 → r ≡ clk + 1
 abbrev pub SystemBuilt : List ℕ → SystemCols → Type 0
 SystemBuilt c system = (state : SystemState) → systemIn c ≡ accepted state → system ≡ builtSystem state
 
-abbrev pub StackBuilt : List ℕ → StackCols → Type 0
-StackBuilt c stack = (depth : ℕ) → of32 23 (getD c 24 0) ≡ accepted depth → stack ≡ builtStack (stackIn c depth)
+abbrev pub StackBuilt : List ℕ → (cells : List ℕ) → Type 0
+StackBuilt c cells = (depth : ℕ) → of32 23 (getD c 24 0) ≡ accepted depth → cells ≡ reduced (stackCells (builtStack (stackIn c depth)))
+
+-- a row that is written behind the cycle of a record
+abbrev pub RowBehind : (before : List ℕ) → (row : ℕ) → DecoderRow → (entry exit : List ℕ) → Type 0
+RowBehind before row decoder entry exit =
+    (state : SystemState) (depth : ℕ) → systemIn before ≡ accepted state → of32 23 (getD before 24 0) ≡ accepted depth
+    → exit ≡ rowWritten entry row (rowCells (builtSystem state) decoder (builtStack (stackIn before depth)))
 
 -- a storing that stores an operation
 abbrev pub StoresOperation : OpStored → List ℕ → Type 0

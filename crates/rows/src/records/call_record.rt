@@ -343,6 +343,9 @@ pub fn registers_at(numbers: &[u64]) -> RegistersFound
     ensures { λ r. ⌜ toldRegisters r ≡ registersIn (now (numbers .entry)) ⌝ }
 {
     let kind = number_at(numbers, 0);
+    if kind == 18 {
+        return RegistersFound::Are(OperationHelperRegisters::Empty);
+    }
     let a = word_at(numbers, 26);
     let b = word_at(numbers, 30);
     registers_of(kind, a, b)

@@ -25,8 +25,9 @@ use crate::records::forest::kind_at;
 use crate::records::forest::slot_block;
 use crate::records::ids::MastNodeId;
 use crate::records::profile::Profile;
+use crate::records::row::first_cells;
 use crate::records::row::fragment_wrong;
-use crate::records::row::write_row;
+use crate::records::row::put_cells;
 use crate::records::state::StackCols;
 use crate::records::state::SystemCols;
 use crate::replay::directory::directory_entry;
@@ -49,7 +50,7 @@ ghost use lib.ListN.{length};
 ghost use Rattle.rows.specs.records.Lent.{lentForest, lentQueues};
 ghost use Rattle.rows.specs.cycles.Made.{cursor};
 ghost use Rattle.rows.specs.replay.Calls.{lentSetting};
-ghost use Rattle.rows.specs.ways.Pairs.{ClkBehind, SystemBuilt, StackBuilt, StoresOperation, OperationIn, HelpersIn, pairMade, Makes, ArePair, TakesOperation, TakesPair, Walks, BuiltBefore, StandsAt, Follows};
+ghost use Rattle.rows.specs.ways.Pairs.{ClkBehind, SystemBuilt, StackBuilt, StoresOperation, OperationIn, HelpersIn, RowBehind, pairMade, Makes, ArePair, TakesOperation, TakesPair, Walks, BuiltBefore, StandsAt, Follows};
 
 // What moves from pair to pair: the record that comes next, the row it is for, the address state, the queue positions, and what the last
 // cycle used up.
@@ -117,10 +118,11 @@ fn over_16(depth: u64) -> u64
 }
 
 // The stack cells that a cycle's record builds.
-fn stack_before(c: &[u64]) -> StackCols
+fn stack_before(c: &[u64]) -> [u64; 19]
     ensures { λ r. ⌜ StackBuilt (now (c .entry)) r ⌝ }
 {
-    let top = [
+    let depth = number_at(c, 24);
+    [
         cell(c, 23),
         cell(c, 22),
         cell(c, 21),
@@ -137,21 +139,26 @@ fn stack_before(c: &[u64]) -> StackCols
         cell(c, 10),
         cell(c, 9),
         cell(c, 8),
-    ];
-    let depth = number_at(c, 24);
-    StackCols {
-        top,
-        b0: depth,
-        b1: cell(c, 25),
-        h0: over_16(depth),
-    }
+        depth,
+        cell(c, 25),
+        over_16(depth),
+    ]
 }
 
-// The operation that a storing's record stores, without context info.
+// Writes the row of a pair, behind the cycle of a record.
+fn put_behind(before: &[u64], row: usize, decoder: DecoderRow, fragment: &mut [u64])
+    ensures { λ _. ⌜ RowBehind (now (before .entry)) row decoder (now (fragment .entry)) (now (fragment .exit)) ⌝ }
+{
+    let first = first_cells(system_before(before), decoder);
+    let last = stack_before(before);
+    put_cells(fragment, row, first, last);
+}
+
+// The operation that a storing's record stores.
 fn operation_of(s: &[u64]) -> OpStored
     ensures { λ r. ⌜ StoresOperation r (now (s .entry)) ⌝ }
 {
-    if (number_at(s, 1) != 7) | (number_at(s, 12) != 0) {
+    if (number_at(s, 1) != 7) | ((number_at(s, 12) == 1) & (4294967296 <= number_at(s, 13))) {
         return OpStored::Not;
     }
     let id = number_at(s, 2);
@@ -270,13 +277,7 @@ fn operation_pair(
             cells.context.group_count_in_block,
             helpers,
         );
-        write_row(
-            fragment,
-            row,
-            system_before(before),
-            decoder,
-            stack_before(before),
-        );
+        put_behind(before, row, decoder, fragment);
     }
     PairFound::Taken(PairEnd {
         state,
@@ -377,13 +378,7 @@ fn any_pair(
     let next_at = found.at;
     let used = found.used;
     if write {
-        write_row(
-            fragment,
-            row,
-            system_before(before),
-            decoder,
-            stack_before(before),
-        );
+        put_behind(before, row, decoder, fragment);
     }
     PairFound::Taken(PairEnd {
         state: next_state,

@@ -7,11 +7,9 @@ use Rattle.rows.proofs.replay.pairs.any_pair.Tie as tie
 
 returns-2 : tie.Need-returns-2
 returns-2 c =
-    let w = c .before .before in
-    let i = w .before .before .before .before in
-    let k = i .before .before .before .before .before in
+    let k = c .before .before .before .before .before .before .before .before .before in
     let m = k .made .given .0 .0 in
-    (m, rw (k .made .given .1) at (k .before .before .made-of .ensures), refl, refl, refl, put-row _ _ _ m _ _ _ _ _ (i .if1 .taken) (w .before .before .system-before .ensures) (w .before .stack-before .ensures) refl (w .write-row .ensures))
+    (m, rw (k .made .given .1) at (k .before .before .made-of .ensures), refl, refl, refl, put-row _ _ _ m _ _ _ (c .before .before .before .before .if1 .taken) refl (c .before .before .put-behind .ensures))
 
 returns-3 : tie.Need-returns-3
 returns-3 c =
@@ -27,8 +25,6 @@ any-pair-spec =
     (λ c. search needs)
     (λ c. search needs)
     (λ c. search needs)
-    (λ c κs. search needs)
-    (λ c κs. search needs)
     (λ c κs. search needs)
     (λ c. search needs)
     returns-2

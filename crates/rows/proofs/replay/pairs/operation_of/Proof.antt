@@ -5,26 +5,26 @@ use Rattle.rows.proofs.replay.PairRecords.{three-of-32, stores}
 use Rattle.rows.proofs.replay.pairs.operation_of.Statement.{statement}
 use Rattle.rows.proofs.replay.pairs.operation_of.Tie as tie
 
-cast-t13 : tie.Need-cast-t13
-cast-t13 c =
+cast-t14 : tie.Need-cast-t14
+cast-t14 c =
     let w = c .before .before in
     let d = w .before in
     let b = d .before in
-    omega (arith, three-of-32 (b .before .number-at3 .result) (b .number-at4 .result) (d .number-at5 .result) (w .if2 .left) .0)
-
-cast-t15 : tie.Need-cast-t15
-cast-t15 c =
-    let w = c .before .before in
-    let d = w .before in
-    let b = d .before in
-    omega (arith, three-of-32 (b .before .number-at3 .result) (b .number-at4 .result) (d .number-at5 .result) (w .if2 .left) .1)
+    omega (arith, three-of-32 (b .before .number-at4 .result) (b .number-at5 .result) (d .number-at6 .result) (w .if2 .left) .0)
 
 cast-t16 : tie.Need-cast-t16
 cast-t16 c =
     let w = c .before .before in
     let d = w .before in
     let b = d .before in
-    omega (arith, three-of-32 (b .before .number-at3 .result) (b .number-at4 .result) (d .number-at5 .result) (w .if2 .left) .2)
+    omega (arith, three-of-32 (b .before .number-at4 .result) (b .number-at5 .result) (d .number-at6 .result) (w .if2 .left) .1)
+
+cast-t17 : tie.Need-cast-t17
+cast-t17 c =
+    let w = c .before .before in
+    let d = w .before in
+    let b = d .before in
+    omega (arith, three-of-32 (b .before .number-at4 .result) (b .number-at5 .result) (d .number-at6 .result) (w .if2 .left) .2)
 
 returns-4 : tie.Need-returns-4
 returns-4 c =
@@ -33,12 +33,13 @@ returns-4 c =
     let b = d .before in
     let a = b .before in
     let k = a .before in
-    let i = k .before in
+    let j = k .before in
+    let i = j .before in
     let n = i .before in
-    rw (a .number-at3 .ensures, b .number-at4 .ensures, d .number-at5 .ensures)
+    rw (a .number-at4 .ensures, b .number-at5 .ensures, d .number-at6 .ensures)
     (stores (n .before .before .args .s .now)
-    (rw (n .number-at .ensures, i .number-at2 .ensures) at (k .if1 .left))
-    (rw (a .number-at3 .ensures, b .number-at4 .ensures, d .number-at5 .ensures) at (w .if2 .left))
+    (rw (n .number-at .ensures, i .number-at2 .ensures, j .number-at3 .ensures) at (k .if1 .left))
+    (rw (a .number-at4 .ensures, b .number-at5 .ensures, d .number-at6 .ensures) at (w .if2 .left))
     (rw (c .before .names-nothing .ensures) at (c .if3 .left)))
 
 pub operation-of-spec : {M : Type 1} → statement M
@@ -47,14 +48,15 @@ operation-of-spec =
     (tie.spec
     (λ c κs. search needs)
     (λ c κs. search needs)
-    (λ c. search needs)
-    (λ c κs. search needs)
-    (λ c κs. search needs)
     (λ c κs. search needs)
     (λ c. search needs)
     (λ c κs. search needs)
+    (λ c κs. search needs)
+    (λ c κs. search needs)
     (λ c. search needs)
-    cast-t13
-    cast-t15
+    (λ c κs. search needs)
+    (λ c. search needs)
+    cast-t14
     cast-t16
+    cast-t17
     returns-4)

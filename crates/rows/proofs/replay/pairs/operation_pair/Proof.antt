@@ -7,8 +7,7 @@ use Rattle.rows.proofs.replay.pairs.operation_pair.Tie as tie
 
 returns-3 : tie.Need-returns-3
 returns-3 c =
-    let w = c .before .before in
-    let n = w .before .before .before .before in
+    let n = c .before .before .before .before in
     let i = n .before in
     let h = i .before .before in
     let a = h .before .before in
@@ -16,7 +15,7 @@ returns-3 c =
     let r = o .before .before in
     let s = r .before .before .before .before .before .before .before .before .before .args in
     operation-taken _ _ _ _ _ _ _ (s .row) _ (s .write) (s .fragment .now) _ _ _ _ _ _ (r .operation-at .ensures) (o .opcode .given .1) (a .helpers-at .ensures) (h .helpers .given .1)
-    (λ m e. put-row _ _ _ m _ _ _ _ _ (i .if1 .taken) (w .before .before .system-before .ensures) (w .before .stack-before .ensures) (n .new-operation .ensures ∙ sym e) (w .write-row .ensures))
+    (λ m e. put-row _ _ _ m _ _ _ (i .if1 .taken) (n .new-operation .ensures ∙ sym e) (c .before .before .put-behind .ensures))
 
 returns-4 : tie.Need-returns-4
 returns-4 c =
@@ -40,8 +39,6 @@ operation-pair-spec =
     (λ c. search needs)
     (λ c. search needs)
     (λ c. search needs)
-    (λ c κs. search needs)
-    (λ c κs. search needs)
     (λ c κs. search needs)
     (λ c κs. search needs)
     (λ c. search needs)
