@@ -862,10 +862,10 @@ fn usual(rng: &Rng, cycle: &mut Cycle, row: usize) {
 }
 
 /// A list of `rows` cycles over one forest of `nodes` nodes, none of them SYSCALL: proper runs of its nodes one after another, and at the end
-/// operations.
+/// operations. The blocks' addresses rise, as those of a VM do.
 pub fn long_run(rng: &Rng, nodes: usize, rows: usize, fragment_size: usize) -> Run {
     let forests = vec![forest(rng, nodes)];
-    let mut writer = Writer::new(rng, &forests, 0);
+    let mut writer = Writer { random_addresses: false, ..Writer::new(rng, &forests, 0) };
     let mut failed = 0;
     while failed < 40 {
         let (pairs, queues) = (writer.pairs.len(), writer.queues.lengths());

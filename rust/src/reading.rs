@@ -233,7 +233,7 @@ pub fn archived(mut cells: Vec<u64>) -> Vec<u64> {
 }
 
 /// The index of an accepted trace of so many program rows, and the place of each program row's innermost block.
-fn indexed(profile: &Profile, cells: &[u64], program: usize) -> (Vec<u32>, Vec<usize>) {
+pub fn indexed(profile: &Profile, cells: &[u64], program: usize) -> (Vec<u32>, Vec<usize>) {
     let starts =
         [profile.span, profile.join, profile.split, profile.loop_op, profile.call, profile.syscall, profile.dyn_op, profile.dyncall];
     let (mut index, mut open, mut blocks) = (Vec::new(), Vec::<usize>::new(), Vec::new());
