@@ -381,7 +381,7 @@ def written():
         "Made by `docs/believed.py` from the sources; not written by hand. These are the definitions that the contracts and signatures of the public",
         "functions and the statements of the claims rest on, in reading order: who has read them knows what these promise. Behind a name stand its first line",
         "(that of the comment above it) and, in brackets, its lines. In a crate, types of `src/` come first; they, and comments, are counted in the lines. Not among",
-        "the claims are document 01's cases (`theory_cases`), what came of cells before change request N2 (`theory_reductions`), and the further laws of docs/THEOREMS.md,",
+        "the claims are document 01's cases (`theory_cases`), what came of cells before change request N2 (`theory_reductions`), and the further laws that docs/theorems lists,",
         "which rest on definitions of their own as well.",
         "",
         "A function counts as public that only another crate of the library calls. Of `reader` these are `validate_keeping` and `kept_kind`, for `index`: `opKind` and what",

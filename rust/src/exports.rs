@@ -17,7 +17,7 @@ pub const MODULUS: u64 = 18446744069414584321;
 /// How many cells are built at a row for the next one: clk, ctx, fn_hash (4); stack top (16), b0, b1, helper.
 pub const BUILT: usize = 25;
 
-/// The number of a refusal, as docs/ARCHIVE.md lists them.
+/// The number of a refusal, as docs/CALLERS.md lists them.
 #[derive(Clone, Copy, Debug, PartialEq, Eq, PartialOrd, Ord)]
 pub struct Refusal(pub u32);
 
@@ -265,7 +265,9 @@ pub fn fixup_stack_and_system_rows(
     })
 }
 
-/// Pass 2: each LOOP row but the last of the first `rows` rows gets the number of ENDs of its body.
+/// Pass 2: of the first `rows` rows, each LOOP row but one in the last of them gets the number of its passes as its group_count: of the END rows
+/// among them, but one in the last, whose h4 is 1 and whose next row has the address of the row after the LOOP row. 14 refuses a LOOP row for which
+/// there is none.
 pub fn set_loop_body_multiplicities(profile: Profile, buffer: &mut [u64], rows: usize) -> Result<(), Refusal> {
     accepted(unsafe { foreign::core_multiplicities(profile, buffer.as_mut_ptr(), buffer.len(), rows) })
 }
