@@ -152,6 +152,11 @@ pub fn records(calls: &[Call]) -> Vec<u64> {
     calls.iter().flat_map(Call::record).collect()
 }
 
+/// The same calls with each storing made twice. Then no single storing stands between two cycles, and the library takes the calls one by one.
+pub fn stored_twice(calls: &[Call]) -> Vec<Call> {
+    calls.iter().flat_map(|call| vec![*call; if matches!(call, Call::Store(_)) { 2 } else { 1 }]).collect()
+}
+
 /// The address state: the current block's address and its parent's.
 #[derive(Clone, Copy, Debug, Default, PartialEq, Eq)]
 #[repr(C)]

@@ -8,8 +8,8 @@ use std::collections::BTreeMap;
 use std::panic::{AssertUnwindSafe, catch_unwind};
 use std::sync::Arc;
 
-use crate::calls::{Call, Positions, first_refused, records};
-use crate::exports::{self, BUILT, WIDTH, replay_calls};
+use crate::calls::{Call, Positions, first_refused, records, stored_twice};
+use crate::exports::{self, BUILT, Refusal, Replayed, WIDTH, replay_calls};
 use crate::forest::Forests;
 use crate::listed::convert;
 use crate::listed::parallel::{CORE_STORAGE_WIDTH, passes};
@@ -18,11 +18,11 @@ use crate::listed::stand_ins::air::{StackCols, SystemCols};
 use crate::listed::stand_ins::core_crate::mast::SparseMastForest;
 use crate::listed::stand_ins::field::Felt;
 use crate::listed::whole::{self, Start, refusal};
-use crate::loops::{behind_an_end, count_by_map, loop_counts, nested_rows, nests, shuffled};
+use crate::loops::{behind_an_end, count_by_map, falling, loop_counts, nested_rows, nests_rising, shuffled};
 use crate::overflow::{DEPTH, HELPER, is_deep_halt, is_inverse, overflow_rule};
 use crate::profile::EXAMPLE;
 use crate::random::{DEPTHS, Rng, Run, first_syscall, raised, raised_run, raised_state};
-use crate::stack::on_painted_stack;
+use crate::stack::{Stack, on_painted_stack};
 
 const P: u64 = 18446744069414584321;
 const IN_SPAN: usize = 22;
@@ -58,6 +58,66 @@ pub fn column(i: usize) -> String {
     }
 }
 
+/// What replays went through. The library takes a storing and its cycle at once where they stand behind another cycle, and calls one by one
+/// elsewhere, so also where each storing is made twice; the words of the stack that are touched tell the two ways apart.
+#[derive(Clone, Copy, Default)]
+pub struct Ways {
+    /// Rows whose cycle and the one before have one storing between them.
+    pub alternating: u64,
+    /// Rows that were also replayed with each storing made twice.
+    pub doubled: u64,
+    /// Accepted first fragments of runs without a row of the first kind and with one, and how many of them touch other words of the stack when
+    /// each storing is made twice.
+    pub firsts: [u64; 2],
+    pub apart: [u64; 2],
+}
+
+impl Ways {
+    /// An accepted fragment that was replayed both ways; of a first one it is said whether the two touched the same words.
+    fn add(&mut self, calls: &[Call], rows: usize, is_apart: Option<bool>) {
+        let alternating = calls.windows(3).filter(|three| matches!(three, [Call::Cycle(_), Call::Store(_), Call::Cycle(_)])).count();
+        self.alternating += alternating as u64;
+        self.doubled += rows as u64;
+        if let Some(is_apart) = is_apart {
+            let kind = usize::from(alternating > 0);
+            self.firsts[kind] += 1;
+            self.apart[kind] += u64::from(is_apart);
+        }
+    }
+    /// These and others.
+    pub fn and(self, other: Self) -> Self {
+        let sum = |a: [u64; 2], b: [u64; 2]| [a[0] + b[0], a[1] + b[1]];
+        Self {
+            alternating: self.alternating + other.alternating,
+            doubled: self.doubled + other.doubled,
+            firsts: sum(self.firsts, other.firsts),
+            apart: sum(self.apart, other.apart),
+        }
+    }
+    /// Whether rows of both kinds were replayed, and the stack showed two ways where there are two, and one where there is one.
+    pub fn are_reached(&self) -> bool {
+        self.alternating > 0 && self.doubled > 0 && self.apart[1] > 0 && self.apart[0] < self.firsts[0]
+    }
+}
+
+impl core::fmt::Display for Ways {
+    fn fmt(&self, f: &mut core::fmt::Formatter<'_>) -> core::fmt::Result {
+        let Self { alternating, doubled, firsts, apart } = self;
+        write!(f, "{alternating} rows from records that alternate storing and cycle, {doubled} rows with each storing made twice; ")?;
+        write!(f, "the stack shows two ways for {} of {} first fragments with such records, ", apart[1], firsts[1])?;
+        write!(f, "for {} of {} without", apart[0], firsts[0])
+    }
+}
+
+/// Does the work, on a painted stack where it is asked for.
+fn on_stack<F: FnOnce() -> T + Send, T: Send>(is_painted: bool, work: F) -> (Option<Stack>, T) {
+    if !is_painted {
+        return (None, work());
+    }
+    let (stack, answer) = on_painted_stack(work);
+    (Some(stack), answer)
+}
+
 /// What was compared.
 #[derive(Default)]
 pub struct Tally {
@@ -86,6 +146,7 @@ pub struct Tally {
     pub counted: [u64; 3],
     pub loops: [u64; 3],
     pub tableless: [u64; 3],
+    pub ways: Ways,
     pub differences: u64,
     /// The first differences, in words.
     pub told: Vec<String>,
@@ -173,8 +234,29 @@ impl Tally {
     fn refused(&mut self, ours: u32, listed: &str) {
         *self.refusals.entry((ours, listed.into())).or_default() += 1;
     }
-    /// Pass 2, held to a map in plain Rust: its answer and every cell. It fills its tables where the loops do not nest as
-    /// in a run, and only there.
+    /// Replays calls into a fragment, and with each storing made twice into a copy of it: the answers and all cells must be the same. The stack
+    /// of both is looked at where it is asked for.
+    fn replay_both_ways(
+        &mut self,
+        calls: &[Call],
+        fragment: &mut [u64],
+        is_painted: bool,
+        replay: impl Fn(&[u64], &mut [u64]) -> Result<Replayed, Refusal> + Sync,
+    ) -> Result<Replayed, Refusal> {
+        let (numbers, doubled, mut copy) = (records(calls), records(&stored_twice(calls)), fragment.to_vec());
+        // Both by the same code, so that their stacks differ by the library's way alone.
+        let lists = [(&numbers, &mut *fragment), (&doubled, &mut copy)];
+        let [(stack, answer), (other, told)] = lists.map(|(list, rows)| on_stack(is_painted, || replay(list, rows)));
+        if told != answer || copy != *fragment {
+            self.differ("pairs of calls and calls one by one differ".into());
+        }
+        if let Ok(made) = answer {
+            self.ways.add(calls, made.rows, is_painted.then_some(stack != other));
+        }
+        answer
+    }
+    /// Pass 2, held to a map in plain Rust: its answer and every cell. It fills its tables where the loops do not nest or the
+    /// addresses behind LOOP rows do not rise, and only there.
     fn hold_to_map(&mut self, kind: usize, given: &[u64]) {
         let rows = given.len() / WIDTH;
         let (mut made, mut wanted) = (given.to_vec(), given.to_vec());
@@ -186,16 +268,16 @@ impl Tally {
         if answer.map_err(|refusal| refusal.0) != counted || made != wanted {
             self.differ(format!("pass 2: {answer:?}, a map: {counted:?}; or a cell differs"));
         }
-        let (is_nested, has_tables) = (nests(&EXAMPLE, given, rows), stack.words >= TABLE_WORDS);
+        let (is_nested, has_tables) = (nests_rising(&EXAMPLE, given, rows), stack.words >= TABLE_WORDS);
         if is_nested == has_tables {
-            self.differ(format!("pass 2: loops nest: {is_nested}; tables are filled: {has_tables}"));
+            self.differ(format!("pass 2: loops nest and addresses rise: {is_nested}; tables are filled: {has_tables}"));
         }
         self.counted[kind] += 1;
         self.loops[kind] += loop_counts(&EXAMPLE, given, rows).len() as u64;
         self.tableless[kind] += u64::from(!has_tables);
     }
     /// The same of the rows as they are, behind an END that ends no loop, and with the addresses behind LOOP rows and ENDs shuffled; and of random
-    /// loops that nest.
+    /// loops that nest, with addresses that rise, that fall, and shuffled.
     fn hold_all_to_map(&mut self, given: &[u64]) {
         let rng = Rng::new(self.runs);
         self.hold_to_map(0, given);
@@ -203,6 +285,7 @@ impl Tally {
         self.hold_to_map(1, &shuffled(&EXAMPLE, &rng, given));
         let random = nested_rows(&EXAMPLE, &rng, 2 + rng.below(300));
         self.hold_to_map(2, &random);
+        self.hold_to_map(2, &falling(&random));
         self.hold_to_map(2, &shuffled(&EXAMPLE, &rng, &random));
     }
     /// Holds the first refused call to N8: a start of a SYSCALL node that no earlier check refuses, on either side, gets 31, and no other
@@ -241,9 +324,10 @@ impl core::fmt::Display for Tally {
             let (lists, loops, tableless) = (self.counted[i], self.loops[i], self.tableless[i]);
             write!(
                 f,
-                "\n  pass 2 and a map, rows {kind}: {lists} lists with {loops} LOOP rows; {tableless} without a table, as loops nest"
+                "\n  pass 2 and a map, rows {kind}: {lists} lists with {loops} LOOP rows; {tableless} without a table, as loops nest and addresses rise"
             )?;
         }
+        write!(f, "\n  replay: {}", self.ways)?;
         write!(
             f,
             "\n  {raised} of the {runs} runs with cells from p on: {run_cells} in the run, {row_cells} in the rows and built cells "
@@ -270,11 +354,6 @@ pub struct Finished {
     pub cells: Vec<u64>,
     /// The run was cut where 31 refuses: the trace is that of the calls before it.
     pub is_cut: bool,
-}
-
-/// The same calls with each storing made twice. Then no single storing stands between two cycles, and the library takes the calls one by one.
-fn stored_twice(calls: &[Call]) -> Vec<Call> {
-    calls.iter().flat_map(|call| vec![*call; if matches!(call, Call::Store(_)) { 2 } else { 1 }]).collect()
 }
 
 /// Carries out a run on both sides, and its passes. Answers the finished trace, where there is one.
@@ -306,14 +385,8 @@ pub fn compare_run(run: &Run, rng: &Rng, tally: &mut Tally) -> Option<Finished> 
         let ours = k * size * WIDTH..end * WIDTH;
         let listed_calls = convert::calls(calls, &run.forests);
         let before = buffer[ours.clone()].to_vec();
-        let replay =
-            |calls: &[Call], fragment: &mut [u64]| replay_calls(&lent, &given.queues, EXAMPLE, ours_state, at, &records(calls), fragment);
-        let mut answer = replay(given_calls, &mut buffer[ours.clone()]);
-        let mut singly = before.clone();
-        let told = replay(&stored_twice(given_calls), &mut singly);
-        if told != answer || singly != buffer[ours.clone()] {
-            tally.differ("pairs of calls and calls one by one differ".into());
-        }
+        let replay = |numbers: &[u64], fragment: &mut [u64]| replay_calls(&lent, &given.queues, EXAMPLE, ours_state, at, numbers, fragment);
+        let mut answer = tally.replay_both_ways(given_calls, &mut buffer[ours.clone()], k == 0, replay);
         let mut listed = whole::fragment(run, &forests, &listed_calls, state, at, &mut data[place.clone()]);
         let mut accepted = calls.len();
         let is_refused = answer.is_err() || listed.refused.is_some();
@@ -324,7 +397,7 @@ pub fn compare_run(run: &Run, rng: &Rng, tally: &mut Tally) -> Option<Finished> 
                 if buffer[ours.clone()] != before {
                     tally.differ("a refused replay changed the fragment".into());
                 }
-                first_refused(given_calls, |calls| replay(calls, &mut before.clone()).err().map(|refusal| refusal.0))
+                first_refused(given_calls, |calls| replay(&records(calls), &mut before.clone()).err().map(|refusal| refusal.0))
             });
             accepted = first.map_or(usize::MAX, |(at, _)| at).min(listed.refused.as_ref().map_or(usize::MAX, |(at, _)| *at));
             let number = first.filter(|(at, _)| *at == accepted).map_or(0, |(_, number)| number);
@@ -338,7 +411,7 @@ pub fn compare_run(run: &Run, rng: &Rng, tally: &mut Tally) -> Option<Finished> 
             is_cut = number == SYSCALL_START;
             buffer[ours.clone()].copy_from_slice(&before);
             data[place.clone()].fill(convert::felt(0));
-            answer = replay(&given_calls[..accepted], &mut buffer[ours.clone()]);
+            answer = replay(&records(&given_calls[..accepted]), &mut buffer[ours.clone()]);
             listed = whole::fragment(run, &forests, &listed_calls[..accepted], state, at, &mut data[place.clone()]);
         }
         if syscall.is_some_and(|place| place < accepted) {

@@ -1,4 +1,4 @@
-//! Loop multiplicities, the second pass, in plain Rust: the counts by a map, whether the loops nest as in a run, and rows to try the pass on.
+//! Loop multiplicities, the second pass, in plain Rust: the counts by a map, whether the library counts without tables, and rows to try the pass on.
 
 use std::collections::BTreeMap;
 
@@ -13,6 +13,8 @@ const GROUP_COUNT: usize = 23;
 const HELPER: usize = 48;
 /// How many open LOOP rows the library keeps.
 const MOST_OPEN: usize = 64;
+/// So many rows have 5,000 loops where each eighth is a LOOP row: more than the 4,096 that a table of pass 2 has room for.
+pub const MANY_ROWS: usize = 40_000;
 
 fn cell(cells: &[u64], row: usize, column: usize) -> u64 {
     cells[row * WIDTH + column] % MODULUS
@@ -27,7 +29,8 @@ fn is_flagged_end(profile: &Profile, cells: &[u64], row: usize) -> bool {
 }
 
 /// Each LOOP row but the last row gets the number of flagged ENDs whose successor has its successor's address. Where that is 0 for one of them,
-/// nothing is said, and some rows may hold their counts.
+/// nothing is said, and some rows may hold their counts. Both sweeps read each cell modulo p, as the library must; the listed Rust's
+/// own pass reads field elements, and stands beside the library's in the bench's table of passes.
 #[inline(never)]
 pub fn count_by_map(profile: &Profile, cells: &mut [u64], rows: usize) -> Option<()> {
     let mut counts = BTreeMap::<u64, u64>::new();
@@ -49,9 +52,9 @@ pub fn loop_counts(profile: &Profile, cells: &[u64], rows: usize) -> Vec<u64> {
     (0..rows).filter(|&row| opcode(cells, row) == profile.loop_op).map(|row| cells[row * WIDTH + GROUP_COUNT]).collect()
 }
 
-/// Whether the loops nest as in a run: each flagged END ends the innermost open LOOP row's body, the addresses behind LOOP rows rise, at most
-/// 64 LOOP rows are open at a time, and none is in the end.
-pub fn nests(profile: &Profile, cells: &[u64], rows: usize) -> bool {
+/// Whether the loops nest and the addresses rise: each flagged END ends the innermost open LOOP row's body, at most 64 LOOP rows are open at a
+/// time and none in the end, as in a proper run; and the addresses behind LOOP rows rise, which a proper run's need not, as they are lent.
+pub fn nests_rising(profile: &Profile, cells: &[u64], rows: usize) -> bool {
     let (mut open, mut last) = (Vec::new(), None);
     for row in 0..rows.saturating_sub(1) {
         let next = cell(cells, row + 1, ADDR);
@@ -90,6 +93,14 @@ pub fn shuffled(profile: &Profile, rng: &Rng, cells: &[u64]) -> Vec<u64> {
     for i in (1..behind.len()).rev() {
         made.swap(behind[i], behind[rng.below(i + 1)]);
     }
+    made
+}
+
+/// The same rows, each address being as far below the greatest as it was above 0: those that rose fall, and equal ones stay equal.
+pub fn falling(cells: &[u64]) -> Vec<u64> {
+    let mut made = cells.to_vec();
+    let greatest = (0..cells.len() / WIDTH).map(|row| cell(cells, row, ADDR)).max().unwrap_or(0);
+    made.chunks_mut(WIDTH).for_each(|row| row[ADDR] = greatest - row[ADDR] % MODULUS);
     made
 }
 
@@ -143,7 +154,9 @@ pub fn nested_rows(profile: &Profile, rng: &Rng, rows: usize) -> Vec<u64> {
 pub enum Order {
     /// The addresses behind the LOOP rows rise, and each END is that of the LOOP row before it.
     InOrder,
-    /// Both are random permutations.
+    /// The loops nest in the same way, but the addresses behind the LOOP rows fall.
+    Falling,
+    /// Both are random permutations, so that the loops do not nest.
     Shuffled,
     /// In order, but for one more flagged END in the third row.
     EarlyEnd,
@@ -152,7 +165,7 @@ pub enum Order {
 }
 
 impl Order {
-    pub const ALL: [Self; 4] = [Self::InOrder, Self::Shuffled, Self::EarlyEnd, Self::LateEnd];
+    pub const ALL: [Self; 5] = [Self::InOrder, Self::Falling, Self::Shuffled, Self::EarlyEnd, Self::LateEnd];
 }
 
 /// Rows with a LOOP row in the first of each `every`, its address in the second, a flagged END in the fifth and its address in the sixth. The
@@ -172,6 +185,7 @@ pub fn loop_rows(profile: &Profile, rows: usize, every: usize, order: Order) -> 
     }
     match order {
         Order::InOrder => {}
+        Order::Falling => cells = falling(&cells),
         Order::Shuffled => shuffle_pairs(&rng, &mut cells, every),
         Order::EarlyEnd => make_flagged_end(profile, &mut cells[2 * WIDTH..3 * WIDTH]),
         Order::LateEnd => make_flagged_end(profile, &mut cells[(rows - 2) * WIDTH..(rows - 1) * WIDTH]),

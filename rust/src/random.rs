@@ -293,6 +293,15 @@ fn info(rng: &Rng) -> ExecutionContextInfo {
 /// A run that grew past its limit.
 pub struct TooLong;
 
+/// The addresses of the blocks that a run starts. They are lent in a queue, and a proper run's may be any.
+#[derive(Clone, Copy, Debug, PartialEq, Eq)]
+pub enum Addresses {
+    /// From 1 on, each a profile's step or more above the one before, as a VM numbers its blocks.
+    Rising,
+    /// Below p.
+    Random,
+}
+
 /// Writes the proper run of a node: its calls and queue entries.
 pub struct Writer<'a> {
     pub rng: &'a Rng,
@@ -301,29 +310,19 @@ pub struct Writer<'a> {
     pub pairs: Vec<Pair>,
     pub limit: usize,
     next_addr: u64,
-    random_addresses: bool,
+    addresses: Addresses,
     depth: u32,
     nesting: Vec<u32>,
 }
 
 impl<'a> Writer<'a> {
     pub fn new(rng: &'a Rng, forests: &'a [Forest], limit: usize) -> Self {
-        let random_addresses = rng.one_in(4);
-        Self {
-            rng,
-            forests,
-            queues: Queues::default(),
-            pairs: Vec::new(),
-            limit,
-            next_addr: 1,
-            random_addresses,
-            depth: 0,
-            nesting: Vec::new(),
-        }
+        let addresses = if rng.one_in(4) { Addresses::Random } else { Addresses::Rising };
+        Self { rng, forests, queues: Queues::default(), pairs: Vec::new(), limit, next_addr: 1, addresses, depth: 0, nesting: Vec::new() }
     }
 
     fn address(&mut self) -> u64 {
-        if self.random_addresses {
+        if self.addresses == Addresses::Random {
             return self.rng.next() % P;
         }
         let addr = self.next_addr;
@@ -379,7 +378,7 @@ impl<'a> Writer<'a> {
                     if i > 0 {
                         self.emit(forest, Continuation::Respan { node_id: n, batch_index: i as u32 }, None, None, None, None);
                         ended = ((u128::from(ended) + u128::from(EXAMPLE.step)) % u128::from(P)) as u64;
-                        if !self.random_addresses {
+                        if self.addresses == Addresses::Rising {
                             self.next_addr += EXAMPLE.step;
                         }
                     }
@@ -862,10 +861,10 @@ fn usual(rng: &Rng, cycle: &mut Cycle, row: usize) {
 }
 
 /// A list of `rows` cycles over one forest of `nodes` nodes, none of them SYSCALL: proper runs of its nodes one after another, and at the end
-/// operations. The blocks' addresses rise, as those of a VM do.
-pub fn long_run(rng: &Rng, nodes: usize, rows: usize, fragment_size: usize) -> Run {
+/// operations. Whether the blocks' addresses rise is to be said: pass 2 counts without tables only where those behind LOOP rows do.
+pub fn long_run(rng: &Rng, nodes: usize, rows: usize, fragment_size: usize, addresses: Addresses) -> Run {
     let forests = vec![forest(rng, nodes)];
-    let mut writer = Writer { random_addresses: false, ..Writer::new(rng, &forests, 0) };
+    let mut writer = Writer { addresses, ..Writer::new(rng, &forests, 0) };
     let mut failed = 0;
     while failed < 40 {
         let (pairs, queues) = (writer.pairs.len(), writer.queues.lengths());

@@ -1,14 +1,27 @@
-//! How much stack a call takes: it is made on a thread whose stack is lent and painted before.
+//! How much stack a call takes: it is made on a thread whose stack is lent and painted before. And how much each call of the library takes.
+
+#[cfg(archive)]
+mod inputs;
 
 use core::ffi::c_void;
 
+#[cfg(archive)]
+pub use inputs::{Taken, all_calls};
+
 /// What a call took of its thread's stack.
-#[derive(Clone, Copy, Debug, PartialEq, Eq)]
+#[derive(Clone, Copy, Debug, Default, PartialEq, Eq)]
 pub struct Stack {
     /// Bytes from where the call was made down to the lowest one written.
     pub bytes: usize,
     /// How many of them, in words of 8 bytes, were written. A list that is never filled counts above and not here.
     pub words: usize,
+}
+
+impl Stack {
+    /// The greater of each figure.
+    pub fn or(self, other: Self) -> Self {
+        Self { bytes: self.bytes.max(other.bytes), words: self.words.max(other.words) }
+    }
 }
 
 const SIZE: usize = 256 * 1024;

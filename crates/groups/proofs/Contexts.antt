@@ -12,7 +12,7 @@ use Rattle.groups.specs.GroupsLeft.{counts, groupSum, pushes}
 use Rattle.groups.specs.GroupOfOperation.{groupOf, toldGroup}
 use Rattle.groups.specs.Constants.{overTotal, badLength}
 use Rattle.groups.specs.Contexts.{sumBefore, groupCell, consumed, contextInGroup, opContext, tooLarge}
-use Rattle.groups.specs.ways.OperationCells.{largeBy, contextIn}
+use Rattle.groups.specs.ways.ContextsByCount.{largeBy, contextIn}
 use Rattle.groups.specs.declared.context.BasicBlockContext.{BasicBlockContext}
 use Rattle.groups.specs.declared.batch.OpBatch.{OpBatch}
 use Rattle.groups.specs.declared.batch.BasicBlockNode.{BasicBlockNode}

@@ -12,7 +12,8 @@ use Rattle.groups.specs.Answer.{Answer, accepted, refused, andThen, pick
 use Rattle.groups.specs.Batches.{startsOf}
 use Rattle.groups.specs.declared.group.OpPlace.{OpPlace}
 use Rattle.groups.specs.GroupOfOperation.{falling, followingOps, groupFrom, groupOf, placeOfOp, LiesAt}
-use Rattle.groups.proofs.OneGroup.{by-test, neither, never, rising, lies}
+use Rattle.groups.proofs.Answers.{never}
+use Rattle.groups.proofs.OneGroup.{by-test, neither, rising, lies}
 
 -- where no start falls, a later one is not smaller
 not-smaller : (s : List ℕ) (j k : ℕ) → falling s ≡ false → j ≤ k → k < length s → getD s j 0 ≤ getD s k 0
@@ -28,7 +29,7 @@ in-batch : (s : List ℕ) (ops op : ℕ) (p : OpPlace) → groupOf s ops op ≡ 
 unfolding groupOf
 in-batch s ops op p e =
     by-test (leb ops op || falling s) (refused 6) (groupFrom s ops op 0) (accepted p) e
-    (λ t f. absurd (never 6 p f))
+    (λ t f. never 6 p f)
     (λ t f. let (a, b) = neither (leb ops op) (falling s) t in (leb-false ops op a, b))
 
 -- the fold's end: those that follow are the operations of the batch before the next group's start
@@ -93,8 +94,8 @@ module _ (s : List ℕ) (ops i : ℕ) (p q : OpPlace) (found : groupOf s ops i �
 
 -- a place that passes the test of the group count is the one found
 unless-found : (a : Answer OpPlace) (t : Bool) (p : OpPlace) → andThen a (λ place. pick t (refused 11) (accepted place)) ≡ accepted p → a ≡ accepted p
-unless-found (accepted q) t p e = by-test t (refused 11) (accepted q) (accepted p) e (λ h f. absurd (never 11 p f)) (λ h f. f)
-unless-found (refused n) t p e = absurd (never n p e)
+unless-found (accepted q) t p e = by-test t (refused 11) (accepted q) (accepted p) e (λ h f. never 11 p f) (λ h f. f)
+unless-found (refused n) t p e = never n p e
 
 -- what the batch records alone tell of an operation is its place by the record's own starts: the laws above are laws of `op_place` too
 pub told-found : (batches : List ℕ) (r op : ℕ) (p : OpPlace) → placeOfOp batches r op ≡ accepted p → groupOf (startsOf batches r) (getD batches (12 * r + 10) 0) op ≡ accepted p
@@ -104,4 +105,4 @@ told-found batches r op p e =
     let few = ltb 8 (getD batches (12 * r) 0) in
     by-test (leb (12 * r + 12) (length batches)) (andThen found (λ place. pick few (refused 11) (accepted place))) (refused 5) (accepted p) e
     (λ h f. unless-found found few p f)
-    (λ h f. absurd (never 5 p f))
+    (λ h f. never 5 p f)

@@ -11,6 +11,7 @@ use lib.ListN.{length, getD}
 use Rattle.groups.specs.Answer.{accepted, refused, pick}
 use Rattle.groups.specs.declared.group.OpPlace.{OpPlace}
 use Rattle.groups.specs.GroupOfOperation.{falling, followingOps, placeIn, groupFrom, groupOf, LiesAt}
+use Rattle.groups.proofs.Answers.{never}
 
 -- an answer that is picked is one of the two, by the test
 pub by-test : {A T : Type 0} (b : Bool) (x y a : A) → pick b x y ≡ a → (b ≡ true → x ≡ a → T) → (b ≡ false → y ≡ a → T) → T
@@ -28,9 +29,6 @@ neither true b e = (e, cc)
 and-false : (a : Bool) → (a && false) ≡ false
 and-false true = refl
 and-false false = refl
-
-pub never : (n : ℕ) (p : OpPlace) → refused n ≡ accepted p → ⊥
-never n p e = let z : _≡_ {A = ℕ} 0 1 = cc in omega arith
 
 -- the place is group k from group g on
 record LiesFrom (starts : List ℕ) (ops op g : ℕ) (place : OpPlace) : Type 0 where
@@ -60,12 +58,12 @@ here x y ys ops op g p t e =
       up-to-8 = omega (arith, leb-true (op - x) 8 l);
       followed-by = n;
     })
-    (λ l f. absurd (never 6 p f))
+    (λ l f. never 6 p f)
 
 lies-from : (s : List ℕ) (ops op g : ℕ) (p : OpPlace) → groupFrom s ops op g ≡ accepted p → LiesFrom s ops op g p
 unfolding groupFrom
-lies-from [] ops op g p e = absurd (never 6 p e)
-lies-from (x ∷ []) ops op g p e = absurd (never 6 p e)
+lies-from [] ops op g p e = never 6 p e
+lies-from (x ∷ []) ops op g p e = never 6 p e
 lies-from (x ∷ y ∷ ys) ops op g p e =
     by-test (leb x op && ltb op y) (placeIn g (op - x) (followingOps y ops op)) (groupFrom (y ∷ ys) ops op (g + 1)) (accepted p) e
     (λ t f. here x y ys ops op g p t f)
@@ -86,7 +84,7 @@ pub lies : (s : List ℕ) (ops op : ℕ) (p : OpPlace) → accepted p ≡ groupO
 unfolding groupOf
 lies s ops op p e =
     by-test (leb ops op || falling s) (refused 6) (groupFrom s ops op 0) (accepted p) (sym e)
-    (λ t f. absurd (never 6 p f))
+    (λ t f. never 6 p f)
     (λ t f.
     let h = lies-from s ops op 0 p f in
     let k : p .group ≡ h .k = omega arith in

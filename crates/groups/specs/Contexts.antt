@@ -17,6 +17,8 @@ use Rattle.groups.specs.declared.group.OpPlace.{OpPlace}
 use Rattle.groups.specs.declared.sum.GroupSum.{GroupSum}
 use Rattle.groups.specs.declared.context.OpContext.{OpContext}
 use Rattle.groups.specs.declared.context.OpContextFound.{OpContextFound}
+use Rattle.groups.specs.declared.context.OpCells.{OpCells}
+use Rattle.groups.specs.declared.context.OpCellsFound.{OpCellsFound}
 use Rattle.groups.specs.declared.context.BatchContext.{BatchContext}
 use Rattle.groups.specs.declared.context.BatchContextFound.{BatchContextFound}
 
@@ -74,6 +76,19 @@ contextAtOp push block batches groups index op =
 abbrev pub toldOp : OpContextFound → Answer OpContext
 toldOp (OpContextFound.At context) = accepted context
 toldOp (OpContextFound.Refused n) = refused n
+
+-- what an operation's row shows of its context: the index in its group, and the context's two numbers
+abbrev pub cellsOf : OpContext → OpCells
+cellsOf found = record { index = found .place .index; context = found .context }
+
+-- that at operation `op` of batch `index`, refused as its context is
+unfoldable pub cellsAtOp : (push : ℕ) → BasicBlockNode → (batches groups : List ℕ) → (index op : ℕ) → Answer OpCells
+cellsAtOp push block batches groups index op = andThen (contextAtOp push block batches groups index op) (λ found. accepted (cellsOf found))
+
+-- the number and the values of each case
+abbrev pub toldCells : OpCellsFound → Answer OpCells
+toldCells (OpCellsFound.At cells) = accepted cells
+toldCells (OpCellsFound.Refused n) = refused n
 
 -- "the plain sum of groups from that batch on"; the first group as it is read
 unfoldable pub contextAtBatchStart : BasicBlockNode → (batches groups : List ℕ) → (index : ℕ) → Answer BatchContext

@@ -1,2 +1,2 @@
 pub mod Families
-pub mod OperationCells
+pub mod ContextsByCount

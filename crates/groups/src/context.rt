@@ -20,8 +20,8 @@ use field::cell::cell;
 ghost use mathlib.Core.Path.{_≡_};
 ghost use Prim.Native.Nat.{_+_, _*_, _/_, _^_, _≤_};
 ghost use Rattle.groups.specs.Answer.{refusal};
-ghost use Rattle.groups.specs.Contexts.{contextAtOp, toldOp, contextAtBatchStart, toldBatchStart};
-ghost use Rattle.groups.specs.ways.OperationCells.{largeBy, contextIn, toldContext, cellsAtOp, toldCells};
+ghost use Rattle.groups.specs.Contexts.{contextAtOp, toldOp, cellsAtOp, toldCells, contextAtBatchStart, toldBatchStart};
+ghost use Rattle.groups.specs.ways.ContextsByCount.{largeBy, contextIn, toldContext};
 
 // The current group, from the next operation on, and how many groups of the block are left.
 pub struct BasicBlockContext {

@@ -7,7 +7,7 @@ ghost use mathlib.Core.Path.{_≡_};
 ghost use Rattle.theory_indexes.specs.ways.IndexScan.{changeOf, oneIfBegins, starts};
 ghost use Rattle.reader.specs.Rows.{tokenAt, wordIn};
 ghost use Rattle.reader.specs.ways.FromRow.{rowsFrom};
-ghost use Rattle.reader.specs.ways.KeptKinds.{KeptKinds};
+ghost use Rattle.reader.specs.KeptKinds.{KeptKinds};
 ghost use Rattle.index.specs.ways.Steps.{toldChange};
 
 // A block begins, ends, or neither.

@@ -11,7 +11,7 @@ ghost use Rattle.groups.specs.Constants.{rowWidth, mostRows};
 ghost use Rattle.theory_indexes.specs.ways.IndexScan.{begins, ends, indexScan, starts, Fits};
 ghost use Rattle.reader.specs.Rows.{wordIn};
 ghost use Rattle.reader.specs.ways.FromRow.{rowsFrom};
-ghost use Rattle.reader.specs.ways.KeptKinds.{KeptKinds};
+ghost use Rattle.reader.specs.KeptKinds.{KeptKinds};
 ghost use Rattle.index.specs.ways.Steps.{toldChange, aroundIn, indexBehind, stackBehind, progressBehind, Room};
 
 // How many blocks are open, and where the numbers of the next block go.

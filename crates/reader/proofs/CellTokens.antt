@@ -18,8 +18,7 @@ use Rattle.rows.specs.records.Buffers.{bufferRow as rowIn, opcodeOf}
 use Rattle.rows.proofs.passes.RowCells.{row-cell, opcode-cells}
 use Rattle.theory_readings.specs.Tokens.{Kind, Token, start, repeat, end, halt, nothing, controls, tokenBeside, controlToken, controlOpcodes, isOpOpcode, opToken, inSpanOf, opBitsOf, allBits, tokenOf}
 use Rattle.theory_readings.specs.Readings.{rowAt, allRows}
-use Rattle.reader.specs.Rows.{rowKindOf}
-use Rattle.reader.specs.ways.FromRow.{opKind}
+use Rattle.reader.specs.Rows.{rowKindOf, opKind}
 use Rattle.reader.specs.declared.token.RowKind.{RowKind}
 use Rattle.reader.specs.declared.token.RowKind.the-variants.{Span, Join, One, Loop, Op, Respan, Repeat, End, Halt, Nothing}
 use Rattle.reader.proofs.RowTokens.{row-of, Something, tag, among}

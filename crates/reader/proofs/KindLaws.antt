@@ -18,9 +18,9 @@ use Rattle.rows.specs.records.Buffers.{opcodeOf}
 use Rattle.rows.proofs.passes.RowCells.{opcode-cells}
 use Rattle.theory_readings.specs.Tokens.{controlToken, inSpanOf, opBitsOf, allBits, tokenOf}
 use Rattle.theory_readings.specs.Readings.{rowAt, allRows}
-use Rattle.reader.specs.Rows.{wordIn, tokenIn, rowKindOf}
-use Rattle.reader.specs.ways.FromRow.{opKind}
-use Rattle.reader.specs.ways.KeptKinds.{kindNumbered, kindOfCode, unknownKind, KindTable, TellsKind, TellsByTable, KeepsNothing, KeptKinds}
+use Rattle.reader.specs.Rows.{wordIn, tokenIn, rowKindOf, opKind}
+use Rattle.reader.specs.KeptKinds.{kindNumbered, kindOfCode, unknownKind, KindTable, TellsKind, KeptKinds}
+use Rattle.reader.specs.ways.TellsKinds.{TellsByTable, KeepsNothing}
 use Rattle.reader.specs.declared.token.RowKind.the-variants.{Nothing}
 use Rattle.reader.proofs.RowTokens.{token-of}
 use Rattle.reader.proofs.CellTokens.{cell-of, opcode-of, bits-of, kind-control, kind-op}
@@ -79,7 +79,7 @@ module _ (p : Profile) where
 
 -- how many numbers the lists have, as in `src/kept.rt`
 abbrev pub fewRows : ℕ
-fewRows = 4
+fewRows = 6
 
 abbrev pub shortList : ℕ
 shortList = 4096

@@ -1,5 +1,5 @@
--- What `read_trace` and `validate_keeping` tell and leave, by their contracts alone: it is one, it accepts exactly the traces, and the answers are
--- those of the one reading.
+-- What `read_trace`, `validate` and `validate_keeping` tell and leave, by their contracts alone: it is one, it accepts exactly the traces, and the
+-- answers are those of the one reading.
 use mathlib.Core.Path.{_≡_, _∙_, refl, sym, ap}
 use mathlib.Core.List.{List, _++_}
 use mathlib.Core.Logic.{_↔_}

@@ -1,4 +1,5 @@
 pub mod Rows
+pub mod KeptKinds
 pub mod Reads
 pub mod Views
 pub mod ways

@@ -31,3 +31,16 @@ rowKindOf repeat = Repeat
 rowKindOf end = End
 rowKindOf halt = Halt
 rowKindOf nothing = Nothing
+
+-- an op, by what its opcode would be as a control row's: "An op is a row .. whose opcode is none of the profile's other than PUSH"
+unfoldable pub opKind : (control : RowKind) → RowKind
+opKind Span = Nothing
+opKind Join = Nothing
+opKind One = Nothing
+opKind Loop = Nothing
+opKind Op = Nothing
+opKind Respan = Nothing
+opKind Repeat = Nothing
+opKind End = Nothing
+opKind Halt = Nothing
+opKind Nothing = Op

@@ -2,4 +2,4 @@ pub mod FromRow
 pub mod Parts
 pub mod Levels
 pub mod WholeWord
-pub mod KeptKinds
+pub mod TellsKinds

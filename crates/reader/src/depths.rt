@@ -10,7 +10,7 @@ ghost use lib.ListN.{length, drop};
 ghost use Rattle.groups.specs.Constants.{rowWidth, mostRows};
 ghost use Rattle.theory_readings.specs.ways.Parser.{levels};
 ghost use Rattle.reader.specs.Rows.{wordIn};
-ghost use Rattle.reader.specs.ways.KeptKinds.{KeptKinds};
+ghost use Rattle.reader.specs.KeptKinds.{KeptKinds};
 ghost use Rattle.reader.specs.ways.Levels.{levelAt, levelBehind};
 
 // The depth of a row, where so many blocks are open before it.

@@ -15,7 +15,7 @@ ghost use Rattle.groups.specs.Constants.{rowWidth};
 ghost use Rattle.theory_readings.specs.Readings.{rowAt, allRows};
 ghost use Rattle.theory_readings.specs.ways.Parser.{orElse};
 ghost use Rattle.reader.specs.Rows.{wordIn};
-ghost use Rattle.reader.specs.ways.KeptKinds.{KeptKinds};
+ghost use Rattle.reader.specs.KeptKinds.{KeptKinds};
 ghost use Rattle.reader.specs.ways.Parts.{toldWrong, toldPart, wrongUnless, tooDeep, closedAt, OpsRead, BlockRead, PassesRead};
 
 // The lowest row with a cell that is not as asked.

@@ -8,13 +8,14 @@ use groups::constants::Row;
 use rows::records::profile::Profile;
 ghost use mathlib.Core.Path.{_≡_};
 ghost use Rattle.reader.specs.Rows.{rowKindOf, tokenAt};
-ghost use Rattle.reader.specs.ways.KeptKinds.{kindNumbered, kindOfCode, KindTable, TellsKind, TellsByTable, KeepsNothing, KeptKinds, TellsKept};
+ghost use Rattle.reader.specs.KeptKinds.{kindNumbered, kindOfCode, KindTable, TellsKind, KeptKinds};
+ghost use Rattle.reader.specs.ways.TellsKinds.{TellsByTable, KeepsNothing, TellsKept};
 
 // The number that tells no kind.
 pub(crate) const UNKNOWN: u8 = 10;
 
-// The most rows for which a table would take longer to make than it spares.
-pub(crate) const FEW_ROWS: usize = 4;
+// The most rows for which a table takes longer to make than it spares, as measured.
+pub(crate) const FEW_ROWS: usize = 6;
 
 // The rows that the smaller list keeps, and the larger.
 pub const SHORT_LIST: usize = 4096;

@@ -12,8 +12,7 @@ ghost use Rattle.groups.specs.Constants.{rowWidth};
 ghost use Rattle.rows.specs.records.Buffers.{opcodeOf};
 ghost use Rattle.theory_readings.specs.Tokens.{nothing, controls, tokenBeside, controlToken, inSpanOf, opBitsOf, allBits};
 ghost use Rattle.theory_readings.specs.Readings.{rowAt, allRows};
-ghost use Rattle.reader.specs.Rows.{rowKindOf, tokenAt};
-ghost use Rattle.reader.specs.ways.FromRow.{opKind};
+ghost use Rattle.reader.specs.Rows.{rowKindOf, tokenAt, opKind};
 
 // The start of a Block (One: of a kind with one child), an op, the other control rows, or a row that fits nothing.
 pub enum RowKind {
@@ -121,7 +120,7 @@ fn opcode(cells: &[u64], row: usize) -> u8
 }
 
 // What a row is; past the end, nothing.
-pub(crate) fn row_kind(profile: Profile, cells: &[u64], row: usize) -> RowKind
+pub fn row_kind(profile: Profile, cells: &[u64], row: usize) -> RowKind
     ensures { λ r. ⌜ r ≡ rowKindOf (tokenAt profile (now (cells .entry)) row) ⌝ }
 {
     if cells.len() / Row::WIDTH <= row {

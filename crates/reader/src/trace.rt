@@ -22,7 +22,7 @@ ghost use Rattle.groups.specs.Constants.{rowWidth};
 ghost use Rattle.theory_readings.specs.Readings.{allRows};
 ghost use Rattle.reader.specs.Rows.{wordIn};
 ghost use Rattle.reader.specs.Reads.{traceRead, TellsTrace, ReadsTrace};
-ghost use Rattle.reader.specs.ways.KeptKinds.{KeptKinds};
+ghost use Rattle.reader.specs.KeptKinds.{KeptKinds};
 ghost use Rattle.reader.specs.ways.Parts.{toldWrong};
 ghost use Rattle.reader.specs.ways.WholeWord.{HaltsRead, BehindRead, cellsAnswer};
 
@@ -104,7 +104,7 @@ fn read_cells(profile: Profile, cells: &[u64], table: &[u8; 256], kinds: &mut [u
     }
 }
 
-// The answer of a reader that is lent so many depth numbers: 2, 11, then 12, 15 or 13, else accepted.
+// The answer of a reader that is lent so many depth numbers, without writing them: 2, 11, then 12, 15 or 13, else accepted.
 fn tell_trace(
     profile: Profile,
     cells: &[u64],
@@ -125,6 +125,15 @@ fn tell_trace(
         };
     }
     read_cells(profile, cells, table, kinds)
+}
+
+// The same, by a table of its own: no row is looked at twice, so no kind is kept.
+pub fn validate(profile: Profile, cells: &[u64], depths: usize) -> TraceRead
+    ensures { λ r. ⌜ TellsTrace profile (now (cells .entry)) depths r ⌝ }
+{
+    let table = table_for(profile, cells.len() / Row::WIDTH);
+    let mut kinds = [UNKNOWN; 0];
+    tell_trace(profile, cells, depths, &table, &mut kinds)
 }
 
 // The same with a table and a list that are lent for it, whatever they hold: it leaves the profile's table, and kinds of rows.

@@ -7,12 +7,12 @@ use borrow.Author.Tests.{ltb-true}
 use lib.Dec.{ltb, eqb}
 use lib.ListN.{length, getD}
 use Rattle.groups.specs.Answer.{Answer, accepted, refused, andThen, pick}
+use Rattle.groups.proofs.Answers.{held}
 use Rattle.rows.specs.records.Forests.{Forest}
 use Rattle.rows.specs.records.CallRecords as records
 use Rattle.rows.specs.records.CallRecords.{of32, storedInRecord, systemIn, stackIn, registersIn, stores, finishes, finishIn, callIn, recordAt}
 use Rattle.theory_runs.specs.Calls.{Call, store, finish}
 use Rattle.theory_runs.specs.Overflow.{Is32, Depths32, AllDepths32}
-use Rattle.theory_runs.proofs.Answers.{pick-accepted}
 use Rattle.theory_read_back.specs.ReplayedRuns.{Lent, callOf, callsOf, fragmentsOf}
 
 -- of a recorded cycle
@@ -33,7 +33,7 @@ pick-32 false a b h k = k
 of32-is : (n x y : ℕ) → of32 n x ≡ accepted y → Is32 y
 unfolding of32
 of32-is n x y e =
-    let (t, i) = pick-accepted (ltb x 4294967296) (accepted x) n y e in
+    let (t, i) = held (ltb x 4294967296) n (accepted x) y e in
     let same : x ≡ y = cc in
     rw (← same) (ltb-true x 4294967296 t)
 

@@ -24,6 +24,7 @@ use Rattle.groups.specs.declared.word.Word.{Word}
 use Rattle.groups.specs.declared.batch.OpBatch.{OpBatch}
 use Rattle.groups.specs.declared.context.OpContext.{OpContext}
 use Rattle.groups.specs.declared.context.BatchContext.{BatchContext}
+use Rattle.groups.proofs.Answers.{never, then-accepted, held, passed}
 use Rattle.groups.proofs.OneGroup.{lies}
 use Rattle.groups.specs.declared.flags.BatchFlags.{BatchFlags}
 use Rattle.groups.specs.declared.helpers.UserOpHelpers.{UserOpHelpers}
@@ -42,7 +43,6 @@ use Rattle.rows.specs.records.DecoderRows.{wordCells, decoderCells}
 use Rattle.rows.proofs.records.Bits.{bit-mul}
 use Rattle.rows.proofs.passes.Checks.{neither}
 use Rattle.theory_reductions.specs.Below.{Below}
-use Rattle.theory_reductions.proofs.Accepted.{never, came, passed, held}
 use Rattle.theory_reductions.proofs.StatesRead.{IsCell, IsRead, Gives, current-is, parent-is, started-read}
 use Rattle.theory_reductions.proofs.SameCells.{below-at}
 
@@ -216,13 +216,13 @@ pub below-op : (push : ℕ) (block : BasicBlockNode) (batches groups : List ℕ)
     → block .total < P → contextAtOp push block batches groups index op ≡ accepted found → OpBelow found
 unfolding contextAtOp contextInGroup opContext
 below-op push block batches groups index op found h e =
-    let a = came (batchAt batches groups block index) _ found e in
-    let b = came (groupOf (startsAt batches block index) (a .value .«num_ops») op) _ found (a .then) in
-    let place = b .value in
-    let c = passed (ltb (block .total) (consumed push block batches groups index place)) 8 _ found (b .then) in
-    let d = passed (tooLarge block (a .value) (sumBefore batches block index .above8)) 11 _ found (c .1) in
-    let is : opContext push block batches groups index (a .value) place ≡ found = cc (d .1) in
-    let eight = lies (startsAt batches block index) (a .value .«num_ops») op place (sym (b .first)) .up-to-8 in
+    let a = then-accepted (batchAt batches groups block index) _ found e in
+    let b = then-accepted (groupOf (startsAt batches block index) (a .0 .«num_ops») op) _ found (a .2) in
+    let place = b .0 in
+    let c = passed (ltb (block .total) (consumed push block batches groups index place)) 8 _ found (b .2) in
+    let d = passed (tooLarge block (a .0) (sumBefore batches block index .above8)) 11 _ found (c .1) in
+    let is : opContext push block batches groups index (a .0) place ≡ found = cc (d .1) in
+    let eight = lies (startsAt batches block index) (a .0 .«num_ops») op place (sym (b .1)) .up-to-8 in
     let cell = 8 * recordOf block index + place .group in
     subst OpBelow is (record {
       group = omega (arith, div-le-self (cellAt groups cell) (2 ^ (7 * (place .index + 1))), cell-below groups cell);
@@ -263,19 +263,19 @@ pub below-start : (block : BasicBlockNode) (batches groups : List ℕ) (index : 
     → contextAtBatchStart block batches groups index ≡ accepted found → StartBelow found
 unfolding contextAtBatchStart tooLarge groupSum
 below-start block batches groups index found e =
-    let a = came (batchAt batches groups block index) _ found e in
-    let b = came (batchFlags (sumFrom batches block index .groups)) _ found (a .then) in
-    let c = passed (tooLarge block (a .value) (sumFrom batches block index .above8)) 11 _ found (b .then) in
+    let a = then-accepted (batchAt batches groups block index) _ found e in
+    let b = then-accepted (batchFlags (sumFrom batches block index .groups)) _ found (a .2) in
+    let c = passed (tooLarge block (a .0) (sumFrom batches block index .above8)) 11 _ found (b .2) in
     let l = counts batches (recordOf block index) (lentBatches batches block - index) in
-    let (many, rest) = neither (ltb 4096 (block .batches)) (ltb 8 (a .value .«group_count») || anyAbove8 l) (c .0) in
-    let above = neither (ltb 8 (a .value .«group_count»)) (anyAbove8 l) rest .1 in
+    let (many, rest) = neither (ltb 4096 (block .batches)) (ltb 8 (a .0 .«group_count») || anyAbove8 l) (c .0) in
+    let above = neither (ltb 8 (a .0 .«group_count»)) (anyAbove8 l) rest .1 in
     let is : record {
-      context = record { «current_op_group» = a .value .low .0; «group_count_in_block» = sumFrom batches block index .groups };
-      batch = a .value;
-      flags = b .value;
+      context = record { «current_op_group» = a .0 .low .0; «group_count_in_block» = sumFrom batches block index .groups };
+      batch = a .0;
+      flags = b .0;
     } ≡ found = cc (c .1) in
     subst StartBelow is (record {
-      batch = below-batch batches groups block index (a .value) (a .first);
+      batch = below-batch batches groups block index (a .0) (a .1);
       count = omega (
         arith,
         sum-most l above,
@@ -283,7 +283,7 @@ below-start block batches groups index found e =
         lent-most batches block,
         ltb-false 4096 (block .batches) many,
       );
-      flags = below-flags (sumFrom batches block index .groups) (b .value) (b .first);
+      flags = below-flags (sumFrom batches block index .groups) (b .0) (b .1);
     })
 
 -- the current and the parent address

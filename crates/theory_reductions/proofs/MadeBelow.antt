@@ -17,6 +17,7 @@ use Rattle.groups.specs.declared.context.OpContext.{OpContext}
 use Rattle.groups.specs.declared.flags.BatchFlags.{BatchFlags}
 use Rattle.groups.specs.declared.helpers.OperationHelperRegisters.{OperationHelperRegisters}
 use Rattle.groups.specs.declared.batch.BasicBlockNode.{BasicBlockNode}
+use Rattle.groups.proofs.Answers.{never, then-accepted}
 use Rattle.rows.specs.declared.records.ids.MastNodeId.{MastNodeId}
 use Rattle.rows.specs.declared.records.profile.Profile.{Profile}
 use Rattle.rows.specs.declared.records.decoder_row.EndBlockStackEntryKind.{EndBlockStackEntryKind}
@@ -36,7 +37,6 @@ use Rattle.rows.specs.declared.cycles.made.Finish.{Finish}
 use Rattle.rows.specs.cycles.Made.{Cursor, madeWith, startBlock, startTwo, startOne, startDyn, calleeOf, infoOf, startDyncall, startKind, cursor, startNode, entryKind, madeEnd, bodyOf, madeRepeat, conditionOf, finishLoop, operationMade, resumed, madeRespan, made}
 use Rattle.theory_reductions.specs.Below.{Below}
 use Rattle.theory_reductions.specs.BeforeN2.{calleeCells, infoCells, depthIn, Narrow32}
-use Rattle.theory_reductions.proofs.Accepted.{never, came}
 use Rattle.theory_reductions.proofs.SameCells.{below-both}
 use Rattle.theory_reductions.proofs.FoundBelow.{RowBelow, either, below-digest, below-node, below-helpers, FlagsBelow, below-flags, BatchBelow, below-batch, OpBelow, below-op, below-start, StateBelow, below-entries, below-end}
 
@@ -123,54 +123,54 @@ module _ (f : Forest) (q : Queues) (p : Profile) (registers : OperationHelperReg
       → block .total < P → StateBelow (here .state) → startBlock (f .batches) (f .groups) (p .span) block here ≡ accepted m → MadeBelow m
   unfolding startBlock
   below-block block here m t s e =
-      let a = came (batchAt (f .batches) (f .groups) block 0) _ m e in
-      let b = came (batchFlags (block .total)) _ m (a .then) in
+      let a = then-accepted (batchAt (f .batches) (f .groups) block 0) _ m e in
+      let b = then-accepted (batchFlags (block .total)) _ m (a .2) in
       below-made _ here Used.Nothing m
-      (below-group (p .span) (a .value) (here .state .«parent_addr») (block .total) (b .value) (below-batch (f .batches) (f .groups) block 0 (a .value) (a .first)) (s .1) t
-      (below-flags (block .total) (b .value) (b .first)))
-      s (b .then)
+      (below-group (p .span) (a .0) (here .state .«parent_addr») (block .total) (b .0) (below-batch (f .batches) (f .groups) block 0 (a .0) (a .1)) (s .1) t
+      (below-flags (block .total) (b .0) (b .1)))
+      s (b .2)
 
   below-two : (opcode : ℕ) (first second : MastNodeId) (here : Cursor) (m : MadeRow)
       → StateBelow (here .state) → startTwo (f .nodes) (f .digests) opcode first second here ≡ accepted m → MadeBelow m
   unfolding startTwo
   below-two opcode first second here m s e =
-      let a = came (digestAt (f .nodes) (f .digests) (first .0)) _ m e in
-      let b = came (digestAt (f .nodes) (f .digests) (second .0)) _ m (a .then) in
+      let a = then-accepted (digestAt (f .nodes) (f .digests) (first .0)) _ m e in
+      let b = then-accepted (digestAt (f .nodes) (f .digests) (second .0)) _ m (a .2) in
       below-made _ here Used.Nothing m
-      (below-control opcode (a .value) (b .value) (here .state .«parent_addr»)
-      (below-digest (f .nodes) (f .digests) (first .0) (a .value) (a .first))
-      (below-digest (f .nodes) (f .digests) (second .0) (b .value) (b .first)) (s .1))
-      s (b .then)
+      (below-control opcode (a .0) (b .0) (here .state .«parent_addr»)
+      (below-digest (f .nodes) (f .digests) (first .0) (a .0) (a .1))
+      (below-digest (f .nodes) (f .digests) (second .0) (b .0) (b .1)) (s .1))
+      s (b .2)
 
   below-one : (opcode : ℕ) (child : MastNodeId) (here : Cursor) (m : MadeRow)
       → StateBelow (here .state) → startOne (f .nodes) (f .digests) opcode child here ≡ accepted m → MadeBelow m
   unfolding startOne
   below-one opcode child here m s e =
-      let a = came (digestAt (f .nodes) (f .digests) (child .0)) _ m e in
+      let a = then-accepted (digestAt (f .nodes) (f .digests) (child .0)) _ m e in
       below-made _ here Used.Nothing m
-      (below-control opcode (a .value) zeroWord (here .state .«parent_addr») (below-digest (f .nodes) (f .digests) (child .0) (a .value) (a .first)) below-none (s .1))
-      s (a .then)
+      (below-control opcode (a .0) zeroWord (here .state .«parent_addr») (below-digest (f .nodes) (f .digests) (child .0) (a .0) (a .1)) below-none (s .1))
+      s (a .2)
 
   below-dyn : (opcode : ℕ) (here : Cursor) (m : MadeRow) → StateBelow (here .state) → startDyn opcode (captured .«dyn_callee_hash») here ≡ accepted m → MadeBelow m
   unfolding startDyn
   below-dyn opcode here m s e =
-      let a = came (calleeOf (captured .«dyn_callee_hash»)) _ m e in
+      let a = then-accepted (calleeOf (captured .«dyn_callee_hash»)) _ m e in
       below-made _ here Used.Callee m
-      (below-control opcode (a .value) zeroWord (here .state .«parent_addr») (below-callee (captured .«dyn_callee_hash») (a .value) word (a .first)) below-none (s .1))
-      s (a .then)
+      (below-control opcode (a .0) zeroWord (here .state .«parent_addr») (below-callee (captured .«dyn_callee_hash») (a .0) word (a .1)) below-none (s .1))
+      s (a .2)
 
   below-dyncall : (opcode : ℕ) (here : Cursor) (m : MadeRow)
       → StateBelow (here .state) → startDyncall opcode (captured .«dyn_callee_hash») (captured .«ctx_info») here ≡ accepted m → MadeBelow m
   unfolding startDyncall
   below-dyncall opcode here m s e =
-      let a = came (calleeOf (captured .«dyn_callee_hash»)) _ m e in
-      let b = came (infoOf (captured .«ctx_info»)) _ m (a .then) in
+      let a = then-accepted (calleeOf (captured .«dyn_callee_hash»)) _ m e in
+      let b = then-accepted (infoOf (captured .«ctx_info»)) _ m (a .2) in
       below-made _ here Used.CalleeAndInfo m
-      (below-control opcode (a .value) (b .value .«stack_depth», b .value .«next_overflow_addr», 0, 0) (here .state .«parent_addr»)
-      (below-callee (captured .«dyn_callee_hash») (a .value) word (a .first))
-      (below-info (captured .«ctx_info») (b .value) address (narrow .depth) (b .first))
+      (below-control opcode (a .0) (b .0 .«stack_depth», b .0 .«next_overflow_addr», 0, 0) (here .state .«parent_addr»)
+      (below-callee (captured .«dyn_callee_hash») (a .0) word (a .1))
+      (below-info (captured .«ctx_info») (b .0) address (narrow .depth) (b .1))
       (s .1))
-      s (b .then)
+      s (b .2)
 
   below-kind : (node : MastNode) (here : Cursor) (m : MadeRow)
       → ((block : BasicBlockNode) → blockOf node ≡ accepted block → block .total < P) → StateBelow (here .state)
@@ -191,53 +191,53 @@ module _ (f : Forest) (q : Queues) (p : Profile) (registers : OperationHelperReg
       → startNode (f .nodes) (f .digests) (f .batches) (f .groups) (q .addresses) (q .parents) p id captured here ≡ accepted m → MadeBelow m
   unfolding startNode
   below-started id here m e =
-      let a = came (startedAt (q .addresses) (q .parents) (here .at)) _ m e in
-      let b = came (nodeAt (f .nodes) (f .digests) (id .0)) _ m (a .then) in
-      let n = below-node (f .nodes) (f .digests) (id .0) (b .value) (narrow .nodes) (b .first) in
-      below-kind (b .value .node) (cursor (a .value) (afterStart (here .at))) m (n .total)
-      (below-entries (q .addresses) (q .parents) (here .at) (a .value) (a .first)) (b .then)
+      let a = then-accepted (startedAt (q .addresses) (q .parents) (here .at)) _ m e in
+      let b = then-accepted (nodeAt (f .nodes) (f .digests) (id .0)) _ m (a .2) in
+      let n = below-node (f .nodes) (f .digests) (id .0) (b .0) (narrow .nodes) (b .1) in
+      below-kind (b .0 .node) (cursor (a .0) (afterStart (here .at))) m (n .total)
+      (below-entries (q .addresses) (q .parents) (here .at) (a .0) (a .1)) (b .2)
 
   -- END
   below-finished : (id : MastNodeId) (finish : Finish) (isLoopBody : Bool) (used : Used) (here : Cursor) (m : MadeRow)
       → madeEnd (f .nodes) (f .digests) (q .ends) (p .end) id finish isLoopBody used here ≡ accepted m → MadeBelow m
   unfolding madeEnd
   below-finished id finish isLoopBody used here m e =
-      let a = came (nodeAt (f .nodes) (f .digests) (id .0)) _ m e in
-      let b = came (entryKind finish (a .value .node)) _ m (a .then) in
-      let c = came (endAt (q .ends) (here .at .ends)) _ m (b .then) in
-      let n = below-node (f .nodes) (f .digests) (id .0) (a .value) (narrow .nodes) (a .first) in
-      let d = below-end (q .ends) (here .at .ends) (c .value) (c .first) in
-      below-made _ (cursor (stateAfterEnd (c .value)) (afterEnd (here .at))) used m
-      (below-control (p .end) (a .value .digest) (flagWord isLoopBody (b .value)) (c .value .«ended_node_addr») (n .digest) (below-flag isLoopBody (b .value)) (d .0))
-      (d .1, d .2) (c .then)
+      let a = then-accepted (nodeAt (f .nodes) (f .digests) (id .0)) _ m e in
+      let b = then-accepted (entryKind finish (a .0 .node)) _ m (a .2) in
+      let c = then-accepted (endAt (q .ends) (here .at .ends)) _ m (b .2) in
+      let n = below-node (f .nodes) (f .digests) (id .0) (a .0) (narrow .nodes) (a .1) in
+      let d = below-end (q .ends) (here .at .ends) (c .0) (c .1) in
+      below-made _ (cursor (stateAfterEnd (c .0)) (afterEnd (here .at))) used m
+      (below-control (p .end) (a .0 .digest) (flagWord isLoopBody (b .0)) (c .0 .«ended_node_addr») (n .digest) (below-flag isLoopBody (b .0)) (d .0))
+      (d .1, d .2) (c .2)
 
   -- REPEAT
   below-repeated : (id : MastNodeId) (here : Cursor) (m : MadeRow) → StateBelow (here .state)
       → madeRepeat (f .nodes) (f .digests) (p .repeat) id here ≡ accepted m → MadeBelow m
   unfolding madeRepeat
   below-repeated id here m s e =
-      let a = came (nodeAt (f .nodes) (f .digests) (id .0)) _ m e in
-      let b = came (bodyOf (a .value .node)) _ m (a .then) in
-      let c = came (digestAt (f .nodes) (f .digests) (b .value .0)) _ m (b .then) in
+      let a = then-accepted (nodeAt (f .nodes) (f .digests) (id .0)) _ m e in
+      let b = then-accepted (bodyOf (a .0 .node)) _ m (a .2) in
+      let c = then-accepted (digestAt (f .nodes) (f .digests) (b .0 .0)) _ m (b .2) in
       below-made _ here Used.Condition m
-      (below-control (p .repeat) (c .value) (1, 0, 0, 0) (here .state .«current_addr»)
-      (below-digest (f .nodes) (f .digests) (b .value .0) (c .value) (c .first)) below-one-word (s .0))
-      s (c .then)
+      (below-control (p .repeat) (c .0) (1, 0, 0, 0) (here .state .«current_addr»)
+      (below-digest (f .nodes) (f .digests) (b .0 .0) (c .0) (c .1)) below-one-word (s .0))
+      s (c .2)
 
   below-loop : (id : MastNodeId) (isLoopBody : Bool) (here : Cursor) (m : MadeRow) → StateBelow (here .state)
       → finishLoop (f .nodes) (f .digests) (q .ends) p id (captured .«finish_loop_condition») isLoopBody here ≡ accepted m → MadeBelow m
   unfolding finishLoop
   below-loop id isLoopBody here m s e =
-      let a = came (conditionOf (captured .«finish_loop_condition»)) _ m e in
-      either (a .value) _ _ m (a .then) (below-repeated id here m s) (below-finished id Finish.Loop isLoopBody Used.Condition here m)
+      let a = then-accepted (conditionOf (captured .«finish_loop_condition»)) _ m e in
+      either (a .0) _ _ m (a .2) (below-repeated id here m s) (below-finished id Finish.Loop isLoopBody Used.Condition here m)
 
   -- an operation
   below-operation : (opcode : ℕ) (found : OpContext) (here : Cursor) (m : MadeRow) → OpBelow found → StateBelow (here .state)
       → operationMade opcode found registers here ≡ accepted m → MadeBelow m
   unfolding operationMade operation Below
   below-operation opcode found here m o s e =
-      let a = came (helpersAnswer registers) _ m e in
-      let h = below-helpers registers (a .value) (a .first) in
+      let a = then-accepted (helpersAnswer registers) _ m e in
+      let h = below-helpers registers (a .0) (a .1) in
       below-made _ here Used.Nothing m
       (record {
         addr = s .0;
@@ -248,34 +248,34 @@ module _ (f : Forest) (q : Queues) (p : Profile) (registers : OperationHelperReg
         index = o .index;
         flags = omega arith;
       })
-      s (a .then)
+      s (a .2)
 
   below-resumed : (id : MastNodeId) (index op : ℕ) (here : Cursor) (m : MadeRow) → StateBelow (here .state)
       → resumed f (p .push) id index op registers here ≡ accepted m → MadeBelow m
   unfolding resumed
   below-resumed id index op here m s e =
-      let a = came (nodeAt (f .nodes) (f .digests) (id .0)) _ m e in
-      let b = came (blockOf (a .value .node)) _ m (a .then) in
-      let c = came (batchAt (f .batches) (f .groups) (b .value) index) _ m (b .then) in
-      let d = came (opcodeAt (f .ops) (c .value) op) _ m (c .then) in
-      let g = came (contextAtOp (p .push) (b .value) (f .batches) (f .groups) index op) _ m (d .then) in
-      let n = below-node (f .nodes) (f .digests) (id .0) (a .value) (narrow .nodes) (a .first) in
-      below-operation (d .value) (g .value) here m
-      (below-op (p .push) (b .value) (f .batches) (f .groups) index op (g .value) (n .total (b .value) (b .first)) (g .first)) s (g .then)
+      let a = then-accepted (nodeAt (f .nodes) (f .digests) (id .0)) _ m e in
+      let b = then-accepted (blockOf (a .0 .node)) _ m (a .2) in
+      let c = then-accepted (batchAt (f .batches) (f .groups) (b .0) index) _ m (b .2) in
+      let d = then-accepted (opcodeAt (f .ops) (c .0) op) _ m (c .2) in
+      let g = then-accepted (contextAtOp (p .push) (b .0) (f .batches) (f .groups) index op) _ m (d .2) in
+      let n = below-node (f .nodes) (f .digests) (id .0) (a .0) (narrow .nodes) (a .1) in
+      below-operation (d .0) (g .0) here m
+      (below-op (p .push) (b .0) (f .batches) (f .groups) index op (g .0) (n .total (b .0) (b .1)) (g .1)) s (g .2)
 
   -- RESPAN
   below-respanned : (id : MastNodeId) (index : ℕ) (here : Cursor) (m : MadeRow) → StateBelow (here .state)
       → madeRespan (f .nodes) (f .digests) (f .batches) (f .groups) (p .respan) (p .step) id index here ≡ accepted m → MadeBelow m
   unfolding madeRespan respanStep
   below-respanned id index here m s e =
-      let a = came (nodeAt (f .nodes) (f .digests) (id .0)) _ m e in
-      let b = came (blockOf (a .value .node)) _ m (a .then) in
-      let c = came (contextAtBatchStart (b .value) (f .batches) (f .groups) index) _ m (b .then) in
-      let n = below-start (b .value) (f .batches) (f .groups) index (c .value) (c .first) in
+      let a = then-accepted (nodeAt (f .nodes) (f .digests) (id .0)) _ m e in
+      let b = then-accepted (blockOf (a .0 .node)) _ m (a .2) in
+      let c = then-accepted (contextAtBatchStart (b .0) (f .batches) (f .groups) index) _ m (b .2) in
+      let n = below-start (b .0) (f .batches) (f .groups) index (c .0) (c .1) in
       below-made _ (cursor (respanStep (p .step) (here .state)) (here .at)) Used.Nothing m
-      (below-group (p .respan) (c .value .batch) (here .state .«current_addr») (c .value .context .«group_count_in_block») (c .value .flags)
+      (below-group (p .respan) (c .0 .batch) (here .state .«current_addr») (c .0 .context .«group_count_in_block») (c .0 .flags)
       (n .batch) (s .0) (n .count) (n .flags))
-      (read-below (here .state .«current_addr» + p .step), s .1) (c .then)
+      (read-below (here .state .«current_addr» + p .step), s .1) (c .2)
 
   -- every cell of a made row is below p, and the addresses after it
   pub made-below : (continuation : Continuation) (isLoopBody : Bool) (here : Cursor) (m : MadeRow) → StateBelow (here .state)

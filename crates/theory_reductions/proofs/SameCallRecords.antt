@@ -15,6 +15,7 @@ use Rattle.groups.specs.Words.{wordAt, readWord}
 use Rattle.groups.specs.Helpers.{readRegisters}
 use Rattle.groups.specs.declared.word.Word.{Word}
 use Rattle.groups.specs.declared.helpers.OperationHelperRegisters.{OperationHelperRegisters}
+use Rattle.groups.proofs.Answers.{never, then-accepted, passed}
 use Rattle.rows.specs.declared.records.ids.MastNodeId.{MastNodeId}
 use Rattle.rows.specs.declared.records.state.SystemState.{SystemState}
 use Rattle.rows.specs.declared.records.continuation.Continuation.{Continuation}
@@ -31,7 +32,6 @@ use Rattle.rows.specs.passes.Passes.{wordFrom}
 use Rattle.theory_reductions.specs.Below.{Below}
 use Rattle.theory_reductions.specs.Inputs.{readAnswer}
 use Rattle.theory_reductions.specs.BeforeN2.{registerCells, calleeCells, infoCells, stateCells, calleeInBefore, infoInBefore, continuationInBefore, storedInRecordBefore, systemInBefore, stackInBefore, registersInBefore, finishInBefore, callInBefore, callCells, toldInfoBefore, toldSystemBefore}
-use Rattle.theory_reductions.proofs.Accepted.{never, came, passed}
 use Rattle.theory_reductions.proofs.SameCells.{below-at, below-both, same-cellAt, same-wordAt, same-readRegisters}
 
 -- a number of 32 bits is one whatever refuses it
@@ -57,10 +57,10 @@ same-infoIn r info e h = by (eqb (getD r 12 0) 1) e
         → pick t (andThen (of32 1 (getD r 13 0)) (λ depth. accepted (is (getD r 14 0) depth))) (accepted ContextInfo.Absent) ≡ accepted info
         → pick t (andThen (of32 23 (getD r 13 0)) (λ depth. accepted (is (cellAt r 14) depth))) (accepted ContextInfo.Absent) ≡ accepted info
     by true e =
-        let c = came (of32 1 (getD r 13 0)) (λ depth. accepted (is (getD r 14 0) depth)) info e in
-        let known : is (getD r 14 0) (c .value) ≡ info = cc (c .then) in
+        let c = then-accepted (of32 1 (getD r 13 0)) (λ depth. accepted (is (getD r 14 0) depth)) info e in
+        let known : is (getD r 14 0) (c .0) ≡ info = cc (c .2) in
         let small : Below (getD r 14 0 ∷ []) = subst (λ (i : ContextInfo). Below (infoCells i)) (sym known) h in
-        rw (same-of32 1 23 (getD r 13 0) (c .value) (c .first), same-cellAt r 14 (below-at (getD r 14 0 ∷ []) 0 small)) (c .then)
+        rw (same-of32 1 23 (getD r 13 0) (c .0) (c .1), same-cellAt r 14 (below-at (getD r 14 0 ∷ []) 0 small)) (c .2)
     by false e = e
 
 -- a number that names no kind is none of 1 to 10
@@ -102,8 +102,8 @@ same-continuationIn r c e = by (namesNoKind kind) refl
     by : (t : Bool) → namesNoKind kind ≡ t → pick t (refused 23) (pick (eqb kind 10) (accepted Continuation.EnterForest) (andThen (of32 3 (getD r 2 0)) on)) ≡ accepted c
     by false q = e
     by true q =
-        let late = came (of32 3 (getD r 2 0)) on c (rw (no-kind kind 10 q (omega arith) (omega arith)) at e) in
-        never 23 c (sym (no-continuation r kind (nodeId (late .value)) q) ∙ late .then)
+        let late = then-accepted (of32 3 (getD r 2 0)) on c (rw (no-kind kind 10 q (omega arith) (omega arith)) at e) in
+        never 23 c (sym (no-continuation r kind (nodeId (late .0)) q) ∙ late .2)
 
 -- a callee word below p
 same-calleeIn : (r : List ℕ) → Below (calleeCells (calleeInBefore r)) → calleeIn r ≡ calleeInBefore r
@@ -121,13 +121,13 @@ pub same-storedInRecord : (r : List ℕ) (values : StoredValues)
     → storedInRecordBefore r ≡ accepted values → Below (calleeCells (values .captured .«dyn_callee_hash») ++ infoCells (values .captured .«ctx_info»)) → storedInRecord r ≡ accepted values
 unfolding storedInRecord storedInRecordBefore
 same-storedInRecord r values e h =
-    let a = came (infoInBefore r) (λ info. andThen (continuationInBefore r) (λ c. checked (all c info))) values e in
-    let b = came (continuationInBefore r) (λ c. checked (all c (a .value))) values (a .then) in
-    let same = passed (namesNothing r) 23 (accepted (all (b .value) (a .value))) values (b .then) in
-    let is : all (b .value) (a .value) ≡ values = cc in
-    let (callee, info) = below-both (calleeCells (calleeInBefore r)) (infoCells (a .value))
+    let a = then-accepted (infoInBefore r) (λ info. andThen (continuationInBefore r) (λ c. checked (all c info))) values e in
+    let b = then-accepted (continuationInBefore r) (λ c. checked (all c (a .0))) values (a .2) in
+    let same = passed (namesNothing r) 23 (accepted (all (b .0) (a .0))) values (b .2) in
+    let is : all (b .0) (a .0) ≡ values = cc in
+    let (callee, info) = below-both (calleeCells (calleeInBefore r)) (infoCells (a .0))
     (subst (λ (v : StoredValues). Below (calleeCells (v .captured .«dyn_callee_hash») ++ infoCells (v .captured .«ctx_info»))) (sym is) h) in
-    rw (same-continuationIn r (b .value) (b .first), same-infoIn r (a .value) (a .first) info, same-calleeIn r callee) (b .then)
+    rw (same-continuationIn r (b .0) (b .1), same-infoIn r (a .0) (a .1) info, same-calleeIn r callee) (b .2)
   where
     all : Continuation → ContextInfo → StoredValues
     all c info = record {
@@ -145,11 +145,11 @@ same-storedInRecord r values e h =
 pub same-systemIn : (r : List ℕ) (system : SystemState) → systemInBefore r ≡ accepted system → Below (wordCells (system .«fn_hash»)) → systemIn r ≡ accepted system
 unfolding systemIn systemInBefore
 same-systemIn r system e h =
-    let a = came (of32 1 (getD r 2 0)) (λ clk. andThen (of32 1 (getD r 3 0)) (λ ctx. accepted (all clk ctx))) system e in
-    let b = came (of32 1 (getD r 3 0)) (λ ctx. accepted (all (a .value) ctx)) system (a .then) in
-    let is : all (a .value) (b .value) ≡ system = cc (b .then) in
+    let a = then-accepted (of32 1 (getD r 2 0)) (λ clk. andThen (of32 1 (getD r 3 0)) (λ ctx. accepted (all clk ctx))) system e in
+    let b = then-accepted (of32 1 (getD r 3 0)) (λ ctx. accepted (all (a .0) ctx)) system (a .2) in
+    let is : all (a .0) (b .0) ≡ system = cc (b .2) in
     let small : Below (wordCells (wordFrom r 4)) = subst (λ (s : SystemState). Below (wordCells (s .«fn_hash»))) (sym is) h in
-    rw (same-of32 1 23 (getD r 2 0) (a .value) (a .first), same-of32 1 23 (getD r 3 0) (b .value) (b .first), same-wordAt r 4 small) (b .then)
+    rw (same-of32 1 23 (getD r 2 0) (a .0) (a .1), same-of32 1 23 (getD r 3 0) (b .0) (b .1), same-wordAt r 4 small) (b .2)
   where
     all : ℕ → ℕ → SystemState
     all clk ctx = record { clk = record { 0 = clk }; ctx = record { 0 = ctx }; «fn_hash» = wordFrom r 4 }
@@ -226,10 +226,10 @@ same-stackIn r depth h =
 pub same-finishIn : (r : List ℕ) (c : RecordedCall) → finishInBefore r ≡ accepted c → Below (callCells c) → finishIn r ≡ accepted c
 unfolding finishIn finishInBefore callCells stateCells
 same-finishIn r c e h =
-    let x = came (systemInBefore r) (λ system. andThen (of32 1 (getD r 24 0)) (λ depth. andThen (registersInBefore r) (all system depth))) c e in
-    let y = came (of32 1 (getD r 24 0)) (λ depth. andThen (registersInBefore r) (all (x .value) depth)) c (x .then) in
-    let z = came (registersInBefore r) (all (x .value) (y .value)) c (y .then) in
-    go (x .value) (y .value) (z .value) (x .first) (y .first) (z .first) (z .then)
+    let x = then-accepted (systemInBefore r) (λ system. andThen (of32 1 (getD r 24 0)) (λ depth. andThen (registersInBefore r) (all system depth))) c e in
+    let y = then-accepted (of32 1 (getD r 24 0)) (λ depth. andThen (registersInBefore r) (all (x .0) depth)) c (x .2) in
+    let z = then-accepted (registersInBefore r) (all (x .0) (y .0)) c (y .2) in
+    go (x .0) (y .0) (z .0) (x .1) (y .1) (z .1) (z .2)
   where
     all : SystemState → ℕ → OperationHelperRegisters → Answer RecordedCall
     all system depth registers = accepted (finishes (getD r 1 0) system (stackInBefore r depth) registers)
@@ -257,8 +257,8 @@ same-callIn r c e h = by (eqb (getD r 0 0) 0) e
 
     by : (t : Bool) → pick t (recordedStoring (storedInRecordBefore r)) (finishInBefore r) ≡ accepted c → pick t (recordedStoring (storedInRecord r)) (finishIn r) ≡ accepted c
     by true e =
-        let a = came (storedInRecordBefore r) (λ values. accepted (stores values)) c e in
-        stored (a .value) (a .first) (cc (a .then))
+        let a = then-accepted (storedInRecordBefore r) (λ values. accepted (stores values)) c e in
+        stored (a .0) (a .1) (cc (a .2))
     by false e = same-finishIn r c e h
 
 -- an info that is found

@@ -31,6 +31,7 @@ use Rattle.groups.specs.declared.group.OpPlace.{OpPlace}
 use Rattle.groups.specs.declared.helpers.UserOpHelpers.{UserOpHelpers}
 use Rattle.groups.specs.declared.helpers.OperationHelperRegisters.{OperationHelperRegisters}
 use Rattle.groups.specs.declared.helpers.OperationHelperRegisters.the-variants.{Eq, U32Split, Eqz, Expacc, FriExt2Fold4, U32Add, U32Add3, U32Sub, U32Mul, U32Madd, U32Div, U32Assert2, HPerm, MerklePath, HornerEvalBase, HornerEvalExt, LogDeferred, Empty}
+use Rattle.groups.proofs.Answers.{then-accepted, held, passed}
 use Rattle.rows.specs.declared.records.state.SystemState.{SystemState}
 use Rattle.rows.specs.declared.records.state.StackState.{StackState}
 use Rattle.rows.specs.declared.records.state.SystemCols.{SystemCols}
@@ -44,7 +45,6 @@ use Rattle.rows.specs.passes.Passes.{wordFrom}
 use Rattle.rows.proofs.passes.Checks.{neither}
 use Rattle.theory_reductions.specs.Below.{Below}
 use Rattle.theory_reductions.specs.BeforeN2.{inverseNumber, inverseValue, beyond, batchOfBefore, batchAtBefore, bigGroup, groupCells, registerCells}
-use Rattle.theory_reductions.proofs.Accepted.{came, passed, held}
 
 -- THE BASE LAWS
 
@@ -187,9 +187,9 @@ pub answered-groups : {B : Type 0} (batches groups : List ℕ) (block : BasicBlo
 unfolding batchAtBefore
 answered-groups batches groups block index f x e =
     let batch = batchOfBefore batches groups (recordOf block index) in
-    let found = came (pick (isBatch batches groups block index) (accepted batch) (refused 5)) (λ b. pick (bigGroup b) (refused 1) (f b)) x e in
-    let is : batch ≡ found .value = cc (held (isBatch batches groups block index) 5 (accepted batch) (found .value) (found .first) .1) in
-    tested-bigGroup batch .0 (rw is (passed (bigGroup (found .value)) 1 (f (found .value)) x (found .then) .0))
+    let found = then-accepted (pick (isBatch batches groups block index) (accepted batch) (refused 5)) (λ b. pick (bigGroup b) (refused 1) (f b)) x e in
+    let is : batch ≡ found .0 = cc (held (isBatch batches groups block index) 5 (accepted batch) (found .0) (found .1) .1) in
+    tested-bigGroup batch .0 (rw is (passed (bigGroup (found .0)) 1 (f (found .0)) x (found .2) .0))
 
 -- at an operation: refusal 1 of the batch's eight groups is not answered
 pub same-contextAtOp : (push : ℕ) (block : BasicBlockNode) (batches groups : List ℕ) (index op : ℕ)

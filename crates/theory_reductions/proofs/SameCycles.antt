@@ -16,6 +16,7 @@ use Rattle.field.specs.Bounds.{anyFrom}
 use Rattle.field.proofs.CellLaws.{read-small}
 use Rattle.groups.specs.Answer.{accepted, pick}
 use Rattle.groups.specs.declared.helpers.OperationHelperRegisters.{OperationHelperRegisters}
+use Rattle.groups.proofs.Answers.{then-accepted}
 use Rattle.rows.specs.declared.records.profile.Profile.{Profile}
 use Rattle.rows.specs.declared.records.address_state.DecoderState.{DecoderState}
 use Rattle.rows.specs.declared.records.address_state.Positions.{Positions}
@@ -45,7 +46,7 @@ use Rattle.rows.specs.replay.SingleCalls.{singleDone, singleWritten}
 use Rattle.rows.proofs.passes.Checks.{neither}
 use Rattle.theory_reductions.specs.Below.{Below}
 use Rattle.theory_reductions.specs.BeforeN2.{LentBelow, lentBig, calleeCells, infoCells, cycleCells, cycleBig, scanOfBefore, cycleWithBefore, cycleBefore}
-use Rattle.theory_reductions.proofs.Accepted.{came, unrefused}
+use Rattle.theory_reductions.proofs.Accepted.{unrefused}
 use Rattle.theory_reductions.proofs.CyclesReduced.{last-system, last-stack}
 use Rattle.theory_reductions.proofs.SameCells.{below-both, below-of, of-below, same-readWord, same-read16}
 
@@ -185,8 +186,8 @@ pub answered-cycleWith : (scan : Scan) (p : Profile) (f : Forest) (q : Queues)
 unfolding cycleWithBefore
 answered-cycleWith scan p f q system stack registers cells t m e =
     let a = unrefused (not (eqb (t .refusal) 0)) (t .refusal) _ m e in
-    let b = came (continuationOf (t .continuation)) _ m (a .1) in
-    let c = unrefused (scan .big || cycleBig system stack registers t) 1 _ m (b .then) in
+    let b = then-accepted (continuationOf (t .continuation)) _ m (a .1) in
+    let c = unrefused (scan .big || cycleBig system stack registers t) 1 _ m (b .2) in
     let d = neither (scan .big) (cycleBig system stack registers t) (c .0) in
     (d .0, tested-cycleBig system stack registers t .0 (d .1))
 

@@ -8,6 +8,7 @@ use native.Mathlib.Omega.{arith}
 use lib.Dec.{leb, ltb, eqb}
 use Rattle.groups.specs.Answer.{accepted, pick}
 use Rattle.groups.specs.declared.helpers.OperationHelperRegisters.{OperationHelperRegisters}
+use Rattle.groups.proofs.Answers.{then-accepted}
 use Rattle.rows.specs.declared.records.profile.Profile.{Profile}
 use Rattle.rows.specs.declared.records.state.SystemState.{SystemState}
 use Rattle.rows.specs.declared.records.state.StackState.{StackState}
@@ -24,7 +25,7 @@ use Rattle.rows.specs.cycles.Cycles.{continuationOf, cycle, lastSystem, lastSta
 use Rattle.theory_reductions.specs.Below.{Below}
 use Rattle.theory_reductions.specs.BeforeN2.{calleeCells, infoCells, stateCells, tracerCells, fixedCells, registerCells, cycleCells, cycleBig, cycleWithBefore, cycleBefore, scanOfBefore, Narrow32}
 use Rattle.theory_reductions.proofs.CellsBelow.{below-app}
-use Rattle.theory_reductions.proofs.Accepted.{came, unrefused}
+use Rattle.theory_reductions.proofs.Accepted.{unrefused}
 use Rattle.theory_reductions.proofs.SameCells.{below-both, same-builtSystem, same-builtStack, same-rowCells}
 use Rattle.theory_reductions.proofs.SameCycles.{answered-cycle, answered-the-same}
 use Rattle.theory_reductions.proofs.FoundBelow.{StateBelow, below-decoder}
@@ -72,14 +73,14 @@ unfolding cycleBefore cycleWithBefore
 was-made p f q system stack registers cells t m e =
     let scan = scanOfBefore p f q in
     let a = unrefused (not (eqb (t .refusal) 0)) (t .refusal) _ m e in
-    let b = came (continuationOf (t .continuation)) _ m (a .1) in
-    let c = unrefused (scan .big || cycleBig system stack registers t) 1 _ m (b .then) in
+    let b = then-accepted (continuationOf (t .continuation)) _ m (a .1) in
+    let c = unrefused (scan .big || cycleBig system stack registers t) 1 _ m (b .2) in
     let d = unrefused (scan .«profile_wrong») 2 _ m (c .1) in
     let g = unrefused (scan .«too_large» || fragmentWrong cells (t .«row_write_index»)) 11 _ m (d .1) in
     let h = unrefused (ltb (stack .«stack_depth») 16) 10 _ m (g .1) in
-    let i = came (made f q p registers (b .value) (t .«is_loop_body») (t .captured) (cursor (t .«decoder_state») (t .at))) _ m (h .1) in
-    let j = unrefused (leb (cells / 49) (t .«row_write_index»)) 24 (accepted (i .value)) m (i .then) in
-    record { continuation = b .value; is = i .first ∙ j .1 }
+    let i = then-accepted (made f q p registers (b .0) (t .«is_loop_body») (t .captured) (cursor (t .«decoder_state») (t .at))) _ m (h .1) in
+    let j = unrefused (leb (cells / 49) (t .«row_write_index»)) 24 (accepted (i .0)) m (i .2) in
+    record { continuation = b .0; is = i .1 ∙ j .1 }
 
 -- "zero in its first"
 last-system-below : (t : CoreTraceGenerationTracer) → Below (systemCells (t .«system_cols»)) → Below (systemCells (lastSystem t))

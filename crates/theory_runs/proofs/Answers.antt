@@ -17,6 +17,7 @@ use Rattle.groups.specs.declared.word.Word.{Word}
 use Rattle.groups.specs.declared.batch.OpBatch.{OpBatch}
 use Rattle.groups.specs.declared.helpers.OperationHelperRegisters.{OperationHelperRegisters}
 use Rattle.groups.specs.declared.batch.BasicBlockNode.{BasicBlockNode}
+use Rattle.groups.proofs.Answers.{then-accepted}
 use Rattle.rows.specs.declared.records.ids.MastNodeId.{MastNodeId}
 use Rattle.rows.specs.declared.records.profile.Profile.{Profile}
 use Rattle.rows.specs.declared.records.forest.MastNode.{MastNode}
@@ -40,16 +41,7 @@ use Rattle.rows.specs.cycles.Scans.{anyBigOpcode, forestTooLarge, scanOf}
 use Rattle.rows.specs.records.Cells.{fragmentWrong}
 use Rattle.rows.specs.cycles.Made.{Cursor, cursor, calleeOf, infoOf, conditionOf, startBlock, startTwo, startOne, startDyn, startDyncall, startKind, startNode, callKind, dynKind, blockKind, entryKind, madeEnd, bodyOf, madeRepeat, finishLoop, operationMade, resumed, madeRespan, made}
 use Rattle.rows.specs.cycles.Cycles.{continuationOf, refuseIf, cycleWith, cycle}
-use Rattle.theory_reductions.proofs.Accepted as accepts
-
-pub then-accepted : {A B : Type 0} (a : Answer A) (f : A → Answer B) (y : B) → andThen a f ≡ accepted y → (x : A) × (a ≡ accepted x) × (f x ≡ accepted y)
-then-accepted a f y e = let c = accepts.came a f y e in (c .value, c .first, c .then)
-
-pub pick-accepted : {A : Type 0} (t : Bool) (x : Answer A) (n : ℕ) (y : A) → pick t x (refused n) ≡ accepted y → (t ≡ true) × (x ≡ accepted y)
-pick-accepted t x n y e = accepts.held t n x y e
-
-pub if-accepted : {A : Type 0} (t : Bool) (n : ℕ) (x : Answer A) (y : A) → refuseIf t n x ≡ accepted y → (t ≡ false) × (x ≡ accepted y)
-if-accepted t n x y e = accepts.unrefused t n x y e
+use Rattle.theory_reductions.proofs.Accepted.{unrefused}
 
 -- no refusal with the number 0
 unfoldable pub Numbered : {A : Type 0} → Answer A → Type 0
@@ -305,14 +297,14 @@ module _ (p : Profile) (f : Forest) (q : Queues) (stack : StackState) (registers
   pub accepted-came : (m : MadeRow) → cycle p f q stack registers cells t ≡ accepted m → Came m
   unfolding cycle cycleWith scanOf
   accepted-came m e =
-      let (e1, e2) = if-accepted (not (eqb (t .refusal) 0)) (t .refusal) _ m e in
+      let (e1, e2) = unrefused (not (eqb (t .refusal) 0)) (t .refusal) _ m e in
       let (continuation, e3, e4) = then-accepted (continuationOf (t .continuation)) _ m e2 in
-      let (e5, e6) = if-accepted (anyBigOpcode (f .ops)) 1 _ m e4 in
-      let (e7, e8) = if-accepted (profileWrong p) 2 _ m e6 in
-      let (e9, e10) = if-accepted (forestTooLarge (f .nodes) (f .batches) || fragmentWrong cells (t .«row_write_index»)) 11 _ m e8 in
-      let (e11, e12) = if-accepted (ltb (stack .«stack_depth») 16) 10 _ m e10 in
+      let (e5, e6) = unrefused (anyBigOpcode (f .ops)) 1 _ m e4 in
+      let (e7, e8) = unrefused (profileWrong p) 2 _ m e6 in
+      let (e9, e10) = unrefused (forestTooLarge (f .nodes) (f .batches) || fragmentWrong cells (t .«row_write_index»)) 11 _ m e8 in
+      let (e11, e12) = unrefused (ltb (stack .«stack_depth») 16) 10 _ m e10 in
       let (row, e13, e14) = then-accepted (made f q p registers continuation (t .«is_loop_body») (t .captured) (cursor (t .«decoder_state») (t .at))) _ m e12 in
-      let (e15, e16) = if-accepted (leb (cells / 49) (t .«row_write_index»)) 24 (accepted row) m e14 in
+      let (e15, e16) = unrefused (leb (cells / 49) (t .«row_write_index»)) 24 (accepted row) m e14 in
       let e17 : row ≡ m = cc in
       record {
         answer = e;

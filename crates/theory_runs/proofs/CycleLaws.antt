@@ -13,6 +13,7 @@ use Rattle.groups.specs.declared.word.Word.{Word}
 use Rattle.groups.specs.declared.batch.BasicBlockNode.{BasicBlockNode}
 use Rattle.groups.specs.declared.batch.OpBatch.{OpBatch}
 use Rattle.groups.specs.declared.helpers.OperationHelperRegisters.{OperationHelperRegisters}
+use Rattle.groups.proofs.Answers.{then-accepted}
 use Rattle.rows.specs.declared.records.ids.MastNodeId.{MastNodeId}
 use Rattle.rows.specs.declared.records.profile.Profile.{Profile}
 use Rattle.rows.specs.declared.records.forest.MastNode.{MastNode}
@@ -32,7 +33,6 @@ use Rattle.rows.specs.records.DecoderRows.{zeroWord, controlFlow, basicBlockBat
 use Rattle.rows.specs.cycles.Made.{Cursor, cursor, madeWith, madeRow, startBlock, startTwo, startOne, calleeOf, infoOf, conditionOf, startDyn, startDyncall, startKind, startNode, entryKind, madeEnd, bodyOf, madeRepeat, finishLoop, operationMade, resumed, madeRespan, made}
 use Rattle.theory_readings.specs.Tokens.{OneChild, Kind, opcodeOfKind}
 use Rattle.theory_runs.specs.Happened.{Ending, Did, InForce, startOf, operationAt, finishOf, didBy, usedBy, positionsAfter}
-use Rattle.theory_runs.proofs.Answers.{then-accepted}
 
 -- the address state after what a cycle did
 unfoldable pub stateAfter : Profile → Did → DecoderState → DecoderState

@@ -10,6 +10,7 @@ use lib.ListN.{length, drop, getD, length-append, drop-of-length-le}
 use Rattle.groups.specs.Answer.{Answer, accepted, refused, pick}
 use Rattle.groups.specs.Batches.{batchAt}
 use Rattle.groups.specs.declared.batch.OpBatch.{OpBatch}
+use Rattle.groups.proofs.Answers.{then-accepted, held}
 use Rattle.rows.specs.declared.records.profile.Profile.{Profile}
 use Rattle.rows.specs.declared.records.forest.MastNode.{MastNode}
 use Rattle.rows.specs.declared.records.address_state.DecoderState.{DecoderState}
@@ -35,7 +36,7 @@ use Rattle.theory_runs.specs.Calls.{Handed, Call, store, finish, Fragmen
 use Rattle.theory_runs.specs.Happened.{Ending, Did, Cycle, InForce, nothingStored, orNothing, startOf, operationAt, finishOf, didBy, didStored, did, stored, leftBy, inForceAfter, inForceAfterAll, cyclesIn, cyclesOf}
 use Rattle.theory_runs.specs.Written.{rowMade, rowsIn, rowsRun}
 use Rattle.theory_runs.proofs.HandedCounts.{fragment-count}
-use Rattle.theory_runs.proofs.Answers.{then-accepted, pick-accepted, Came, came}
+use Rattle.theory_runs.proofs.Answers.{Came, came}
 use Rattle.theory_reductions.proofs.StatesRead.{IsRead, read-is, cycle-read}
 use Rattle.theory_runs.proofs.CycleLaws.{stateAfter, Law, made-law}
 use Rattle.theory_runs.proofs.Opcodes.{below-at}
@@ -67,7 +68,7 @@ start-small MastNode.External id b a = tt
 opcode-small : (ops : List ℕ) (batch : OpBatch) (op opcode : ℕ) → anyFrom 128 ops ≡ false → opcodeAt ops batch op ≡ accepted opcode → opcode < 128
 unfolding opcodeAt
 opcode-small ops batch op opcode small e =
-    let (t, i) = pick-accepted (ltb op (batch .«num_ops») && ltb (batch .«first_op» + op) (length ops)) (accepted (getD ops (batch .«first_op» + op) 0)) 6 opcode e in
+    let (t, i) = held (ltb op (batch .«num_ops») && ltb (batch .«first_op» + op) (length ops)) 6 (accepted (getD ops (batch .«first_op» + op) 0)) opcode e in
     let j : opcode ≡ getD ops (batch .«first_op» + op) 0 = cc in
     rw j (below-at 128 ops (batch .«first_op» + op) small (ltb-true (batch .«first_op» + op) (length ops) (both (ltb op (batch .«num_ops»)) (ltb (batch .«first_op» + op) (length ops)) t)))
   where

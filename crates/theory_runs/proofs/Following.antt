@@ -17,6 +17,7 @@ use Rattle.groups.specs.declared.batch.OpBatch.{OpBatch}
 use Rattle.groups.specs.declared.group.OpPlace.{OpPlace}
 use Rattle.groups.specs.declared.context.OpContext.{OpContext}
 use Rattle.groups.specs.declared.helpers.OperationHelperRegisters.{OperationHelperRegisters}
+use Rattle.groups.proofs.Answers.{then-accepted, held, passed}
 use Rattle.groups.proofs.OneGroup.{both, neither}
 use Rattle.rows.specs.declared.records.ids.MastNodeId.{MastNodeId}
 use Rattle.rows.specs.declared.records.profile.Profile.{Profile}
@@ -34,8 +35,7 @@ use Rattle.rows.specs.records.Addresses.{Queues, startedAt, endAt}
 use Rattle.rows.specs.cycles.Made.{Cursor, cursor, calleeOf, infoOf, conditionOf, entryKind, bodyOf, startBlock, startTwo, startOne, startDyn, startDyncall, startKind, startNode, madeEnd, madeRepeat, finishLoop, operationMade, resumed, madeRespan, made}
 use Rattle.rows.specs.cycles.Cycles.{cycle, followingOf}
 use Rattle.theory_runs.specs.Following.{FollowingBy, ToldOfNode}
-use Rattle.theory_reductions.proofs.Accepted.{passed}
-use Rattle.theory_runs.proofs.Answers.{then-accepted, pick-accepted, accepted-came}
+use Rattle.theory_runs.proofs.Answers.{accepted-came}
 
 -- THE PLACE BY THE BATCH RECORDS ALONE
 
@@ -45,7 +45,7 @@ module _ (push : ℕ) (block : BasicBlockNode) (batches groups : List ℕ) (inde
       (12 * recordOf block index + 12 ≤ length batches) × (batch ≡ batchOf batches groups (recordOf block index))
   unfolding batchAt isBatch
   batch-found batch e =
-      let (t, is) = pick-accepted (isBatch batches groups block index) (accepted (batchOf batches groups (recordOf block index))) 5 batch e in
+      let (t, is) = held (isBatch batches groups block index) 5 (accepted (batchOf batches groups (recordOf block index))) batch e in
       let lent = both (ltb index (block .batches)) _ t .1 in
       (leb-true _ _ (both (leb (12 * recordOf block index + 12) (length batches)) _ lent .0), cc)
 

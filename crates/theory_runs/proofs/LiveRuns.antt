@@ -22,11 +22,13 @@ use Rattle.rows.specs.cycles.Scans.{scanOf}
 use Rattle.rows.specs.cycles.Made.{Cursor, cursor, made}
 use Rattle.rows.specs.cycles.Cycles.{continuationOf, refuseIf, cycleWith, cycle, finalState}
 use Rattle.rows.specs.cycles.LentTally.{placeFor, cannotCount, countsNext, rowAddr, withTally, unlessFull, talliedCycle}
+use Rattle.groups.proofs.Answers.{then-accepted}
 use Rattle.groups.proofs.OneGroup.{neither}
+use Rattle.theory_reductions.proofs.Accepted.{unrefused}
 use Rattle.theory_runs.specs.Calls.{Handed, Call, store, finish, answered, after, callRefusal, afterAll, Accepted, closed, cursorOf, AllAccepted, finalStates, cellsOf}
 use Rattle.theory_runs.specs.LiveCalls.{LiveHeld, LiveCall, call, lend, LiveFragment, plainCalls, plainOf, plainAll, liveAnswered, liveAfter, liveRefusal, liveAfterAll, LiveAccepted, liveOpened, liveClosed, liveCursor, AllLiveAccepted, liveEnds, liveFinals, liveCells}
 use Rattle.theory_runs.specs.LiveFinished.{SameAsPlain}
-use Rattle.theory_runs.proofs.Answers.{Numbered, accepted-of, then-numbered, if-numbered, cycle-with-numbered, then-accepted, if-accepted}
+use Rattle.theory_runs.proofs.Answers.{Numbered, accepted-of, then-numbered, if-numbered, cycle-with-numbered}
 
 -- ONE CYCLE
 
@@ -44,12 +46,12 @@ module _ (p : Profile) (f : Forest) (q : Queues) (stack : StackState) (registers
       (cycleWith scan p f q stack registers cells t ≡ accepted m) × (512 ≤ numbers)
   unfolding cycleWith
   without-tally scan numbers cells t m e =
-      let (e1, e2) = if-accepted (not (eqb (t .refusal) 0)) (t .refusal) _ m e in
+      let (e1, e2) = unrefused (not (eqb (t .refusal) 0)) (t .refusal) _ m e in
       let (continuation, e3, e4) = then-accepted (continuationOf (t .continuation)) _ m e2 in
-      let (e5, e6) = if-accepted (scan .big) 1 _ m e4 in
-      let (e7, e8) = if-accepted (scan .«profile_wrong») 2 _ m e6 in
-      let (e9, e10) = if-accepted ((scan .«too_large» || ltb numbers 512) || fragmentWrong cells (t .«row_write_index»)) 11 _ m e8 in
-      let (e11, e12) = if-accepted (ltb (stack .«stack_depth») 16) 10 _ m e10 in
+      let (e5, e6) = unrefused (scan .big) 1 _ m e4 in
+      let (e7, e8) = unrefused (scan .«profile_wrong») 2 _ m e6 in
+      let (e9, e10) = unrefused ((scan .«too_large» || ltb numbers 512) || fragmentWrong cells (t .«row_write_index»)) 11 _ m e8 in
+      let (e11, e12) = unrefused (ltb (stack .«stack_depth») 16) 10 _ m e10 in
       let (large, wrong) = neither (scan .«too_large» || ltb numbers 512) _ e9 in
       let (forest, short) = neither (scan .«too_large») _ large in
       (again scan cells t m continuation e1 e3 e5 e7 forest wrong e11 e12, ltb-false numbers 512 short)
@@ -66,7 +68,7 @@ module _ (p : Profile) (f : Forest) (q : Queues) (stack : StackState) (registers
     live-came m e =
         let scan : Scan = scanOf p (f .nodes) (f .batches) (f .ops) in
         let (row, e1, e2) = then-accepted (cycleWith (withTally (length tally) scan) p f q stack registers (length cells) t) _ m e in
-        let (e3, e4) = if-accepted (countsNext p cells (t .«row_write_index») && cannotCount tally (placeFor tally (rowAddr row))) 32 (accepted row) m e2 in
+        let (e3, e4) = unrefused (countsNext p cells (t .«row_write_index») && cannotCount tally (placeFor tally (rowAddr row))) 32 (accepted row) m e2 in
         let same : row ≡ m = cc in
         let (plain, places) = without-tally scan (length tally) (length cells) t row e1 in
         record { plain = rw same at plain; places = places; counts = rw same at e3 }

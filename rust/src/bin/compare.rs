@@ -1,6 +1,7 @@
 //! `compare [SEED [RUNS]]`: random runs by the listed Rust and by the proved library, which in every second of them is given some cells with
 //! p added, and the finished traces read by the proved library and by the checker, as they are and changed. Writes what was compared and left
-//! out, the differences, and how often which side refused. Exits with 1 where there is a difference.
+//! out, the differences, and how often which side refused. Exits with 1 where there is a difference, and where 100 runs or more have not been
+//! replayed both by pairs of calls and by calls one by one.
 //!
 //! Programs with SYSCALL are outside what is compared: a run ends where a SYSCALL node is started. The reader meets SYSCALL rows in traces
 //! from the grammar, and in finished traces whose CALL rows are made SYSCALL rows.
@@ -12,7 +13,7 @@ fn main() {
 
 #[cfg(all(listed, archive))]
 fn main() {
-    use core_trace::compare::{Tally, compare_run};
+    use core_trace::compare::{Tally, Ways, compare_run};
     use core_trace::random::{Rng, any_calls, changed_run, proper_run, with_depths};
     use core_trace::reading::{self, archived};
     use core_trace::words::word;
@@ -26,7 +27,7 @@ fn main() {
     let reader_rng = Rng::new(!seed);
     println!("seed {seed}; {runs} runs of each kind");
     let mut bad = false;
-    let mut reads = reading::Tally::default();
+    let (mut reads, mut ways) = (reading::Tally::default(), Ways::default());
     for (name, kind) in
         [("proper runs", proper_run as fn(&Rng, usize) -> _), ("changed runs", changed_run), ("calls of any kind", any_calls)]
     {
@@ -41,6 +42,12 @@ fn main() {
         }
         println!("{name}: {tally}");
         bad |= tally.differences > 0;
+        ways = ways.and(tally.ways);
+    }
+    println!("replay, all kinds: {ways}");
+    if runs >= 100 && !ways.are_reached() {
+        println!("replay was not seen to go both ways");
+        bad = true;
     }
     // Traces from the grammar, half of them near the deepest that is read.
     for n in 0..runs as usize / 4 {

@@ -8,6 +8,7 @@ use lib.Dec.{eqb}
 use lib.ListN.{length, getD, take, drop}
 use Rattle.groups.specs.Answer.{Answer, accepted, refused, pick}
 use Rattle.groups.specs.declared.helpers.OperationHelperRegisters.{OperationHelperRegisters}
+use Rattle.groups.proofs.Answers.{never, then-accepted}
 use Rattle.rows.specs.declared.records.state.SystemState.{SystemState}
 use Rattle.rows.specs.declared.records.state.StackState.{StackState}
 use Rattle.rows.specs.declared.records.continuation.StoredValues.{StoredValues}
@@ -19,7 +20,6 @@ use Rattle.rows.specs.records.CallRecords.{RecordedCall, stores, finishe
 use Rattle.rows.specs.cycles.Cycles.{storingOf, storedIn, keeping, cycleWith, tracerAfter}
 use Rattle.rows.specs.replay.Calls.{Setting, forestOf, refusing, callDone, callWritten, through, written}
 use Rattle.rows.specs.ways.Pairs.{steps, stepsWritten, BuiltBefore, Follows, Goes}
-use Rattle.rows.proofs.replay.PairRecords.{never, then-accepted}
 use Rattle.rows.proofs.replay.CallSteps.{Ran}
 
 -- WHAT A CALL THAT WROTE A ROW BUILT

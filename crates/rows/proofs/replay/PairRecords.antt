@@ -11,13 +11,12 @@ use lib.ListN.{length, getD}
 use Rattle.field.specs.Modulus.{P}
 use Rattle.field.specs.Cells.{read, cellAt, reduced}
 use Rattle.field.proofs.CellLaws.{read-small}
-use Rattle.groups.specs.Answer.{Answer, accepted, refused, andThen, pick}
+use Rattle.groups.specs.Answer.{accepted, andThen, pick}
 use Rattle.groups.specs.Words.{wordAt, readWord}
 use Rattle.groups.specs.Batches.{recordOf, batchOf, isBatch, batchAt, startsAt}
-use Rattle.groups.specs.Contexts.{contextAtOp}
+use Rattle.groups.specs.Contexts.{contextAtOp, cellsOf, cellsAtOp}
 use Rattle.groups.specs.GroupOfOperation.{falling, groupFrom, groupOf}
 use Rattle.groups.specs.Helpers.{allBelow, readRegisters, u32Values, six, helpersOf, helpersOfCells, helpersAnswer, toldHelpers}
-use Rattle.groups.specs.ways.OperationCells.{cellsOf, cellsAtOp}
 use Rattle.groups.specs.declared.batch.BasicBlockNode.{BasicBlockNode}
 use Rattle.groups.specs.declared.batch.OpBatch.{OpBatch}
 use Rattle.groups.specs.declared.group.OpPlace.{OpPlace}
@@ -25,6 +24,7 @@ use Rattle.groups.specs.declared.context.OpContext.{OpContext}
 use Rattle.groups.specs.declared.context.OpCells.{OpCells}
 use Rattle.groups.specs.declared.helpers.OperationHelperRegisters.{OperationHelperRegisters}
 use Rattle.groups.specs.declared.helpers.HelpersFound.{HelpersFound}
+use Rattle.groups.proofs.Answers.{then-accepted, held, passed}
 use Rattle.groups.proofs.OneGroup.{both, neither}
 use Rattle.rows.specs.declared.records.ids.MastNodeId.{MastNodeId}
 use Rattle.rows.specs.declared.records.forest.MastNode.{MastNode}
@@ -40,25 +40,6 @@ use Rattle.rows.specs.cycles.Made.{operationMade, resumed}
 use Rattle.rows.specs.ways.Inner.{kindAt}
 use Rattle.rows.specs.ways.Pairs.{StoresOperation, OperationIn, HelpersIn, IsPair}
 use Rattle.rows.proofs.records.Slots.{slot-whole}
-
--- HOW AN ACCEPTED ANSWER CAME ABOUT
-
-pub never : {A B : Type 0} (n : ℕ) (x : A) → refused n ≡ accepted x → B
-never n x e = let z : _≡_ {A = ℕ} 0 1 = cc in absurd (omega arith)
-
-pub then-accepted : {A B : Type 0} (a : Answer A) (f : A → Answer B) (y : B) → andThen a f ≡ accepted y → (x : A) × (a ≡ accepted x) × (f x ≡ accepted y)
-then-accepted (accepted x) f y e = (x, refl, e)
-then-accepted (refused n) f y e = never n y e
-
--- a test that refuses where it fails held
-held : {A : Type 0} (t : Bool) (n : ℕ) (x : Answer A) (y : A) → pick t x (refused n) ≡ accepted y → (t ≡ true) × (x ≡ accepted y)
-held true n x y e = (refl, e)
-held false n x y e = never n y e
-
--- a test that refuses where it holds did not hold
-passed : {A : Type 0} (t : Bool) (n : ℕ) (x : Answer A) (y : A) → pick t (refused n) x ≡ accepted y → (t ≡ false) × (x ≡ accepted y)
-passed true n x y e = never n y e
-passed false n x y e = (refl, e)
 
 -- NUMBERS AND CELLS
 

@@ -12,6 +12,7 @@ use Rattle.groups.specs.declared.helpers.OperationHelperRegisters.{OperationHel
 use Rattle.groups.specs.declared.helpers.UserOpHelpers.{UserOpHelpers}
 use Rattle.groups.specs.declared.helpers.HelpersFound.{HelpersFound}
 use Rattle.groups.specs.declared.context.OpCells.{OpCells}
+use Rattle.groups.proofs.Answers.{never}
 use Rattle.rows.specs.declared.records.ids.MastNodeId.{MastNodeId}
 use Rattle.rows.specs.declared.records.profile.Profile.{Profile}
 use Rattle.rows.specs.declared.records.address_state.DecoderState.{DecoderState}
@@ -38,7 +39,6 @@ use Rattle.rows.specs.records.CallRecords.{of32, storedInRecord, systemI
 use Rattle.rows.specs.cycles.Made.{Cursor, cursor, toldMade, made}
 use Rattle.rows.specs.ways.Pairs.{SystemBuilt, StackBuilt, RowBehind, StoresOperation, OperationIn, HelpersIn, pairMade, Makes, ArePair, PutBehind, TakesOperation, TakesPair, Onward, behind, StandsAt}
 use Rattle.rows.proofs.records.Rooms.{cells-in-two}
-use Rattle.rows.proofs.replay.PairRecords.{never}
 
 pub makes-told : (r : Made) (answer : Answer MadeRow) → toldMade r ≡ answer → Makes r answer
 makes-told (Made.Row m) answer e = sym e

@@ -33,10 +33,10 @@ use Rattle.rows.specs.cycles.Made.{cursor, made}
 use Rattle.rows.specs.cycles.Cycles.{storingOf, storedIn, cycleWith, tracerAfter, lastSystem, lastStack, fragmentAfter}
 use Rattle.rows.specs.replay.Calls.{Setting, forestOf, callDone, callWritten}
 use Rattle.rows.specs.ways.Pairs.{steps, stepsWritten, pairMade, IsPair, Onward, Walked, stays, goes, BuiltBefore, behind, Walks, StandsAt, Follows}
+use Rattle.groups.proofs.Answers.{then-accepted}
 use Rattle.groups.proofs.OneGroup.{neither}
 use Rattle.rows.proofs.records.Rooms.{row-within}
 use Rattle.rows.proofs.cycles.Picks.{pick-same}
-use Rattle.rows.proofs.replay.PairRecords.{then-accepted}
 
 -- ONE PAIR
 

@@ -4,7 +4,7 @@ use Prim.Native.Nat.{_+_}
 use borrow.Author.Tests.{lt-ltb, le-ltb}
 use borrow.Author.Needs.{needs}
 use Rattle.groups.specs.Contexts.{consumed}
-use Rattle.groups.specs.ways.OperationCells.{contextIn}
+use Rattle.groups.specs.ways.ContextsByCount.{contextIn}
 use Rattle.groups.proofs.Contexts.{counts-first, consumed-is}
 use Rattle.groups.proofs.context.in_group.Statement.{statement}
 use Rattle.groups.proofs.context.in_group.Tie as tie

@@ -7,7 +7,7 @@ use borrow.Author.Needs.{needs}
 use lib.ListN.{length}
 use Rattle.theory_readings.specs.Readings.{allRows}
 use Rattle.reader.specs.Rows.{wordIn}
-use Rattle.reader.specs.ways.KeptKinds.{KeptKinds}
+use Rattle.reader.specs.KeptKinds.{KeptKinds}
 use Rattle.reader.specs.ways.Parts.{PartRead, toldWrong, toldPart, Ahead}
 use Rattle.reader.specs.declared.token.RowKind.the-variants.{Span, Join, One, Loop, Repeat, End}
 use Rattle.reader.proofs.RowTokens.{rows-in, Stands, stands}

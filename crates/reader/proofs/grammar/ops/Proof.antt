@@ -6,7 +6,7 @@ use borrow.Author.Needs.{needs}
 use lib.ListN.{length}
 use Rattle.theory_readings.specs.Readings.{allRows}
 use Rattle.reader.specs.Rows.{wordIn}
-use Rattle.reader.specs.ways.KeptKinds.{KeptKinds}
+use Rattle.reader.specs.KeptKinds.{KeptKinds}
 use Rattle.reader.specs.ways.Parts.{PartRead, Ahead, OpsRight}
 use Rattle.reader.specs.declared.token.RowKind.the-variants.{End}
 use Rattle.reader.proofs.RowTokens.{rows-in, row-inside, stands, op-something}

@@ -4,7 +4,7 @@ use Prim.Native.Nat.{ℕ, _-_, _≤_, _<_}
 use native.Mathlib.Omega.{arith}
 use borrow.Author.Needs.{needs}
 use lib.ListN.{length, getD, length-set}
-use Rattle.reader.specs.ways.KeptKinds.{unknownKind}
+use Rattle.reader.specs.KeptKinds.{unknownKind}
 use Rattle.reader.proofs.KindLaws.{forget-more}
 use Rattle.reader.proofs.kept.forget.Statement.{statement}
 use Rattle.reader.proofs.kept.forget.Tie as tie

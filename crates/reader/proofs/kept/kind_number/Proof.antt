@@ -1,6 +1,6 @@
 -- `kept::kind_number` meets its contract.
 use borrow.Author.Needs.{needs}
-use Rattle.reader.specs.ways.KeptKinds.{kindNumbered}
+use Rattle.reader.specs.KeptKinds.{kindNumbered}
 use Rattle.reader.proofs.kept.kind_number.Statement.{statement}
 use Rattle.reader.proofs.kept.kind_number.Tie as tie
 

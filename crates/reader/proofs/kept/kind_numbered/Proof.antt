@@ -1,5 +1,5 @@
 -- `kept::kind_numbered` meets its contract: each arm by the number that it knows.
-use Rattle.reader.specs.ways.KeptKinds.{kindNumbered}
+use Rattle.reader.specs.KeptKinds.{kindNumbered}
 use Rattle.reader.proofs.KindLaws.{numbered-rest}
 use Rattle.reader.proofs.kept.kind_numbered.Statement.{statement}
 use Rattle.reader.proofs.kept.kind_numbered.Tie as tie

@@ -1,7 +1,7 @@
 -- `kept::kind_of_code` meets its contract.
 use borrow.Author.Needs.{needs}
 use borrow.Author.Tests.{lt-ltb, le-ltb}
-use Rattle.reader.specs.ways.KeptKinds.{kindOfCode}
+use Rattle.reader.specs.KeptKinds.{kindOfCode}
 use Rattle.reader.proofs.kept.kind_of_code.Statement.{statement}
 use Rattle.reader.proofs.kept.kind_of_code.Tie as tie
 

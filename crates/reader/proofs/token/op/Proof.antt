@@ -1,6 +1,6 @@
 -- `token::op` meets its contract.
 use borrow.Author.Needs.{needs}
-use Rattle.reader.specs.ways.FromRow.{opKind}
+use Rattle.reader.specs.Rows.{opKind}
 use Rattle.reader.proofs.CellTokens.{op-no}
 use Rattle.reader.proofs.token.op.Statement.{statement}
 use Rattle.reader.proofs.token.op.Tie as tie

@@ -8,7 +8,7 @@ use Rattle.theory_readings.specs.Readings.{Block}
 use Rattle.theory_readings.specs.ways.Parser.{afterHalt}
 use Rattle.reader.specs.Rows.{wordIn}
 use Rattle.reader.specs.ways.FromRow.{rowsFrom}
-use Rattle.reader.specs.ways.KeptKinds.{KeptKinds}
+use Rattle.reader.specs.KeptKinds.{KeptKinds}
 use Rattle.reader.specs.ways.WholeWord.{HaltsRead}
 use Rattle.reader.specs.declared.token.RowKind.the-variants.{Halt}
 use Rattle.reader.proofs.RowTokens.{rows-in, stands}

@@ -13,7 +13,7 @@ use core_trace::listed::stand_ins::field::Felt;
 use core_trace::listed::whole::{self, Start};
 use core_trace::overflow::{invert_deep_halts, overflow_rule};
 use core_trace::profile::EXAMPLE;
-use core_trace::random::{Rng, Run, long_run};
+use core_trace::random::{Addresses, Rng, Run, long_run};
 
 /// A fragment's records and its part of the queues, and where it starts and its calls for the listed Rust.
 struct Fragment {
@@ -41,9 +41,12 @@ pub struct Replayed {
 }
 
 impl Both {
-    /// A run of `rows` cycles over a forest of so many nodes, in fragments of this size.
+    /// A run of `rows` cycles over a forest of so many nodes, in fragments of this size, the addresses of its blocks rising.
     pub fn new(nodes: usize, rows: usize, height: usize, fragment_size: usize) -> Self {
-        let run = long_run(&Rng::new(7), nodes, rows, fragment_size);
+        Self::of(long_run(&Rng::new(7), nodes, rows, fragment_size, Addresses::Rising), height)
+    }
+
+    pub fn of(run: Run, height: usize) -> Self {
         let lent = Forests::new(&run.forests);
         let forests = run.forests.iter().map(convert::forest).collect();
         let mut both = Self { run, lent, height, forests, fragments: Vec::new() };

@@ -11,9 +11,11 @@ use super::memory::Memory;
 use super::rounds::{Times, count, line, ns, power, rounds, section};
 
 const TEXT: &str = "Pass 2 (`core_multiplicities`) beside counting with a map in plain Rust (`rust/src/loops.rs`), and the finisher beside a copy of the \
-rows into a buffer that is there. The first of each 8 (or 1,024) rows is a LOOP, the fifth a flagged END; the others are operations of any opcode. *In \
-order*, as a run writes them: the addresses behind the LOOP rows rise, and each END is that of the LOOP before it. *Shuffled*: both are random \
-permutations. *Early* and *late END*: in order, but for one more flagged END in the third row, or in the last but one. Fragments of 1,024 rows, helper \
+rows into a buffer that is there. The first of each 8 (or 1,024) rows is a LOOP, the fifth a flagged END; the others are operations of any opcode. The \
+loops of the first two orders nest, as those of a proper run do. *In order*: the addresses behind the LOOP rows rise, and each END is that of the LOOP \
+before it. *Nested, addresses fall*: the same rows, but for the addresses, which fall from LOOP to LOOP. Those of the other orders do not nest. \
+*Shuffled*: the addresses behind LOOPs and behind ENDs are random permutations. *Early* and *late END*: in order, but for one more flagged END in the \
+third row, or in the last but one. The map reads its cells modulo p. Fragments of 1,024 rows, helper \
 cells below 1,024, a height of one more than the rows. Nanoseconds a row.";
 const COLUMNS: &str = "order | LOOP every | rows | pass 2 | map | `finish` | copy | pass 2 / map | `finish` / copy";
 const PASS: usize = 0;
@@ -22,10 +24,12 @@ const FINISH: usize = 2;
 const COPY: usize = 3;
 const FRAGMENT: usize = 1 << 10;
 
-const ORDERED: Aim = Aim { text: "pass 2 / map from 2^14 rows up, loops in order", limit: 1.0, on_most: false };
-const OTHER: Aim = Aim { text: "pass 2 / map from 2^14 rows up, loops as no run writes them", limit: 1.0, on_most: false };
-const ORDERED_FINISH: Aim = Aim { text: "`finish` / copy at 2^18 rows, loops in order", limit: 1.5, on_most: false };
-const OTHER_FINISH: Aim = Aim { text: "`finish` / copy at 2^18 rows, loops as no run writes them", limit: 1.5, on_most: false };
+const RISING: Aim = Aim { text: "pass 2 / map from 2^14 rows up, in order (addresses rise)", limit: 1.0, on_most: false };
+const FALLING: Aim = Aim { text: "pass 2 / map from 2^14 rows up, nested, addresses fall", limit: 1.0, on_most: false };
+const UNNESTED: Aim = Aim { text: "pass 2 / map from 2^14 rows up, shuffled, early END, late END", limit: 1.0, on_most: false };
+const RISING_FINISH: Aim = Aim { text: "`finish` / copy at 2^18 rows, in order (addresses rise)", limit: 1.5, on_most: false };
+const FALLING_FINISH: Aim = Aim { text: "`finish` / copy at 2^18 rows, nested, addresses fall", limit: 1.5, on_most: false };
+const UNNESTED_FINISH: Aim = Aim { text: "`finish` / copy at 2^18 rows, shuffled, early END, late END", limit: 1.5, on_most: false };
 
 /// Rows to measure on, and what the finisher is handed with them.
 struct Rows {
@@ -78,16 +82,26 @@ fn measure(log: usize, every: usize, order: Order, rounds: usize) -> Times<4> {
 
 fn name(order: Order) -> &'static str {
     match order {
-        Order::InOrder => "in order",
+        Order::InOrder => "in order (addresses rise)",
+        Order::Falling => "nested, addresses fall",
         Order::Shuffled => "shuffled",
         Order::EarlyEnd => "early END",
         Order::LateEnd => "late END",
     }
 }
 
+/// The aims of pass 2 and of the finisher.
+fn aims_of(order: Order) -> (Aim, Aim) {
+    match order {
+        Order::InOrder => (RISING, RISING_FINISH),
+        Order::Falling => (FALLING, FALLING_FINISH),
+        Order::Shuffled | Order::EarlyEnd | Order::LateEnd => (UNNESTED, UNNESTED_FINISH),
+    }
+}
+
 fn hold(log: usize, every: usize, order: Order, times: &Times<4>, aims: &mut Aims) {
     let line = format!("{}, LOOP every {}, {} rows", name(order), count(every), power(log));
-    let (pass, finish) = if order == Order::InOrder { (ORDERED, ORDERED_FINISH) } else { (OTHER, OTHER_FINISH) };
+    let (pass, finish) = aims_of(order);
     if log >= 14 {
         aims.hold(pass, &line, times.ratio(PASS, MAP).medians);
     }
@@ -117,6 +131,6 @@ pub fn print(most: usize, aims: &mut Aims) {
 }
 
 pub fn once(log: usize, every: usize, order: &str) {
-    let order = Order::ALL.into_iter().find(|o| format!("{o:?}") == order).expect("InOrder, Shuffled, EarlyEnd or LateEnd");
+    let order = Order::ALL.into_iter().find(|o| format!("{o:?}") == order).expect("InOrder, Falling, Shuffled, EarlyEnd or LateEnd");
     measure(log, every, order, 1);
 }

@@ -11,7 +11,7 @@ use core_trace::listed::stand_ins::air::{StackCols, SystemCols};
 use core_trace::listed::stand_ins::field::Felt;
 use core_trace::profile::EXAMPLE;
 
-use super::aims::Aims;
+use super::aims::{Aim, Aims};
 use super::both::{Both, Replayed, check_equal};
 use super::memory::Memory;
 use super::rounds::{Times, line, ns, power, rounds, section};
@@ -23,7 +23,9 @@ const FRAGMENT: usize = 1 << 10;
 const CALLS: usize = 1000;
 /// The works: the five passes and the finisher, and as many of the listed Rust.
 const WORKS: usize = 6;
+const SECOND: usize = 1;
 const FINISH: usize = 5;
+const SECOND_AIM: Aim = Aim { text: "pass 2 / listed from 2^14 program rows up", limit: 1.0, on_most: false };
 const NAMES: [(&str, &str); WORKS] = [
     ("1: stack and system cells of first rows", "a fragment"),
     ("2: loop counts", "a program row"),
@@ -87,7 +89,7 @@ impl Made {
     fn proved(&self, cells: &mut [u64], times: &mut Times<{ 2 * WORKS }>) {
         let (rows, height) = (self.left.rows, self.both.height);
         times.of(0, || (0..self.repeats()).for_each(|_| self.first(black_box(cells))));
-        times.of(1, || set_loop_body_multiplicities(EXAMPLE, black_box(cells), rows).unwrap());
+        times.of(SECOND, || set_loop_body_multiplicities(EXAMPLE, black_box(cells), rows).unwrap());
         times.of(2, || invert_helper_column(black_box(cells), rows).unwrap());
         times.of(3, || (0..CALLS).for_each(|_| push_halt_opcode_row(EXAMPLE, black_box(cells), rows, &self.last).unwrap()));
         times.of(4, || pad_core_row_major(EXAMPLE, black_box(cells), rows + 1, height).unwrap());
@@ -96,7 +98,7 @@ impl Made {
     fn listed(&self, data: &mut Vec<Felt>, times: &mut Times<{ 2 * WORKS }>) {
         let rows = self.left.rows;
         times.of(WORKS, || (0..self.repeats()).for_each(|_| self.first_listed(black_box(data))));
-        times.of(WORKS + 1, || passes::multiplicities(black_box(data), rows).unwrap());
+        times.of(WORKS + SECOND, || passes::multiplicities(black_box(data), rows).unwrap());
         times.of(WORKS + 2, || passes::invert(black_box(data), FRAGMENT, rows));
         times.of(WORKS + 3, || (0..CALLS).for_each(|_| self.fourth_listed(black_box(data))));
         times.of(WORKS + 4, || passes::pad(black_box(data), self.both.height));
@@ -130,13 +132,16 @@ fn round(made: &Made, cells: &mut [u64], data: &mut Vec<Felt>, times: &mut Times
     check_equal(cells, data);
 }
 
-/// The cells of each work for a trace of 2^log rows.
-fn measure(log: usize) -> [[String; 3]; WORKS] {
+/// The cells of each work for a trace of 2^log rows, half of them program rows.
+fn measure(log: usize, aims: &mut Aims) -> [[String; 3]; WORKS] {
     let made = Made::new(1 << log);
     let mut cells = made.cells.clone();
     let mut data = Vec::with_capacity(made.data.len().max(CORE_STORAGE_WIDTH << log));
     let mut times = Times::new();
     (0..rounds(log)).for_each(|_| round(&made, &mut cells, &mut data, &mut times));
+    if log > 14 {
+        aims.hold(SECOND_AIM, &format!("{} program rows", power(log - 1)), times.ratio(SECOND, WORKS + SECOND).medians);
+    }
     let by = made.by();
     core::array::from_fn(|k| {
         let [proved, listed] = [k, WORKS + k].map(|work| ns(times.median(work, by[k])));
@@ -144,10 +149,10 @@ fn measure(log: usize) -> [[String; 3]; WORKS] {
     })
 }
 
-pub fn print(most: usize, _: &mut Aims) {
+pub fn print(most: usize, aims: &mut Aims) {
     Memory::Kept.set();
     let logs = || [10, 15, 20].into_iter().filter(|&log| log <= most);
-    let measured: Vec<_> = logs().map(measure).collect();
+    let measured: Vec<_> = logs().map(|log| measure(log, aims)).collect();
     let columns: String = logs().map(|log| format!(" | {} rows: proved | listed | proved / listed", power(log))).collect();
     section("Each pass", TEXT, &format!("pass | nanoseconds{columns}"));
     for (k, (name, by)) in NAMES.into_iter().enumerate() {

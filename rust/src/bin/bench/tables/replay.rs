@@ -3,6 +3,7 @@
 use std::hint::black_box;
 
 use core_trace::exports::WIDTH;
+use core_trace::random::{Addresses, Rng, long_run};
 
 use super::aims::{Aim, Aims};
 use super::both::{Both, check_equal};
@@ -12,7 +13,7 @@ use super::rounds::{Times, count, line, ns, power, rounds, section};
 const TEXT: &str = "The proved library (`replay_calls` for each fragment, then `finish`) beside the listed Rust over stand-ins with the same calls and \
 passes, and a copy of the rows (392 bytes each). Each makes a zeroed buffer of its own; the calls are ready, as records and as values. *Fresh*: the \
 buffer is mapped anew, so that the first write to each page is a page fault. *Kept*: its memory was written in the round before, and is zeroed \
-again. Nanoseconds a row.";
+again. The addresses of blocks rise from block to block, but on the line that says they are random. Nanoseconds a row.";
 const COLUMNS: &str =
     "nodes | rows | fragment | fresh: proved | listed | copy | proved / listed | kept: proved | listed | copy | proved / listed";
 const PAGE: u64 = 4096;
@@ -25,18 +26,25 @@ const FRESH_MOST: Aim = Aim { text: "replay + finish / listed on most lines, fre
 const KEPT: Aim = Aim { text: "replay + finish / listed on every line, kept memory", limit: 1.0, on_most: false };
 const KEPT_MOST: Aim = Aim { text: "replay + finish / listed on most lines, kept memory", limit: 0.8, on_most: true };
 
-/// The nodes, the logarithm of the rows and the fragment size of a line.
+/// The nodes, the logarithm of the rows, the fragment size and the blocks' addresses of a line.
 #[derive(Clone, Copy)]
 struct Line {
     nodes: usize,
     log: usize,
     fragment: usize,
+    addresses: Addresses,
 }
 
 impl Line {
     /// The run, whose trace has one row more than it.
     fn run(&self) -> Both {
-        Both::new(self.nodes, (1 << self.log) - 1, 1 << self.log, self.fragment)
+        let rows = (1 << self.log) - 1;
+        Both::of(long_run(&Rng::new(7), self.nodes, rows, self.fragment, self.addresses), rows + 1)
+    }
+
+    fn nodes(&self) -> String {
+        let nodes = count(self.nodes);
+        if self.addresses == Addresses::Random { nodes + ", random addresses" } else { nodes }
     }
 }
 
@@ -44,8 +52,9 @@ impl Line {
 const SIZES: [(usize, usize); 7] = [(10, 10), (14, 10), (14, 14), (17, 10), (17, 17), (20, 10), (20, 20)];
 
 fn lines(most: usize) -> Vec<Line> {
-    let of = |nodes: usize| SIZES.map(|(log, fragment)| Line { nodes, log, fragment: 1 << fragment });
-    of(10).into_iter().chain(of(10_000)).filter(|line| line.log <= most).collect()
+    let of = |nodes: usize| SIZES.map(|(log, fragment)| Line { nodes, log, fragment: 1 << fragment, addresses: Addresses::Rising });
+    let random = Line { nodes: 10, log: 14, fragment: 1 << 10, addresses: Addresses::Random };
+    of(10).into_iter().chain([random]).chain(of(10_000)).filter(|line| line.log <= most).collect()
 }
 
 fn round(both: &Both, memory: Memory, times: &mut Times<3>, is_first: bool) {
@@ -88,8 +97,8 @@ fn cells(of: &Line, times: &Times<3>) -> [String; 4] {
 fn print_line(of: &Line, fresh: &Times<3>, kept: &Times<3>, aims: &mut Aims) {
     let [a, b, c, d] = cells(of, fresh);
     let [e, f, g, h] = cells(of, kept);
-    let name = format!("{} nodes, {} rows, fragments of {}", count(of.nodes), power(of.log), count(of.fragment));
-    line([count(of.nodes), power(of.log), count(of.fragment), a, b, c, d, e, f, g, h]);
+    let name = format!("nodes: {}; {} rows, fragments of {}", of.nodes(), power(of.log), count(of.fragment));
+    line([of.nodes(), power(of.log), count(of.fragment), a, b, c, d, e, f, g, h]);
     for (times, all, most) in [(fresh, FRESH, FRESH_MOST), (kept, KEPT, KEPT_MOST)] {
         let ratio = times.ratio(PROVED, LISTED).medians;
         aims.hold(all, &name, ratio);
@@ -126,7 +135,7 @@ pub fn print(most: usize, aims: &mut Aims) {
 }
 
 pub fn once(log: usize, nodes: usize, fragment: usize) {
-    let of = Line { nodes, log, fragment };
+    let of = Line { nodes, log, fragment, addresses: Addresses::Rising };
     let mut times = Times::new();
     round(&of.run(), Memory::Fresh, &mut times, true);
     line(cells(&of, &times));

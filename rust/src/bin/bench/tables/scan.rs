@@ -12,16 +12,16 @@ use super::memory::Memory;
 use super::rounds::{Times, count, line, ns, section};
 
 const TEXT: &str = "A replay looks once at all slots, batch records and opcodes that it is lent, whether its calls name them or not. Here it is lent 8 \
-storings and 8 cycles over one forest; beside it the same call without a record, and a copy of what is looked at. Nanoseconds \
+storings and 8 cycles over one forest; beside it the same call without a record, and a copy of these three lists, whose bytes are told. Nanoseconds \
 a call, over calls that are repeated, so that a small forest is in the caches.";
-const COLUMNS: &str = "nodes | bytes looked at | replay of 8 cycles | without a record | copy | replay, a node | replay / copy";
+const COLUMNS: &str = "nodes | bytes lent | replay of 8 cycles | without a record | copy | replay, a node | replay / copy";
 const CYCLES: usize = 8;
 const ROUNDS: usize = 25;
 const REPLAY: usize = 0;
 const NOTHING: usize = 1;
 const COPY: usize = 2;
 
-/// A copy of what a replay looks at.
+/// A copy of the slots, batch records and opcodes that a replay is lent.
 struct Room(Vec<u32>, Vec<u32>, Vec<u8>);
 
 impl Room {

@@ -2,8 +2,7 @@
 use borrow.Author.Tests.{not-true, not-false}
 use borrow.Author.Needs.{needs}
 use Rattle.groups.specs.Batches.{batchAt}
-use Rattle.groups.specs.Contexts.{contextAtOp}
-use Rattle.groups.specs.ways.OperationCells.{cellsAtOp}
+use Rattle.groups.specs.Contexts.{contextAtOp, cellsAtOp}
 use Rattle.groups.proofs.Contexts.{in-batch, in-group-is}
 use Rattle.groups.proofs.context.BasicBlockContext.cells_at_op.Statement.{statement}
 use Rattle.groups.proofs.context.BasicBlockContext.cells_at_op.Tie as tie

@@ -1,4 +1,4 @@
--- Kinds of rows by a table over the bits of a row, and kinds that are kept in a list, one number a row.
+-- The kinds of rows as numbers: in a table over the bits of a row, and kept in a list, one number a row. What `reader` hands to `index`.
 use mathlib.Core.Path.{_≡_}
 use mathlib.Core.List.{List, [], _∷_}
 use Prim.Native.Nat.{ℕ, _-_, _<_}
@@ -7,8 +7,7 @@ use lib.ListN.{length, getD}
 use Rattle.groups.specs.Answer.{pick}
 use Rattle.rows.specs.declared.records.profile.Profile.{Profile}
 use Rattle.theory_readings.specs.Tokens.{controlToken}
-use Rattle.reader.specs.Rows.{tokenAt, rowKindOf}
-use Rattle.reader.specs.ways.FromRow.{opKind}
+use Rattle.reader.specs.Rows.{tokenAt, rowKindOf, opKind}
 use Rattle.reader.specs.declared.token.RowKind.{RowKind}
 use Rattle.reader.specs.declared.token.RowKind.the-variants.{Span, Join, One, Loop, Op, Respan, Repeat, End, Halt, Nothing}
 
@@ -24,7 +23,7 @@ kindOfCode p code = pick (ltb code 128) (rowKindOf (controlToken p code)) (opKin
 abbrev pub unknownKind : ℕ
 unknownKind = 10
 
--- a table has the number of each one's kind, or one that tells nothing
+-- a table over the 256 codes that has, for each, the number of its kind or one that tells nothing
 pub record KindTable (p : Profile) (table : List ℕ) : Type 0 where
   pub places : length table ≡ 256
   pub at-code : (code : ℕ) → code < 256 → getD table code 0 < unknownKind → kindNumbered (getD table code 0) ≡ kindOfCode p code
@@ -33,19 +32,7 @@ pub record KindTable (p : Profile) (table : List ℕ) : Type 0 where
 abbrev pub TellsKind : Profile → (cells : List ℕ) → (row n : ℕ) → Type 0
 TellsKind p cells row n = n < unknownKind → kindNumbered n ≡ rowKindOf (tokenAt p cells row)
 
--- whatever the profile, if the table is its
-abbrev pub TellsByTable : (table cells : List ℕ) → (row n : ℕ) → Type 0
-TellsByTable table cells row n = (p : Profile) → KindTable p table → TellsKind p cells row n
-
--- a list that tells nothing
-abbrev pub KeepsNothing : (kinds : List ℕ) → Type 0
-KeepsNothing kinds = (row : ℕ) → row < length kinds → getD kinds row 0 ≡ unknownKind
-
--- the table of a profile, and a list with a number for each of the first rows
+-- the table of a profile, and a list with such a number for each of the first rows
 pub record KeptKinds (p : Profile) (cells table kinds : List ℕ) : Type 0 where
   pub by-table : KindTable p table
   pub at-row : (row : ℕ) → row < length kinds → TellsKind p cells row (getD kinds row 0)
-
--- whatever the profile, if table and list are its
-abbrev pub TellsKept : (table kinds cells : List ℕ) → (row n : ℕ) → Type 0
-TellsKept table kinds cells row n = (p : Profile) → KeptKinds p cells table kinds → TellsKind p cells row n
