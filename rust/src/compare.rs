@@ -18,7 +18,7 @@ use crate::listed::stand_ins::air::{StackCols, SystemCols};
 use crate::listed::stand_ins::core_crate::mast::SparseMastForest;
 use crate::listed::stand_ins::field::Felt;
 use crate::listed::whole::{self, Start, refusal};
-use crate::loops::{behind_an_end, count_by_map, falling, loop_counts, nested_rows, nests_rising, shuffled};
+use crate::loops::{behind_an_end, count_by_map, counts_in_place, falling, loop_counts, nested_rows, shuffled};
 use crate::overflow::{DEPTH, HELPER, is_deep_halt, is_inverse, overflow_rule};
 use crate::profile::EXAMPLE;
 use crate::random::{DEPTHS, Rng, Run, first_syscall, raised, raised_run, raised_state};
@@ -96,7 +96,8 @@ impl Ways {
     }
     /// Whether rows of both kinds were replayed, and the stack showed two ways where there are two, and one where there is one.
     pub fn are_reached(&self) -> bool {
-        self.alternating > 0 && self.doubled > 0 && self.apart[1] > 0 && self.apart[0] < self.firsts[0]
+        let are_told_apart = self.apart == [0, self.firsts[1]] && !self.firsts.contains(&0);
+        self.alternating > 0 && self.doubled > 0 && are_told_apart
     }
 }
 
@@ -255,8 +256,7 @@ impl Tally {
         }
         answer
     }
-    /// Pass 2, held to a map in plain Rust: its answer and every cell. It fills its tables where the loops do not nest or the
-    /// addresses behind LOOP rows do not rise, and only there.
+    /// Pass 2, held to a map in plain Rust: its answer and every cell. It fills its tables where it does not count in place, and only there.
     fn hold_to_map(&mut self, kind: usize, given: &[u64]) {
         let rows = given.len() / WIDTH;
         let (mut made, mut wanted) = (given.to_vec(), given.to_vec());
@@ -268,9 +268,9 @@ impl Tally {
         if answer.map_err(|refusal| refusal.0) != counted || made != wanted {
             self.differ(format!("pass 2: {answer:?}, a map: {counted:?}; or a cell differs"));
         }
-        let (is_nested, has_tables) = (nests_rising(&EXAMPLE, given, rows), stack.words >= TABLE_WORDS);
-        if is_nested == has_tables {
-            self.differ(format!("pass 2: loops nest and addresses rise: {is_nested}; tables are filled: {has_tables}"));
+        let (is_in_place, has_tables) = (counts_in_place(&EXAMPLE, given, rows), stack.words >= TABLE_WORDS);
+        if is_in_place == has_tables {
+            self.differ(format!("pass 2 counts in place: {is_in_place}; tables are filled: {has_tables}"));
         }
         self.counted[kind] += 1;
         self.loops[kind] += loop_counts(&EXAMPLE, given, rows).len() as u64;
@@ -324,7 +324,7 @@ impl core::fmt::Display for Tally {
             let (lists, loops, tableless) = (self.counted[i], self.loops[i], self.tableless[i]);
             write!(
                 f,
-                "\n  pass 2 and a map, rows {kind}: {lists} lists with {loops} LOOP rows; {tableless} without a table, as loops nest and addresses rise"
+                "\n  pass 2 and a map, rows {kind}: {lists} lists with {loops} LOOP rows; {tableless} without a table, as loops nest, addresses rise and counts are 0"
             )?;
         }
         write!(f, "\n  replay: {}", self.ways)?;

@@ -52,9 +52,10 @@ pub fn loop_counts(profile: &Profile, cells: &[u64], rows: usize) -> Vec<u64> {
     (0..rows).filter(|&row| opcode(cells, row) == profile.loop_op).map(|row| cells[row * WIDTH + GROUP_COUNT]).collect()
 }
 
-/// Whether the loops nest and the addresses rise: each flagged END ends the innermost open LOOP row's body, at most 64 LOOP rows are open at a
-/// time and none in the end, as in a proper run; and the addresses behind LOOP rows rise, which a proper run's need not, as they are lent.
-pub fn nests_rising(profile: &Profile, cells: &[u64], rows: usize) -> bool {
+/// Whether the library counts in the LOOP rows, without tables. The loops nest: each flagged END ends the innermost open LOOP row's body, at most 64
+/// LOOP rows are open at a time and none in the end, as in a proper run. The addresses behind LOOP rows rise, which a proper run's need not, as they
+/// are lent. And the LOOP rows hold 0, as replay leaves them.
+pub fn counts_in_place(profile: &Profile, cells: &[u64], rows: usize) -> bool {
     let (mut open, mut last) = (Vec::new(), None);
     for row in 0..rows.saturating_sub(1) {
         let next = cell(cells, row + 1, ADDR);
@@ -66,7 +67,7 @@ pub fn nests_rising(profile: &Profile, cells: &[u64], rows: usize) -> bool {
                 open.pop();
             }
         } else if opcode(cells, row) == profile.loop_op {
-            if open.len() == MOST_OPEN || last >= Some(next) {
+            if open.len() == MOST_OPEN || last >= Some(next) || cells[row * WIDTH + GROUP_COUNT] != 0 {
                 return false;
             }
             open.push(next);
@@ -108,16 +109,23 @@ fn set_opcode(row: &mut [u64], opcode: u8) {
     (0..7).for_each(|bit| row[OP_BITS + bit] = u64::from(opcode >> bit & 1));
 }
 
+/// LOOP's op bits, and the count 0 that replay leaves.
+fn make_loop(profile: &Profile, row: &mut [u64]) {
+    set_opcode(row, profile.loop_op);
+    row[GROUP_COUNT] = 0;
+}
+
 fn make_flagged_end(profile: &Profile, row: &mut [u64]) {
     set_opcode(row, profile.end);
     row[H4] = 1;
 }
 
-/// Rows of random loops that nest, each passed once or more often; now and then one is left open or over 64 are open.
+/// Rows of random loops that nest, each passed once or more often; now and then one is left open or over 64 are open, or the LOOP rows hold a number
+/// already.
 pub fn nested_rows(profile: &Profile, rng: &Rng, rows: usize) -> Vec<u64> {
     let mut cells: Vec<u64> = (0..rows * WIDTH).map(|_| rng.cell()).collect();
     let (mut open, mut addr, mut row) = (Vec::new(), 0, 0);
-    let (loops, is_left_open) = (rng.pick(&[2, 4, 8]), rng.one_in(8));
+    let (loops, is_left_open, is_counted) = (rng.pick(&[2, 4, 8]), rng.one_in(8), rng.one_in(8));
     while row + 2 < rows {
         let (this, next) = cells[row * WIDTH..(row + 2) * WIDTH].split_at_mut(WIDTH);
         let must_end = !is_left_open && rows - row <= 2 * open.len() + 4;
@@ -134,7 +142,10 @@ pub fn nested_rows(profile: &Profile, rng: &Rng, rows: usize) -> Vec<u64> {
             }
             _ if !must_end && rng.below(8) < loops => {
                 addr += 1 + rng.next() % 9;
-                set_opcode(this, profile.loop_op);
+                make_loop(profile, this);
+                if is_counted {
+                    this[GROUP_COUNT] = rng.cell();
+                }
                 next[ADDR] = addr;
                 open.push(addr);
                 row += 1;
@@ -156,6 +167,8 @@ pub enum Order {
     InOrder,
     /// The loops nest in the same way, but the addresses behind the LOOP rows fall.
     Falling,
+    /// In order, but the last LOOP row holds a number already.
+    Counted,
     /// Both are random permutations, so that the loops do not nest.
     Shuffled,
     /// In order, but for one more flagged END in the third row.
@@ -165,11 +178,11 @@ pub enum Order {
 }
 
 impl Order {
-    pub const ALL: [Self; 5] = [Self::InOrder, Self::Falling, Self::Shuffled, Self::EarlyEnd, Self::LateEnd];
+    pub const ALL: [Self; 6] = [Self::InOrder, Self::Falling, Self::Counted, Self::Shuffled, Self::EarlyEnd, Self::LateEnd];
 }
 
 /// Rows with a LOOP row in the first of each `every`, its address in the second, a flagged END in the fifth and its address in the sixth. The
-/// other rows are operations of any opcode, helper cells are below 1,024, and the cells left are random below p.
+/// other rows are operations of any opcode, helper cells are below 1,024, the LOOP rows hold 0, and the cells left are random below p.
 pub fn loop_rows(profile: &Profile, rows: usize, every: usize, order: Order) -> Vec<u64> {
     let rng = Rng::new(7);
     let mut cells: Vec<u64> = (0..rows * WIDTH).map(|_| rng.next() % MODULUS).collect();
@@ -177,7 +190,7 @@ pub fn loop_rows(profile: &Profile, rows: usize, every: usize, order: Order) -> 
         let addr = 1 + 16 * (i / every) as u64;
         row[HELPER] = rng.next() % 1024;
         match i % every {
-            0 => set_opcode(row, profile.loop_op),
+            0 => make_loop(profile, row),
             4 => make_flagged_end(profile, row),
             _ => set_opcode(row, operation(&rng)),
         }
@@ -186,6 +199,7 @@ pub fn loop_rows(profile: &Profile, rows: usize, every: usize, order: Order) -> 
     match order {
         Order::InOrder => {}
         Order::Falling => cells = falling(&cells),
+        Order::Counted => cells[(rows - 1) / every * every * WIDTH + GROUP_COUNT] = 1,
         Order::Shuffled => shuffle_pairs(&rng, &mut cells, every),
         Order::EarlyEnd => make_flagged_end(profile, &mut cells[2 * WIDTH..3 * WIDTH]),
         Order::LateEnd => make_flagged_end(profile, &mut cells[(rows - 2) * WIDTH..(rows - 1) * WIDTH]),

@@ -2,7 +2,7 @@
 #![cfg(archive)]
 
 use core_trace::exports::set_loop_body_multiplicities;
-use core_trace::loops::{MANY_ROWS as ROWS, Order, count_by_map, falling, loop_rows, nests_rising};
+use core_trace::loops::{MANY_ROWS as ROWS, Order, count_by_map, counts_in_place, falling, loop_rows};
 use core_trace::profile::EXAMPLE;
 
 #[test]
@@ -17,10 +17,10 @@ fn pass_2_counts_as_a_map() {
 }
 
 #[test]
-fn loops_nest_in_two_orders() {
+fn one_order_is_counted_in_place() {
     for order in Order::ALL {
         let cells = loop_rows(&EXAMPLE, ROWS, 8, order);
-        assert_eq!(nests_rising(&EXAMPLE, &cells, ROWS), order == Order::InOrder, "{order:?}");
-        assert_eq!(nests_rising(&EXAMPLE, &falling(&cells), ROWS), order == Order::Falling, "{order:?}, turned round");
+        assert_eq!(counts_in_place(&EXAMPLE, &cells, ROWS), order == Order::InOrder, "{order:?}");
+        assert_eq!(counts_in_place(&EXAMPLE, &falling(&cells), ROWS), order == Order::Falling, "{order:?}, turned round");
     }
 }

@@ -78,12 +78,12 @@ toldOp (OpContextFound.At context) = accepted context
 toldOp (OpContextFound.Refused n) = refused n
 
 -- what an operation's row shows of its context: the index in its group, and the context's two numbers
-abbrev pub cellsOf : OpContext → OpCells
-cellsOf found = record { index = found .place .index; context = found .context }
+abbrev pub opCellsOf : OpContext → OpCells
+opCellsOf found = record { index = found .place .index; context = found .context }
 
 -- that at operation `op` of batch `index`, refused as its context is
 unfoldable pub cellsAtOp : (push : ℕ) → BasicBlockNode → (batches groups : List ℕ) → (index op : ℕ) → Answer OpCells
-cellsAtOp push block batches groups index op = andThen (contextAtOp push block batches groups index op) (λ found. accepted (cellsOf found))
+cellsAtOp push block batches groups index op = andThen (contextAtOp push block batches groups index op) (λ found. accepted (opCellsOf found))
 
 -- the number and the values of each case
 abbrev pub toldCells : OpCellsFound → Answer OpCells

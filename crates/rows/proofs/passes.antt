@@ -13,5 +13,6 @@ pub mod Sides
 pub mod Tallies
 pub mod Written
 pub mod OpenLoops
+pub mod PassOrder
 pub mod ReducedRows
 pub mod ManyRows

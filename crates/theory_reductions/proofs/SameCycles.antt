@@ -4,14 +4,13 @@
 -- A finish that was answered had such cells (`answered-cycle`), so it is answered the same (`answered-the-same`). What a fresh tracer and a storing are
 -- given was tested by the finish that follows, where one did.
 use mathlib.Core.Path.{_≡_, _∙_, refl, ap}
-use mathlib.Core.Bool.{Bool, true, false, not, _||_, or-false}
+use mathlib.Core.Bool.{false, not, _||_, or-false}
 use mathlib.Core.List.{List, [], _∷_, _++_}
 use mathlib.Core.Logic.{_↔_}
 use Prim.Native.Nat.{ℕ, _/_, _<_}
 use lib.Dec.{eqb}
 use lib.ListN.{length}
 use Rattle.field.specs.Modulus.{P}
-use Rattle.field.specs.Cells.{cellAt}
 use Rattle.field.specs.Bounds.{anyFrom}
 use Rattle.field.proofs.CellLaws.{read-small}
 use Rattle.groups.specs.Answer.{accepted, pick}

@@ -17,7 +17,8 @@ use Rattle.rows.specs.records.Profiles.{twoEqual, profileWrong}
 use Rattle.rows.specs.records.Buffers.{lastRow, h4Of, opcodeOf}
 use Rattle.rows.specs.passes.Passes.{fixedUp, multiplied, inverted, haltRow, halted, paddingRows, padded}
 use Rattle.rows.proofs.passes.RowLists.{Wide, wide-app}
-use Rattle.rows.proofs.passes.FirstRows.{Cells25}
+use Rattle.rows.proofs.passes.FirstRows.{Cells25, fixed-wide, fixed-length}
+use Rattle.rows.proofs.passes.Written.{multiplied-wide, multiplied-length}
 use Rattle.theory_readings.specs.Tokens.{Token, countOf, tokenOf, tokensOf}
 use Rattle.theory_readings.specs.Readings.{numbered, OnlyHalts, Halts, WordOf, depthOf, Ask, asks, Meets, AllMet, Reading}
 use Rattle.theory_runs.specs.Happened.{Cycle}
@@ -26,7 +27,7 @@ use Rattle.theory_runs.proofs.Looks.{none, flag, count, Seen, seen, mar
 use Rattle.theory_runs.proofs.Spelled.{tokensIn, at, run-spell}
 use Rattle.theory_runs.proofs.Tallied.{hits, counted, shows, shown}
 use Rattle.theory_runs.proofs.Counted.{whole-counts, run-shown}
-use Rattle.theory_runs.proofs.PassLooks.{fixed-looks, fixed-wide, fixed-length, multiplied-looks, multiplied-wide, multiplied-length, inverted-looks, inverted-wide, inverted-length, AllHalting, halting-halt, halting-paddings, halting-wide, length-paddings}
+use Rattle.theory_runs.proofs.PassLooks.{fixed-looks, multiplied-looks, inverted-looks, inverted-wide, inverted-length, AllHalting, halting-halt, halting-paddings, halting-wide, length-paddings}
 
 -- HALT ROWS
 

@@ -25,7 +25,7 @@ use Rattle.rows.specs.cycles.LentTally.{placeFor, cannotCount, countsNext, rowA
 use Rattle.groups.proofs.Answers.{then-accepted}
 use Rattle.groups.proofs.OneGroup.{neither}
 use Rattle.theory_reductions.proofs.Accepted.{unrefused}
-use Rattle.theory_runs.specs.Calls.{Handed, Call, store, finish, answered, after, callRefusal, afterAll, Accepted, closed, cursorOf, AllAccepted, finalStates, cellsOf}
+use Rattle.theory_runs.specs.Calls.{Handed, store, finish, answered, after, callRefusal, afterAll, Accepted, closed, cursorOf, AllAccepted, finalStates, cellsOf}
 use Rattle.theory_runs.specs.LiveCalls.{LiveHeld, LiveCall, call, lend, LiveFragment, plainCalls, plainOf, plainAll, liveAnswered, liveAfter, liveRefusal, liveAfterAll, LiveAccepted, liveOpened, liveClosed, liveCursor, AllLiveAccepted, liveEnds, liveFinals, liveCells}
 use Rattle.theory_runs.specs.LiveFinished.{SameAsPlain}
 use Rattle.theory_runs.proofs.Answers.{Numbered, accepted-of, then-numbered, if-numbered, cycle-with-numbered}

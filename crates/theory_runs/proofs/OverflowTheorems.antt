@@ -15,13 +15,14 @@ use Rattle.rows.specs.records.Buffers.{bufferRow, flat}
 use Rattle.rows.specs.cycles.Made.{Cursor}
 use Rattle.rows.specs.passes.Passes.{fixedUp, builtOf, lastBuilt}
 use Rattle.rows.proofs.passes.RowLists.{Wide, row-at}
+use Rattle.rows.proofs.passes.FirstRows.{fixed-wide}
+use Rattle.rows.proofs.passes.Written.{multiplied-wide}
 use Rattle.theory_runs.specs.Calls.{Call, store, finish, Fragment, AllAccepted, finalStates, countsOf, OneSize}
 use Rattle.theory_runs.specs.Written.{rowsRun}
 use Rattle.theory_runs.specs.Finished.{runCounts, runBuilt, writtenByFive, writtenByFinisher, FivePass, FinisherPasses}
 use Rattle.theory_runs.specs.Overflow.{b0Cell, helperCell, OverflowRule, Is32, DepthInRange, Depths32, AllDepths32}
 use Rattle.theory_runs.proofs.Folded.{rows-wide}
 use Rattle.theory_runs.proofs.Unfragmented.{counts-length, fixed-items, itemsEach, together}
-use Rattle.theory_runs.proofs.PassLooks.{fixed-wide, multiplied-wide}
 use Rattle.theory_runs.proofs.TraceOfRun.{PassesChecked, run-lasts, run-rows, run-wide, run-length, by-finisher, by-five}
 use Rattle.theory_runs.proofs.OverflowRows.{Every, every-at, EachDepth, AllDepths, BuiltRow, InvertedRow, run-deep, run-last, fixed-built, passed-inverted}
 

@@ -22,7 +22,7 @@ use Rattle.rows.specs.records.Cells.{rowCells}
 use Rattle.rows.specs.records.Buffers.{addrOf, h4Of, lowBits, opcodeOf}
 use Rattle.rows.specs.passes.Passes.{withSides, firstRow, laterRows, fixedUp, flaggedEnd, bodyEnds, withCounts, multiplied, inverted, firstHalf, haltDecoder, haltStack, haltRow, paddingRow, paddingRows}
 use Rattle.rows.proofs.passes.RowLists.{Wide}
-use Rattle.rows.proofs.passes.FirstRows.{Cells25}
+use Rattle.rows.proofs.passes.FirstRows.{Cells25, decoder-length, six-cells}
 use Rattle.theory_readings.specs.Tokens.{Token, controlToken, opToken, countOf, allBits, tokenOf}
 use Rattle.theory_reductions.proofs.CellsBelow.{ends-most}
 use Rattle.theory_runs.specs.Written.{decodersOf}
@@ -74,16 +74,9 @@ pub sides-decoder : (system decoder stack : List ℕ) → length system ≡ 6 �
 sides-decoder system decoder stack e f =
     ap (λ y. take 24 (drop 6 y)) (append-assoc system decoder stack) ∙ ap (take 24) (drop-at system (decoder ++ stack) 6 e) ∙ take-at decoder stack 24 f
 
-decoder-length : (row : List ℕ) → length row ≡ 49 → length (decoderOf row) ≡ 24
-decoder-length row e = simp (length-take, length-drop) (omega arith)
-
 with-decoder : (system stack row : List ℕ) → length system ≡ 6 → length row ≡ 49 → decoderOf (withSides system stack row) ≡ decoderOf row
 unfolding withSides
 with-decoder system stack row e f = sides-decoder system (decoderOf row) stack e (decoder-length row f)
-
-with-wide : (system stack row : List ℕ) → length system ≡ 6 → length stack ≡ 19 → length row ≡ 49 → length (withSides system stack row) ≡ 49
-unfolding withSides
-with-wide system stack row e f g = simp (length-append, length-take, length-drop) (omega arith)
 
 -- PASS 1
 
@@ -96,41 +89,12 @@ later-looks p (row ∷ rows) (last ∷ lasts) size zero c w =
     ap₂ (λ x y. x ∷ y) (same-look p (withSides (take 6 last) (drop 6 last) row) row (with-decoder (take 6 last) (drop 6 last) row (length-take 6 last ∙ omega (arith, c .0)) (w .0)))
     (later-looks p rows lasts size (pred size) (c .1) (w .1))
 
-later-wide : (rows lasts : List (List ℕ)) (size left : ℕ) → Cells25 lasts → Wide rows → Wide (laterRows size left lasts rows)
-unfolding laterRows Wide Cells25
-later-wide [] lasts size left c w = tt
-later-wide (row ∷ rows) lasts size (suc left) c w = (w .0, later-wide rows lasts size left c (w .1))
-later-wide (row ∷ rows) [] size zero c w = (w .0, later-wide rows [] size zero tt (w .1))
-later-wide (row ∷ rows) (last ∷ lasts) size zero c w =
-    (with-wide (take 6 last) (drop 6 last) row (length-take 6 last ∙ omega (arith, c .0)) (length-drop 6 last ∙ omega (arith, c .0)) (w .0), later-wide rows lasts size (pred size) (c .1) (w .1))
-
-later-length : (rows lasts : List (List ℕ)) (size left : ℕ) → length (laterRows size left lasts rows) ≡ length rows
-unfolding laterRows
-later-length [] lasts size left = refl
-later-length (row ∷ rows) lasts size (suc left) = ap suc (later-length rows lasts size left)
-later-length (row ∷ rows) [] size zero = ap suc (later-length rows [] size zero)
-later-length (row ∷ rows) (last ∷ lasts) size zero = ap suc (later-length rows lasts size (pred size))
-
-six : (row : List ℕ) → length row ≡ 49 → length (take 6 row) ≡ 6
-six row e = length-take 6 row ∙ omega arith
-
 pub fixed-looks : (p : Profile) (rows lasts : List (List ℕ)) (size : ℕ) (top : List ℕ) → Cells25 lasts → Wide rows → looks p (fixedUp size top lasts rows) ≡ looks p rows
 unfolding looks fixedUp firstRow Wide
 fixed-looks p [] lasts size top c w = refl
 fixed-looks p (row ∷ rows) lasts size top c w =
-    ap₂ (λ x y. x ∷ y) (same-look p (withSides (take 6 row) (reduced (reversed16 top ++ (16 ∷ 0 ∷ 0 ∷ []))) row) row (with-decoder (take 6 row) (reduced (reversed16 top ++ (16 ∷ 0 ∷ 0 ∷ []))) row (six row (w .0)) (w .0)))
+    ap₂ (λ x y. x ∷ y) (same-look p (withSides (take 6 row) (reduced (reversed16 top ++ (16 ∷ 0 ∷ 0 ∷ []))) row) row (with-decoder (take 6 row) (reduced (reversed16 top ++ (16 ∷ 0 ∷ 0 ∷ []))) row (six-cells row 49 (w .0) (omega arith)) (w .0)))
     (later-looks p rows lasts size (pred size) c (w .1))
-
-pub fixed-wide : (rows lasts : List (List ℕ)) (size : ℕ) (top : List ℕ) → Cells25 lasts → Wide rows → Wide (fixedUp size top lasts rows)
-unfolding fixedUp firstRow Wide reduced
-fixed-wide [] lasts size top c w = tt
-fixed-wide (row ∷ rows) lasts size top c w =
-    (with-wide (take 6 row) (reduced (reversed16 top ++ (16 ∷ 0 ∷ 0 ∷ []))) row (six row (w .0)) refl (w .0), later-wide rows lasts size (pred size) c (w .1))
-
-pub fixed-length : (rows lasts : List (List ℕ)) (size : ℕ) (top : List ℕ) → length (fixedUp size top lasts rows) ≡ length rows
-unfolding fixedUp
-fixed-length [] lasts size top = refl
-fixed-length (row ∷ rows) lasts size top = ap suc (later-length rows lasts size (pred size))
 
 -- PASS 2
 
@@ -207,33 +171,9 @@ module _ (p : Profile) (right : profileWrong p ≡ false) (m : ℕ → ℕ) (low
   counts-looks (row ∷ next ∷ rows) w =
       ap₂ (λ x y. x ∷ y) (row-count row next (looks p rows) (eqb (opcodeOf row) (p .end)) (eqb (opcodeOf row) (p .«loop_op»)) (w .0) refl refl) (counts-looks (next ∷ rows) (w .1))
 
-pick-wide : (t : Bool) (row : List ℕ) (v : ℕ) → length row ≡ 49 → length (pick t (set row 23 v) row) ≡ 49
-pick-wide true row v h = length-set row 23 v ∙ h
-pick-wide false row v h = h
-
-counts-wide : (p : Profile) (m : ℕ → ℕ) (rows : List (List ℕ)) → Wide rows → Wide (withCounts p m rows)
-unfolding withCounts Wide
-counts-wide p m [] w = tt
-counts-wide p m (row ∷ []) w = w
-counts-wide p m (row ∷ next ∷ rows) w = (pick-wide (eqb (opcodeOf row) (p .«loop_op»)) row (m (addrOf next)) (w .0), counts-wide p m (next ∷ rows) (w .1))
-
-counts-length : (p : Profile) (m : ℕ → ℕ) (rows : List (List ℕ)) → length (withCounts p m rows) ≡ length rows
-unfolding withCounts
-counts-length p m [] = refl
-counts-length p m (row ∷ []) = refl
-counts-length p m (row ∷ next ∷ rows) = ap suc (counts-length p m (next ∷ rows))
-
 pub multiplied-looks : (p : Profile) → profileWrong p ≡ false → (rows : List (List ℕ)) → length rows < P → Wide rows → looks p (multiplied p rows) ≡ counted (λ x. hits x (looks p rows)) (looks p rows)
 unfolding multiplied
 multiplied-looks p right rows few w = counts-looks p right (λ x. bodyEnds p x rows) (λ x. omega (arith, ends-most p x rows)) rows w ∙ ap (λ m. counted m (looks p rows)) (fun-ext (λ x. ends-hits p x rows))
-
-pub multiplied-wide : (p : Profile) (rows : List (List ℕ)) → Wide rows → Wide (multiplied p rows)
-unfolding multiplied
-multiplied-wide p rows w = counts-wide p (λ x. bodyEnds p x rows) rows w
-
-pub multiplied-length : (p : Profile) (rows : List (List ℕ)) → length (multiplied p rows) ≡ length rows
-unfolding multiplied
-multiplied-length p rows = counts-length p (λ x. bodyEnds p x rows) rows
 
 -- PASS 3
 

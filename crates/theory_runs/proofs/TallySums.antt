@@ -23,6 +23,8 @@ use Rattle.rows.specs.cycles.Cycles.{finalState, forPasses}
 use Rattle.rows.proofs.passes.Checks.{none-first}
 use Rattle.rows.proofs.records.Occurrences.{occurrences-append}
 use Rattle.rows.proofs.passes.RowLists.{Wide, wide-rows, length-rows, row-at, rows-flat}
+use Rattle.rows.proofs.passes.FirstRows.{fixed-wide, fixed-length}
+use Rattle.rows.proofs.passes.Written.{multiplied-wide, multiplied-length}
 use Rattle.theory_reductions.proofs.CellsBelow.{ends-most}
 use Rattle.theory_runs.specs.Calls.{Fragment, opened, closed, cursorOf, AllAccepted, finalStates, countsOf, builtCells, OneSize}
 use Rattle.theory_runs.specs.LiveCalls.{LiveHeld, LiveCall, call, lend, LiveFragment, plainCalls, plainOf, plainAll, liveAfter, liveAfterAll, LiveAccepted, liveOpened, liveClosed, liveCursor, AllLiveAccepted, liveEnds, liveFinals, NoneLent, LentAsZeros, LentCall, liveAfterEach, FreshFragment, freshEnds}
@@ -33,7 +35,7 @@ use Rattle.theory_runs.proofs.Folded.{fragment-holding, count-rows, row
 use Rattle.theory_runs.proofs.LiveRuns.{live-calls, live-as-calls}
 use Rattle.theory_runs.proofs.LiveTraces.{live-written, live-written-by-five}
 use Rattle.theory_runs.proofs.Tallied.{hits}
-use Rattle.theory_runs.proofs.PassLooks.{decoderOf, same-looks, cell-by, bits-by, count-decoder, count-bits, cell-other, cell-set, helper-decoder, fixed-looks, fixed-wide, fixed-length, ends-hits, multiplied-wide, multiplied-length, inverted-length}
+use Rattle.theory_runs.proofs.PassLooks.{decoderOf, same-looks, cell-by, bits-by, count-decoder, count-bits, cell-other, cell-set, helper-decoder, fixed-looks, ends-hits, inverted-length}
 use Rattle.theory_runs.proofs.TallyTheorems.{tally-count}
 use Rattle.theory_runs.proofs.TraceOfRun.{few-rows, PassesChecked, run-rows, run-lasts, run-wide, run-length, by-finisher, by-five}
 

@@ -20,7 +20,8 @@ use Rattle.rows.specs.passes.Passes.{fixedUp, builtOf, multiplied, inverted, ha
 use Rattle.groups.specs.Answer.{firstOf}
 use Rattle.rows.proofs.passes.Checks.{neither, none-first}
 use Rattle.rows.proofs.passes.RowLists.{Wide, length-flat, rows-flat}
-use Rattle.rows.proofs.passes.FirstRows.{Cells25}
+use Rattle.rows.proofs.passes.FirstRows.{Cells25, fixed-wide, fixed-length}
+use Rattle.rows.proofs.passes.Written.{multiplied-wide, multiplied-length}
 use Rattle.theory_readings.specs.Readings.{bufferRefusal, allRows, Trace}
 use Rattle.theory_runs.specs.Calls.{Fragment, AllAccepted, finalStates, countsOf, OneSize}
 use Rattle.theory_runs.specs.Happened.{Cycle, cyclesOf}
@@ -32,7 +33,7 @@ use Rattle.theory_runs.proofs.Folded.{AllFine, rows-wide, sum-rows, cel
 use Rattle.theory_reductions.specs.Below.{BelowAll}
 use Rattle.theory_reductions.proofs.CellsBelow.{below-reduced, below-fixed, below-multiplied, below-inverted, below-halted, below-padded}
 use Rattle.theory_runs.proofs.StartsReduced.{starts-reduced}
-use Rattle.theory_runs.proofs.PassLooks.{fixed-wide, fixed-length, multiplied-wide, multiplied-length, inverted-wide, inverted-length}
+use Rattle.theory_runs.proofs.PassLooks.{inverted-wide, inverted-length}
 use Rattle.theory_runs.proofs.FinishedRows.{all-rows, halted-wide, halted-length, all-wide, all-length, all-reading}
 
 -- THE CYCLES OF A PROPER RUN

@@ -10,6 +10,7 @@ use lib.ListN.{length, take, drop, length-take, length-drop}
 use Rattle.rows.specs.declared.records.profile.Profile.{Profile}
 use Rattle.rows.specs.passes.Passes.{sumOf, notFull, noFragment, fragmentsWrong, heightWrong, refusal2, refusalAll}
 use Rattle.rows.specs.records.Buffers.{bufferWrong, fewerRows}
+use Rattle.rows.specs.ways.Finisher.{Passed}
 use Rattle.rows.proofs.passes.Checks.{neither, none-first}
 use Rattle.rows.proofs.passes.Counts.{fits}
 
@@ -84,21 +85,15 @@ ready cells size rows height (count ∷ counts) built e f none full s =
       in-built = k .in-built;
     }
 
--- the finisher's checks, where none of them holds
-pub record Passed (cells size height : ℕ) (counts built : List ℕ) : Type 0 where
-  pub fragments : fragmentsWrong cells size counts built ≡ false
-  pub height-right : heightWrong cells (sumOf counts) height ≡ false
-  pub fragment : noFragment counts ≡ false
-  pub full : notFull size counts ≡ false
-
-pub passed-all : (p : Profile) (buffer : List ℕ) (size : ℕ) (counts built : List ℕ) (height : ℕ) → refusalAll p buffer size counts built height ≡ 0 → Passed (length buffer) size height counts built
+pub passed-all : (p : Profile) (buffer : List ℕ) (size : ℕ) (counts built : List ℕ) (height : ℕ) → refusalAll p buffer size counts built height ≡ 0 → Passed p (length buffer) size height counts built
 unfolding refusalAll
 passed-all p buffer size counts built height e =
-    let b = none-first _ _ _ (none-first _ _ _ e .1) in
+    let a = none-first _ _ _ e in
+    let b = none-first _ _ _ (a .1) in
     let d = neither (fragmentsWrong (length buffer) size counts built) (heightWrong (length buffer) (sumOf counts) height) (b .0) in
     let f = none-first _ _ _ (b .1) in
     let g = none-first _ _ _ (f .1) in
-    record { fragments = d .0; height-right = d .1; fragment = f .0; full = g .0 }
+    record { profile-right = a .0; fragments = d .0; height-right = d .1; fragment = f .0; full = g .0 }
 
 -- the built cells of the last of n fragments
 pub last-part : (n : ℕ) → 25 * (n - 1) + 25 - 25 * (n - 1) ≡ 25

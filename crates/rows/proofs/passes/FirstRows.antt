@@ -18,7 +18,7 @@ unfoldable pub Cells25 : List (List ℕ) → Type 0
 Cells25 [] = Unit {0}
 Cells25 (cells ∷ more) = (length cells ≡ 25) × Cells25 more
 
-built-wide : (n : ℕ) (built : List ℕ) → 25 * n ≤ length built → Cells25 (builtOf n built)
+pub built-wide : (n : ℕ) (built : List ℕ) → 25 * n ≤ length built → Cells25 (builtOf n built)
 unfolding builtOf Cells25
 built-wide zero built h = tt
 built-wide (suc n) built h =
@@ -38,8 +38,14 @@ built-more (suc n) built =
     ap (λ y. reduced (take 25 built) ∷ y) (built-more n (drop 25 built))
     ∙ ap (λ y. reduced (take 25 built) ∷ (builtOf n (drop 25 built) ++ (reduced (take 25 y) ∷ []))) (drop-drop (25 * n) 25 built ∙ ap (λ k. drop k built) e)
 
+pub decoder-length : (row : List ℕ) → length row ≡ 49 → length (take 24 (drop 6 row)) ≡ 24
+decoder-length row wide = length-take 24 (drop 6 row) ∙ omega (arith, length-drop 6 row)
+
+pub six-cells : (cells : List ℕ) (n : ℕ) → length cells ≡ n → 6 ≤ n → length (take 6 cells) ≡ 6
+six-cells cells n e h = length-take 6 cells ∙ omega arith
+
 -- a row of 49 cells stays one
-sides-wide : (system stack row : List ℕ) → length system ≡ 6 → length stack ≡ 19 → length row ≡ 49 → length (withSides system stack row) ≡ 49
+pub sides-wide : (system stack row : List ℕ) → length system ≡ 6 → length stack ≡ 19 → length row ≡ 49 → length (withSides system stack row) ≡ 49
 unfolding withSides
 sides-wide system stack row e f g = simp (length-append, length-take, length-drop) (omega arith)
 
@@ -53,19 +59,31 @@ later-none [] size left = refl
 later-none (row ∷ rows) size zero = ap (λ y. row ∷ y) (later-none rows size zero)
 later-none (row ∷ rows) size (suc left) = ap (λ y. row ∷ y) (later-none rows size left)
 
-length-later : (rows lasts : List (List ℕ)) (size left : ℕ) → length (laterRows size left lasts rows) ≡ length rows
+pub length-later : (rows lasts : List (List ℕ)) (size left : ℕ) → length (laterRows size left lasts rows) ≡ length rows
 unfolding laterRows
 length-later [] lasts size left = refl
 length-later (row ∷ rows) [] size zero = ap suc (length-later rows [] size zero)
 length-later (row ∷ rows) (last ∷ lasts) size zero = ap suc (length-later rows lasts size (pred size))
 length-later (row ∷ rows) lasts size (suc left) = ap suc (length-later rows lasts size left)
 
-later-wide : (rows lasts : List (List ℕ)) (size left : ℕ) → Cells25 lasts → Wide rows → Wide (laterRows size left lasts rows)
+pub later-wide : (rows lasts : List (List ℕ)) (size left : ℕ) → Cells25 lasts → Wide rows → Wide (laterRows size left lasts rows)
 unfolding laterRows Wide Cells25
 later-wide [] lasts size left c w = tt
 later-wide (row ∷ rows) [] size zero c w = (w .0, later-wide rows [] size zero tt (w .1))
 later-wide (row ∷ rows) (last ∷ lasts) size zero c w = (last-wide last row (c .0) (w .0), later-wide rows lasts size (pred size) (c .1) (w .1))
 later-wide (row ∷ rows) lasts size (suc left) c w = (w .0, later-wide rows lasts size left c (w .1))
+
+pub fixed-length : (rows lasts : List (List ℕ)) (size : ℕ) (top : List ℕ) → length (fixedUp size top lasts rows) ≡ length rows
+unfolding fixedUp
+fixed-length [] lasts size top = refl
+fixed-length (row ∷ rows) lasts size top = ap suc (length-later rows lasts size (pred size))
+
+pub fixed-wide : (rows lasts : List (List ℕ)) (size : ℕ) (top : List ℕ) → Cells25 lasts → Wide rows → Wide (fixedUp size top lasts rows)
+unfolding fixedUp firstRow Wide
+fixed-wide [] lasts size top c w = tt
+fixed-wide (row ∷ rows) lasts size top c w =
+    let stack : List ℕ = reversed16 top ++ (16 ∷ 0 ∷ 0 ∷ []) in
+    (sides-wide (take 6 row) (reduced stack) row (six-cells row 49 (w .0) (omega arith)) (length-reduced stack) (w .0), later-wide rows lasts size (pred size) c (w .1))
 
 -- the cells of one fragment more change one row more
 module _ (size : ℕ) (some : 0 < size) (cells : List ℕ) where

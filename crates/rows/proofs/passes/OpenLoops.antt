@@ -7,11 +7,12 @@ use Prim.Native.Nat.{ℕ, zero, suc, _+_, _-_, _*_, _≤_, _<_}
 use native.Mathlib.Omega.{arith}
 use native.Mathlib.Decide.{ℕ-discrete, decLt, decLe}
 use lib.ListN.{length, getD, set, replicate}
-use lib.Seq.{getD-set-same, getD-set-other, set-set, set-comm, set-getD}
+use lib.Seq.{getD-set-same, getD-set-other, set-set, set-comm, set-getD, ext-getD}
 use borrow.Author.Tests.{eq-eqb, ne-eqb}
 use Rattle.rows.specs.declared.records.profile.Profile.{Profile}
 use Rattle.rows.specs.records.Buffers.{bufferRow, opcodeOf}
 use Rattle.rows.specs.passes.Passes.{flaggedEnd}
+use Rattle.rows.specs.ways.OpenLoops.{CountsIn}
 use Rattle.rows.specs.ways.LoopCounts.{isLoop, nextAddr, endsIn, lacksFrom, countedFrom, Alike}
 use Rattle.rows.proofs.cycles.PartScans.{never}
 use Rattle.rows.proofs.passes.RowCells.{alike-refl, alike-set, opcode-alike, cell-alike}
@@ -174,8 +175,8 @@ module _ (p : Profile) (first cells stack : List ℕ) (depth above i : ℕ) (was
     none = λ x h. ends-same p first i f x ∙ was .none x h;
   }
 
-  module _ (l : isLoop p (bufferRow i first) ≡ true) (f : flaggedEnd p (bufferRow i first) ≡ false) (high : above ≤ nextAddr i first) (room : depth + 1 < length stack) (fits : 49 * i + 23 < length cells) where
-    pub counted-opens : LoopsCounted p first (set cells (49 * i + 23) 0) (set stack (depth + 1) i) (depth + 1) (nextAddr i first + 1) (i + 1)
+  module _ (l : isLoop p (bufferRow i first) ≡ true) (f : flaggedEnd p (bufferRow i first) ≡ false) (high : above ≤ nextAddr i first) (room : depth + 1 < length stack) (held : getD cells (49 * i + 23) 0 ≡ 0) where
+    pub counted-opens : LoopsCounted p first cells (set stack (depth + 1) i) (depth + 1) (nextAddr i first + 1) (i + 1)
     counted-opens = record {
       inside = λ k. inside-at k (ℕ-discrete k (depth + 1));
       opened = λ k a b. opened-at k a b (ℕ-discrete k (depth + 1));
@@ -195,10 +196,9 @@ module _ (p : Profile) (first cells stack : List ℕ) (depth above i : ℕ) (was
             let o = was .opened k a (omega (arith, e)) in
             rw (getD-set-other stack (depth + 1) k i 0 e) (omega (arith, o .0), o .1)
 
-        counts-at : (j : ℕ) → j < i + 1 → isLoop p (bufferRow j first) ≡ true → Dec (j ≡ i) → getD (set cells (49 * i + 23) 0) (49 * j + 23) 0 ≡ endsIn p (i + 1 + 1) first (nextAddr j first)
-        counts-at j h m (yes e) = rw e (getD-set-same cells (49 * i + 23) 0 0 fits ∙ sym (ends-same p first i f (nextAddr i first) ∙ was .none (nextAddr i first) high))
-        counts-at j h m (no e) =
-            getD-set-other cells (49 * i + 23) (49 * j + 23) 0 0 (λ s. e (omega arith)) ∙ was .counts j (omega (arith, e)) m ∙ sym (ends-same p first i f (nextAddr j first))
+        counts-at : (j : ℕ) → j < i + 1 → isLoop p (bufferRow j first) ≡ true → Dec (j ≡ i) → getD cells (49 * j + 23) 0 ≡ endsIn p (i + 1 + 1) first (nextAddr j first)
+        counts-at j h m (yes e) = rw e (held ∙ sym (ends-same p first i f (nextAddr i first) ∙ was .none (nextAddr i first) high))
+        counts-at j h m (no e) = was .counts j (omega (arith, e)) m ∙ sym (ends-same p first i f (nextAddr j first))
 
         below-at : (j : ℕ) → j < i + 1 → isLoop p (bufferRow j first) ≡ true → Dec (j ≡ i) → nextAddr j first < nextAddr i first + 1
         below-at j h m (yes e) = rw e (omega arith)
@@ -310,3 +310,57 @@ counted-all p first cells stack depth above i rows was g most low = settled p (e
         let e : i + 1 ≡ rows = omega arith in
         let s : nextAddr j cells ≡ nextAddr j first = cell-alike cells first g (j + 1) 6 (omega arith) in
         rw (s, ← e) (was .counts j (omega arith) (rw (opcode-alike cells first g j) at l))
+
+-- THE COUNTS AND NOTHING ELSE
+
+module _ (p : Profile) (first : List ℕ) where
+  pub in-start : CountsIn p first 0 0 first
+  in-start = record { alike = alike-refl first; others = λ x h. refl; zeros = λ j h. absurd (omega arith) }
+
+  module _ (cells : List ℕ) (i : ℕ) (was : CountsIn p first 0 i cells) where
+    -- a cell that no LOOP row before the next one counts in
+    earlier-others : (x : ℕ) → ((j : ℕ) → 0 ≤ j → j < i + 1 → isLoop p (bufferRow j first) ≡ true → x ≡ 49 * j + 23 → ⊥) → getD cells x 0 ≡ getD first x 0
+    earlier-others x h = was .others x (λ j a b l e. h j a (omega arith) l e)
+
+    pub in-other : isLoop p (bufferRow i first) ≡ false → CountsIn p first 0 (i + 1) cells
+    in-other n = record { alike = was .alike; others = earlier-others; zeros = earlier p first i (was .zeros) n }
+
+    -- row i is as it was
+    still-held : getD cells (49 * i + 23) 0 ≡ getD first (49 * i + 23) 0
+    still-held = was .others (49 * i + 23) (λ j a b l e. omega arith)
+
+    pub in-opens : getD cells (49 * i + 23) 0 ≡ 0 → CountsIn p first 0 (i + 1) cells
+    in-opens held = record { alike = was .alike; others = earlier-others; zeros = λ j h l. zero-in j h l (ℕ-discrete j i) }
+      where
+        zero-in : (j : ℕ) → j < i + 1 → isLoop p (bufferRow j first) ≡ true → Dec (j ≡ i) → getD first (49 * j + 23) 0 ≡ 0
+        zero-in j h l (yes e) = rw e (sym still-held ∙ held)
+        zero-in j h l (no e) = was .zeros j (omega (arith, e)) l
+
+    pub in-ends : (top v : ℕ) → top < i → isLoop p (bufferRow top first) ≡ true → isLoop p (bufferRow i first) ≡ false → CountsIn p first 0 (i + 1) (set cells (49 * top + 23) v)
+    in-ends top v low l n = record {
+      alike = alike-set cells first top v (was .alike);
+      others = λ x h. getD-set-other cells (49 * top + 23) x v 0 (λ e. h top (omega arith) (omega arith) l e) ∙ earlier-others x h;
+      zeros = earlier p first i (was .zeros) n;
+    }
+
+  module _ (cells : List ℕ) (i end : ℕ) (was : CountsIn p first i end cells) where
+    pub clear-none : isLoop p (bufferRow i first) ≡ false → CountsIn p first (i + 1) end cells
+    clear-none n = record { alike = was .alike; others = λ x h. was .others x (λ j a b l e. by-row x h j a b l e (ℕ-discrete j i)); zeros = was .zeros }
+      where
+        by-row : (x : ℕ) → ((j : ℕ) → i + 1 ≤ j → j < end → isLoop p (bufferRow j first) ≡ true → x ≡ 49 * j + 23 → ⊥) → (j : ℕ) → i ≤ j → j < end → isLoop p (bufferRow j first) ≡ true → x ≡ 49 * j + 23 → Dec (j ≡ i) → ⊥
+        by-row x h j a b l e (yes s) = clash (isLoop p (bufferRow i first)) (rw s at l) n
+        by-row x h j a b l e (no s) = h j (omega (arith, s)) b l e
+
+    pub clear-one : i < end → isLoop p (bufferRow i first) ≡ true → 49 * i + 23 < length cells → CountsIn p first (i + 1) end (set cells (49 * i + 23) 0)
+    clear-one low is fits = record { alike = alike-set cells first i 0 (was .alike); others = λ x h. at x h (ℕ-discrete x (49 * i + 23)); zeros = was .zeros }
+      where
+        by-row : (x : ℕ) → (x ≡ 49 * i + 23 → ⊥) → ((j : ℕ) → i + 1 ≤ j → j < end → isLoop p (bufferRow j first) ≡ true → x ≡ 49 * j + 23 → ⊥) → (j : ℕ) → i ≤ j → j < end → isLoop p (bufferRow j first) ≡ true → x ≡ 49 * j + 23 → Dec (j ≡ i) → ⊥
+        by-row x n h j a b l e (yes s) = n (e ∙ ap (λ (r : ℕ). 49 * r + 23) s)
+        by-row x n h j a b l e (no s) = h j (omega (arith, s)) b l e
+
+        at : (x : ℕ) → ((j : ℕ) → i + 1 ≤ j → j < end → isLoop p (bufferRow j first) ≡ true → x ≡ 49 * j + 23 → ⊥) → Dec (x ≡ 49 * i + 23) → getD (set cells (49 * i + 23) 0) x 0 ≡ getD first x 0
+        at x h (yes e) = rw e (getD-set-same cells (49 * i + 23) 0 0 fits ∙ sym (was .zeros i low is))
+        at x h (no n) = getD-set-other cells (49 * i + 23) x 0 0 n ∙ was .others x (λ j a b l e. by-row x n h j a b l e (ℕ-discrete j i))
+
+  pub cleared-all : (cells : List ℕ) (i end : ℕ) → end ≤ i → CountsIn p first i end cells → cells ≡ first
+  cleared-all cells i end low was = ext-getD 0 cells first (was .alike .size) (λ x h. was .others x (λ j a b l e. omega arith))

@@ -50,6 +50,17 @@ opcode-cells c i =
     ap lowBits (reduced-take 7 (drop 7 (bufferRow i c))) ∙ seven (reduced (drop 7 (bufferRow i c)))
     ∙ rw (bit c i 0 (omega arith), bit c i 1 (omega arith), bit c i 2 (omega arith), bit c i 3 (omega arith), bit c i 4 (omega arith), bit c i 5 (omega arith), bit c i 6 (omega arith))
 
+-- rows with the same bit cells have one opcode
+pub opcode-same : (a b : List ℕ) → ((k : ℕ) → k < 7 → getD a (7 + k) 0 ≡ getD b (7 + k) 0) → opcodeOf a ≡ opcodeOf b
+unfolding opcodeOf cellAt
+opcode-same a b h =
+    ap lowBits (reduced-take 7 (drop 7 a)) ∙ seven (reduced (drop 7 a))
+    ∙ rw (at 0 (omega arith), at 1 (omega arith), at 2 (omega arith), at 3 (omega arith), at 4 (omega arith), at 5 (omega arith), at 6 (omega arith))
+    (sym (ap lowBits (reduced-take 7 (drop 7 b)) ∙ seven (reduced (drop 7 b))))
+  where
+    at : (k : ℕ) → k < 7 → getD (reduced (drop 7 a)) k 0 ≡ getD (reduced (drop 7 b)) k 0
+    at k l = getD-reduced (drop 7 a) k ∙ ap (λ (x : ℕ). x % P) (getD-drop 7 a k 0 ∙ h k l ∙ sym (getD-drop 7 b k 0)) ∙ sym (getD-reduced (drop 7 b) k)
+
 -- the rows without the highest bit are those of a low opcode
 pub low-opcode : (c : List ℕ) (i : ℕ) → eqb (cellAt c (49 * i + 13) % 2) 0 ≡ ltb (opcodeOf (bufferRow i c)) 64
 low-opcode c i = by-bit (ℕ-discrete (cellAt c (49 * i + 13) % 2) 0)

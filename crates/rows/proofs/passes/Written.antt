@@ -1,16 +1,17 @@
 -- Writing counts into the LOOP rows of a buffer, row by row.
 use mathlib.Core.Path.{_≡_, refl, sym, _∙_, ap, fun-ext}
-use mathlib.Core.Bool.{true, false}
+use mathlib.Core.Bool.{Bool, true, false}
 use mathlib.Core.List.{List, [], _∷_, _++_, append-assoc}
 use Prim.Native.Nat.{ℕ, suc, _+_, _-_, _*_, _≤_, _<_}
 use native.Mathlib.Omega.{arith}
-use lib.ListN.{length, set, take, drop, take-append-drop}
+use lib.ListN.{length, set, take, drop, take-append-drop, length-set}
 use lib.Seq.{take-add, take-set-le, take-set-lt, drop-set-add, drop-set-lt}
 use Rattle.rows.specs.declared.records.profile.Profile.{Profile}
-use Rattle.rows.specs.records.Buffers.{rowsOf, flat, onRows, bufferRow}
-use Rattle.rows.specs.passes.Passes.{withCounts, multiplied}
+use Rattle.groups.specs.Answer.{pick}
+use Rattle.rows.specs.records.Buffers.{rowsOf, flat, onRows, bufferRow, addrOf}
+use Rattle.rows.specs.passes.Passes.{bodyEnds, withCounts, multiplied}
 use Rattle.rows.specs.ways.LoopCounts.{rowsFrom, isLoop, nextAddr, endsIn, countedFrom, Alike}
-use Rattle.rows.proofs.passes.RowLists.{length-rows, flat-rows, on-rows}
+use Rattle.rows.proofs.passes.RowLists.{Wide, length-rows, flat-rows, on-rows}
 use Rattle.rows.proofs.passes.RowsFrom.{counts-step, counts-last, rows-first, ends-alike}
 
 counts-length : (p : Profile) (count : ℕ → ℕ) (rows : List (List ℕ)) → length (withCounts p count rows) ≡ length rows
@@ -18,6 +19,24 @@ unfolding withCounts
 counts-length p count [] = refl
 counts-length p count (row ∷ []) = refl
 counts-length p count (row ∷ next ∷ rows) = ap suc (counts-length p count (next ∷ rows))
+
+pick-wide : (t : Bool) (row : List ℕ) (v : ℕ) → length row ≡ 49 → length (pick t (set row 23 v) row) ≡ 49
+pick-wide true row v h = length-set row 23 v ∙ h
+pick-wide false row v h = h
+
+counts-wide : (p : Profile) (count : ℕ → ℕ) (rows : List (List ℕ)) → Wide rows → Wide (withCounts p count rows)
+unfolding withCounts Wide
+counts-wide p count [] w = tt
+counts-wide p count (row ∷ []) w = w
+counts-wide p count (row ∷ next ∷ rows) w = (pick-wide (isLoop p row) row (count (addrOf next)) (w .0), counts-wide p count (next ∷ rows) (w .1))
+
+pub multiplied-length : (p : Profile) (rows : List (List ℕ)) → length (multiplied p rows) ≡ length rows
+unfolding multiplied
+multiplied-length p rows = counts-length p (λ x. bodyEnds p x rows) rows
+
+pub multiplied-wide : (p : Profile) (rows : List (List ℕ)) → Wide rows → Wide (multiplied p rows)
+unfolding multiplied
+multiplied-wide p rows w = counts-wide p (λ x. bodyEnds p x rows) rows w
 
 -- the pass is that from the first row on
 pub counted-first : (p : Profile) (rows : ℕ) (c : List ℕ) → onRows rows (multiplied p) c ≡ countedFrom p (endsIn p rows c) rows 0 c

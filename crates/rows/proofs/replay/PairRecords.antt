@@ -14,7 +14,7 @@ use Rattle.field.proofs.CellLaws.{read-small}
 use Rattle.groups.specs.Answer.{accepted, andThen, pick}
 use Rattle.groups.specs.Words.{wordAt, readWord}
 use Rattle.groups.specs.Batches.{recordOf, batchOf, isBatch, batchAt, startsAt}
-use Rattle.groups.specs.Contexts.{contextAtOp, cellsOf, cellsAtOp}
+use Rattle.groups.specs.Contexts.{contextAtOp, opCellsOf, cellsAtOp}
 use Rattle.groups.specs.GroupOfOperation.{falling, groupFrom, groupOf}
 use Rattle.groups.specs.Helpers.{allBelow, readRegisters, u32Values, six, helpersOf, helpersOfCells, helpersAnswer, toldHelpers}
 use Rattle.groups.specs.declared.batch.BasicBlockNode.{BasicBlockNode}
@@ -180,7 +180,7 @@ module _ (push : ℕ) (block : BasicBlockNode) (batches groups : List ℕ) (inde
       let (place, e3, e4) = then-accepted (groupOf (startsAt batches block index) (batch .«num_ops») op) _ found e2 in
       (batch, e1, batch-is batch e1, in-batch _ _ place e3)
 
-  context-found : (cells : OpCells) → accepted cells ≡ cellsAtOp push block batches groups index op → (found : OpContext) × (contextAtOp push block batches groups index op ≡ accepted found) × (cells ≡ cellsOf found)
+  context-found : (cells : OpCells) → accepted cells ≡ cellsAtOp push block batches groups index op → (found : OpContext) × (contextAtOp push block batches groups index op ≡ accepted found) × (cells ≡ opCellsOf found)
   unfolding cellsAtOp
   context-found cells e =
       let (found, e1, e2) = then-accepted (contextAtOp push block batches groups index op) _ cells (sym e) in
@@ -193,7 +193,7 @@ block-found nodes digests id e = let (whole, kind) = slot-whole nodes digests id
 
 module _ (f : Forest) (push : ℕ) (id : MastNodeId) (index op : ℕ) (block : BasicBlockNode) (cells : OpCells) (first : ℕ) (kind : 2 ≡ kindAt (f .nodes) (f .digests) (id .0))
     (is : block ≡ slotBlock (f .nodes) (id .0)) (starts : first ≡ getD (f .batches) (12 * recordOf block index + 11) 0) (inside : first + op < length (f .ops)) where
-  operation-at : (found : OpContext) (batch : OpBatch) → contextAtOp push block (f .batches) (f .groups) index op ≡ accepted found → cells ≡ cellsOf found
+  operation-at : (found : OpContext) (batch : OpBatch) → contextAtOp push block (f .batches) (f .groups) index op ≡ accepted found → cells ≡ opCellsOf found
       → batchAt (f .batches) (f .groups) block index ≡ accepted batch → first ≡ batch .«first_op» → op < batch .«num_ops»
       → OperationIn (OpFound.Is (getD (f .ops) (first + op) 0) cells) f push id index op
   unfolding resumed operationMade opcodeAt blockOf

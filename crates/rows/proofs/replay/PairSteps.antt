@@ -6,9 +6,8 @@ use Prim.Native.Nat.{ℕ, _+_, _-_, _*_, _/_, _<_, _≤_}
 use native.Mathlib.Omega.{arith}
 use lib.ListN.{length, take, drop, getD}
 use Rattle.field.specs.Cells.{reduced}
-use Rattle.groups.specs.Answer.{Answer, accepted, refused, pick}
+use Rattle.groups.specs.Answer.{Answer, accepted, refused}
 use Rattle.groups.specs.Constants.{rowWidth}
-use Rattle.groups.specs.declared.helpers.OperationHelperRegisters.{OperationHelperRegisters}
 use Rattle.groups.specs.declared.helpers.UserOpHelpers.{UserOpHelpers}
 use Rattle.groups.specs.declared.helpers.HelpersFound.{HelpersFound}
 use Rattle.groups.specs.declared.context.OpCells.{OpCells}
@@ -33,11 +32,11 @@ use Rattle.rows.specs.declared.replay.pairs.Walk.{Walk}
 use Rattle.rows.specs.records.Forests.{Forest}
 use Rattle.rows.specs.records.Addresses.{Queues}
 use Rattle.rows.specs.records.Built.{builtSystem, builtStack, systemCells}
-use Rattle.rows.specs.records.Cells.{rowCells, rowWritten}
+use Rattle.rows.specs.records.Cells.{rowWritten}
 use Rattle.rows.specs.records.DecoderRows.{operation, decoderCells}
 use Rattle.rows.specs.records.CallRecords.{of32, storedInRecord, systemIn, stackIn, recordAt}
 use Rattle.rows.specs.cycles.Made.{Cursor, cursor, toldMade, made}
-use Rattle.rows.specs.ways.Pairs.{SystemBuilt, StackBuilt, RowBehind, StoresOperation, OperationIn, HelpersIn, pairMade, Makes, ArePair, PutBehind, TakesOperation, TakesPair, Onward, behind, StandsAt}
+use Rattle.rows.specs.ways.Pairs.{SystemBuilt, StackBuilt, RowBehind, StoresOperation, OperationIn, HelpersIn, pairMade, Makes, ArePair, PutBehind, TakesOperation, TakesPair, Onward, tracerBehind, StandsAt}
 use Rattle.rows.proofs.records.Rooms.{cells-in-two}
 
 pub makes-told : (r : Made) (answer : Answer MadeRow) → toldMade r ≡ answer → Makes r answer
@@ -174,7 +173,7 @@ module _ (records : List ℕ) (w : Walk) (two : 2 ≤ w .next) where
   no-depth n r e values system depth a b d = never n depth (sym e ∙ ap (λ c. of32 23 (getD c 24 0)) (sym cycle-behind-is) ∙ d)
 
   pub stands-so : (values : StoredValues) (system : SystemState) (depth : ℕ) (r : CoreTraceGenerationTracer) → storedInRecord storingBehind ≡ accepted values → systemIn cycleBehind ≡ accepted system → of32 23 (getD cycleBehind 24 0) ≡ accepted depth →
-      r ≡ behind cycleBehind (w .row) values (w .used) (w .state) (w .at) system depth → StandsAt records w r
+      r ≡ tracerBehind cycleBehind (w .row) values (w .used) (w .state) (w .at) system depth → StandsAt records w r
   stands-so values system depth r e g h is values′ system′ depth′ a b d =
       let v : accepted values ≡ accepted values′ = sym e ∙ ap storedInRecord (sym storing-behind-is) ∙ a in
       let y : accepted system ≡ accepted system′ = sym g ∙ ap systemIn (sym cycle-behind-is) ∙ b in
@@ -182,5 +181,5 @@ module _ (records : List ℕ) (w : Walk) (two : 2 ≤ w .next) where
       is ∙ same cycleBehind (recordAt records (w .next - 1)) (w .row) values values′ (w .used) (w .state) (w .at) system system′ depth depth′ (sym cycle-behind-is) v y z
     where
       same : (c c′ : List ℕ) (row : ℕ) (v v′ : StoredValues) (used : Used) (state : DecoderState) (at : Positions) (y y′ : SystemState) (z z′ : ℕ) → c ≡ c′ → accepted v ≡ accepted v′ → accepted y ≡ accepted y′ → accepted z ≡ accepted z′ →
-          behind c row v used state at y z ≡ behind c′ row v′ used state at y′ z′
+          tracerBehind c row v used state at y z ≡ tracerBehind c′ row v′ used state at y′ z′
       same c c′ row v v′ used state at y y′ z z′ e g h i = cc

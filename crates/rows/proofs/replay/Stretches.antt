@@ -1,13 +1,13 @@
 -- A stretch of pairs comes to the tracer and the fragment of its calls one by one.
 use mathlib.Core.Path.{_≡_, refl, sym, _∙_, ap}
-use mathlib.Core.Bool.{Bool, true, false, _||_}
+use mathlib.Core.Bool.{Bool, true, false}
 use mathlib.Core.List.{List}
 use Prim.Native.Nat.{ℕ, zero, suc, _+_, _-_, _/_, _%_, _<_, _≤_}
 use native.Mathlib.Omega.{arith}
-use borrow.Author.Tests.{ltb-false, lt-ltb, le-ltb, lt-leb, ne-eqb}
+use borrow.Author.Tests.{le-ltb, lt-leb, ne-eqb}
 use lib.Dec.{leb, ltb, eqb}
 use lib.ListN.{length, getD}
-use Rattle.groups.specs.Answer.{Answer, accepted, refused, andThen, pick}
+use Rattle.groups.specs.Answer.{accepted, pick}
 use Rattle.groups.specs.Constants.{rowWidth, mostRows}
 use Rattle.groups.specs.declared.helpers.OperationHelperRegisters.{OperationHelperRegisters}
 use Rattle.rows.specs.declared.records.profile.Profile.{Profile}
@@ -32,7 +32,7 @@ use Rattle.rows.specs.records.CallRecords.{stores, finishes, of32, store
 use Rattle.rows.specs.cycles.Made.{cursor, made}
 use Rattle.rows.specs.cycles.Cycles.{storingOf, storedIn, cycleWith, tracerAfter, lastSystem, lastStack, fragmentAfter}
 use Rattle.rows.specs.replay.Calls.{Setting, forestOf, callDone, callWritten}
-use Rattle.rows.specs.ways.Pairs.{steps, stepsWritten, pairMade, IsPair, Onward, Walked, stays, goes, BuiltBefore, behind, Walks, StandsAt, Follows}
+use Rattle.rows.specs.ways.Pairs.{steps, stepsWritten, pairMade, Onward, Walked, stays, goes, BuiltBefore, tracerBehind, Walks, StandsAt, Follows}
 use Rattle.groups.proofs.Answers.{then-accepted}
 use Rattle.groups.proofs.OneGroup.{neither}
 use Rattle.rows.proofs.records.Rooms.{row-within}
@@ -74,11 +74,11 @@ module _ (s : Setting) (t : CoreTraceGenerationTracer) (r c : List ℕ) (values 
     made-so : cycleWith (s .scan) (s .profile) (forestOf s (getD c 1 0)) (s .queues) (stackIn c depth) registers (s .cells) (storingOf t values) ≡ accepted m
     made-so = cycled (s .scan) (s .profile) (forestOf s (getD c 1 0)) (s .queues) (s .cells) t values c depth registers m kept h
 
-    finished : callDone s (storingOf t values) (accepted (finishes (getD c 1 0) system (stackIn c depth) registers)) ≡ behind c (t .«row_write_index» + 1) values (m .used) (m .state) (m .at) system depth
+    finished : callDone s (storingOf t values) (accepted (finishes (getD c 1 0) system (stackIn c depth) registers)) ≡ tracerBehind c (t .«row_write_index» + 1) values (m .used) (m .state) (m .at) system depth
     unfolding callDone tracerAfter
     finished = rw made-so
 
-    pub pair-done : callDone s (callDone s t (callIn r)) (callIn c) ≡ behind c (t .«row_write_index» + 1) values (m .used) (m .state) (m .at) system depth
+    pub pair-done : callDone s (callDone s t (callIn r)) (callIn c) ≡ tracerBehind c (t .«row_write_index» + 1) values (m .used) (m .state) (m .at) system depth
     pair-done = rw (storing, finish, stored-is s t values kept) finished
 
     put : (fragment : List ℕ) → callWritten s (storingOf t values) (accepted (finishes (getD c 1 0) system (stackIn c depth) registers)) (callWritten s t (accepted (stores values)) fragment) ≡ putRow fragment (t .«row_write_index») (rowCells (lastSystem (storingOf t values)) (m .row) (lastStack (storingOf t values)))
@@ -106,7 +106,7 @@ put-step true g g′ w w′ entry row cells e put room is = put ∙ row-within g
 put-step false g g′ w w′ entry row cells e put room is = put ∙ e
 
 behind-same : (c c′ : List ℕ) (row row′ : ℕ) (values : StoredValues) (used used′ : Used) (state state′ : DecoderState) (at at′ : Positions) (system : SystemState) (depth : ℕ) → c ≡ c′ → row ≡ row′ → used ≡ used′ → state ≡ state′ → at ≡ at′ →
-    behind c row values used state at system depth ≡ behind c′ row′ values used′ state′ at′ system depth
+    tracerBehind c row values used state at system depth ≡ tracerBehind c′ row′ values used′ state′ at′ system depth
 behind-same c c′ row row′ values used used′ state state′ at at′ system depth a b d e g = rw (a, b, d, e, g)
 
 row-same : (w : List ℕ) (r r′ : ℕ) (a a′ : SystemCols) (d : DecoderRow) (b b′ : StackCols) → r ≡ r′ → a ≡ a′ → b ≡ b′ → putRow w r (rowCells a d b) ≡ putRow w r′ (rowCells a′ d b′)
@@ -144,7 +144,7 @@ module _ (s : Setting) (records : List ℕ) (write : Bool) (k : ℕ) (t₀ : Cor
   unfoldable pub Last : (n : ℕ) → Walk → SystemState → (depth : ℕ) → Type 0
   Last zero w system depth = Unit {0}
   Last (suc n) w system depth = (values : StoredValues) × (storedInRecord (recordAt records (w .next - 2)) ≡ accepted values)
-      × (steps s records k t₀ (double (suc n)) ≡ behind (recordAt records (w .next - 1)) (w .row) values (w .used) (w .state) (w .at) system depth)
+      × (steps s records k t₀ (double (suc n)) ≡ tracerBehind (recordAt records (w .next - 1)) (w .row) values (w .used) (w .state) (w .at) system depth)
 
   -- the calls one by one stand where the walk stands
   pub record Stands (n : ℕ) (w : Walk) (g : List ℕ) : Type 0 where
@@ -249,7 +249,7 @@ module _ (s : Setting) (records : List ℕ) (write : Bool) (k : ℕ) (t₀ : Cor
     stored-at = omega (arith, o .next)
 
     -- the tracer behind the pair
-    stands-behind : steps s records k t₀ (double (suc n)) ≡ behind (recordAt records (w′ .next - 1)) (w′ .row) (given .values) (w′ .used) (w′ .state) (w′ .at) (o .is-pair .system) (o .is-pair .depth)
+    stands-behind : steps s records k t₀ (double (suc n)) ≡ tracerBehind (recordAt records (w′ .next - 1)) (w′ .row) (given .values) (w′ .used) (w′ .state) (w′ .at) (o .is-pair .system) (o .is-pair .depth)
     stands-behind =
         steps-two s records k t₀ n (w .next) (w .next + 1) first-at second-at
         ∙ pair-done s tracer storing finish (given .values) (o .is-pair .system) (o .is-pair .depth) (given .registers) (o .m) (st .kept) a-storing a-finish passes

@@ -8,7 +8,7 @@ use lib.Dec.{ltb, eqb}
 use lib.ListN.{length, getD}
 use Rattle.field.specs.Cells.{reduced}
 use Rattle.groups.specs.Answer.{Answer, accepted, andThen, pick}
-use Rattle.groups.specs.Constants.{rowWidth, mostRows}
+use Rattle.groups.specs.Constants.{rowWidth}
 use Rattle.groups.specs.Helpers.{helpersAnswer}
 use Rattle.groups.specs.declared.helpers.OperationHelperRegisters.{OperationHelperRegisters}
 use Rattle.groups.specs.declared.helpers.UserOpHelpers.{UserOpHelpers}
@@ -183,8 +183,8 @@ pub record BuiltBefore (records : List ℕ) (k : ℕ) (t : CoreTraceGenerationTr
   pub stack-built : t .«stack_cols» ≡ builtStack (stackIn (recordAt records (k - 1)) depth)
 
 -- the tracer behind a pair
-abbrev pub behind : (c : List ℕ) → (row : ℕ) → StoredValues → Used → DecoderState → Positions → SystemState → (depth : ℕ) → CoreTraceGenerationTracer
-behind c row values used state at system depth = record {
+abbrev pub tracerBehind : (c : List ℕ) → (row : ℕ) → StoredValues → Used → DecoderState → Positions → SystemState → (depth : ℕ) → CoreTraceGenerationTracer
+tracerBehind c row values used state at system depth = record {
   refusal = 0;
   «row_write_index» = row;
   continuation = StoredContinuation.Is (values .continuation);
@@ -201,7 +201,7 @@ abbrev pub StandsAt : (records : List ℕ) → Walk → CoreTraceGenerationTrace
 StandsAt records w r =
     (values : StoredValues) (system : SystemState) (depth : ℕ) → storedInRecord (recordAt records (w .next - 2)) ≡ accepted values
     → systemIn (recordAt records (w .next - 1)) ≡ accepted system → of32 23 (getD (recordAt records (w .next - 1)) 24 0) ≡ accepted depth
-    → r ≡ behind (recordAt records (w .next - 1)) (w .row) values (w .used) (w .state) (w .at) system depth
+    → r ≡ tracerBehind (recordAt records (w .next - 1)) (w .row) values (w .used) (w .state) (w .at) system depth
 
 -- what is followed are the calls one by one
 abbrev pub Follows : Setting → (records : List ℕ) → (k : ℕ) → CoreTraceGenerationTracer → (write : Bool) → (entry exit : List ℕ) → Followed → Type 0

@@ -1,9 +1,8 @@
 // The second finishing pass, `set_loop_body_multiplicities`: each LOOP row but the last row gets the number of its body's ENDs.
 //
-// `nested` is asked first, whether each LOOP row has a body END, and to write the counts. Where it says nothing, the tables answer, and what it
-// wrote is written again: LOOP rows are taken some thousands at a time. The addresses behind them are sorted, and one sweep over all rows
-// counts each flagged END at the address behind it; the LOOP rows taken then look their counts up.
-use crate::passes::nested::all_ended;
+// `nested` is asked first, which writes all counts or says nothing. Then the tables answer: LOOP rows are taken some thousands at a time. The
+// addresses behind them are sorted, and one sweep over all rows counts each flagged END at the address behind it; the LOOP rows taken then look
+// their counts up.
 use crate::passes::nested::count_nested;
 use crate::records::buffer::buffer_wrong;
 use crate::records::buffer::decode_opcode;
@@ -22,6 +21,7 @@ ghost use mathlib.Core.Bool.{_||_};
 ghost use Prim.Native.Nat.{ℕ, _+_, _*_, _<_, _≤_};
 ghost use lib.Dec.{eqb};
 ghost use lib.ListN.{length, take, getD, replicate};
+ghost use Rattle.groups.specs.Answer.{pick};
 ghost use Rattle.groups.specs.Constants.{rowWidth, mostRows};
 ghost use Rattle.rows.specs.ways.Order.{occurrences, Ordered};
 ghost use Rattle.rows.specs.records.Buffers.{rowsOf, onRows, addrOf, bufferRow, opcodeOf};
@@ -47,7 +47,7 @@ fn has_opcode(buffer: &[u64], i: usize, opcode: u8) -> bool
     decode_opcode(buffer, i) == opcode as u64
 }
 
-fn is_loop(profile: Profile, buffer: &[u64], i: usize) -> bool
+pub(crate) fn is_loop(profile: Profile, buffer: &[u64], i: usize) -> bool
     requires { ⌜ i < mostRows ⌝ }
     ensures { λ r. ⌜ r ≡ isLoop profile (bufferRow i (now (buffer .entry))) ⌝ }
 {
@@ -193,17 +193,6 @@ fn any_by_tables(profile: Profile, buffer: &[u64], rows: usize) -> bool
     false
 }
 
-// Refusal 14: whether the count of a LOOP row but the last comes to 0.
-pub(crate) fn any_without_body(profile: Profile, buffer: &[u64], rows: usize) -> bool
-    requires { ⌜ (rowWidth * rows ≤ length (now buffer)) × (rows ≤ mostRows) ⌝ }
-    ensures { λ r. ⌜ r ≡ loopWithoutBody profile (rowsOf rows (now (buffer .entry))) ⌝ }
-{
-    if all_ended(profile, buffer, rows) {
-        return false;
-    }
-    any_by_tables(profile, buffer, rows)
-}
-
 // Each LOOP row from `from` to `next` gets its count.
 fn write_between(
     profile: Profile,
@@ -250,31 +239,20 @@ fn write_by_tables(profile: Profile, buffer: &mut [u64], rows: usize)
     }
 }
 
-// Each LOOP row but the last row gets the number of its body's ENDs.
-pub(crate) fn write_multiplicities(profile: Profile, buffer: &mut [u64], rows: usize)
+// Refusal 14: whether the count of a LOOP row but the last comes to 0. Where none does, each gets it.
+pub(crate) fn write_multiplicities(profile: Profile, buffer: &mut [u64], rows: usize) -> bool
     requires { ⌜ (rowWidth * rows ≤ length (now buffer)) × (rows ≤ mostRows) ⌝ }
-    ensures { λ _. ⌜ now (buffer .exit) ≡ onRows rows (multiplied profile) (now (buffer .entry)) ⌝ }
+    ensures { λ r. ⌜ r ≡ loopWithoutBody profile (rowsOf rows (now (buffer .entry))) ⌝ }
+    ensures { λ r. ⌜ now (buffer .exit) ≡ pick r (now (buffer .entry)) (onRows rows (multiplied profile) (now (buffer .entry))) ⌝ }
 {
     if count_nested(profile, buffer, rows) {
-        return;
+        return false;
+    }
+    if any_by_tables(profile, buffer, rows) {
+        return true;
     }
     write_by_tables(profile, buffer, rows);
-}
-
-// What the pass refuses.
-fn multiplicity_refusal(profile: Profile, buffer: &[u64], rows: usize) -> u32
-    ensures { λ r. ⌜ r ≡ refusal2 profile (now (buffer .entry)) rows ⌝ }
-{
-    if is_wrong(profile) {
-        return Refusal::BAD_PROFILE;
-    }
-    if buffer_wrong(buffer.len()) | fewer_rows(buffer.len(), rows) {
-        return Refusal::BAD_LENGTH;
-    }
-    if any_without_body(profile, buffer, rows) {
-        return Refusal::NO_BODY_END;
-    }
-    0
+    false
 }
 
 // Finishing pass 2: each LOOP row but the last of the first `rows` rows gets the number of its body's ENDs.
@@ -283,10 +261,14 @@ pub fn set_loop_body_multiplicities(profile: Profile, buffer: &mut [u64], rows: 
     ensures { λ _. ⌜ now (buffer .exit) ≡ unlessRefused (refusal2 profile (now (buffer .entry)) rows) (now (buffer .entry))
         (onRows rows (multiplied profile) (now (buffer .entry))) ⌝ }
 {
-    let number = multiplicity_refusal(profile, buffer, rows);
-    if number != 0 {
-        return number;
+    if is_wrong(profile) {
+        return Refusal::BAD_PROFILE;
     }
-    write_multiplicities(profile, buffer, rows);
+    if buffer_wrong(buffer.len()) | fewer_rows(buffer.len(), rows) {
+        return Refusal::BAD_LENGTH;
+    }
+    if write_multiplicities(profile, buffer, rows) {
+        return Refusal::NO_BODY_END;
+    }
     0
 }

@@ -1,7 +1,8 @@
 // The second finishing pass where loops nest as in a run: the LOOP rows that are open stand on a stack, and each flagged END is the body's of the
-// innermost one. A sweep says that it is so, or gives up and says nothing, be it in the last row; then `multiplicity` answers by tables. The sweep
-// that writes may have written counts before it gives up: the tables write all of them again.
+// innermost one. One sweep decides, and counts in the LOOP rows themselves, which must hold 0 for that, as a start row does. Where it gives up, be it
+// in the last row, the counts are cleared again and nothing is said; then `multiplicity` answers by tables.
 use crate::passes::multiplicity::addr_at;
+use crate::passes::multiplicity::is_loop;
 use crate::records::buffer::decode_opcode;
 use crate::records::buffer::is_low;
 use crate::records::profile::Profile;
@@ -15,8 +16,7 @@ ghost use Prim.Native.Nat.{_+_, _*_, _<_, _≤_};
 ghost use lib.ListN.{length};
 ghost use Rattle.groups.specs.Constants.{rowWidth, mostRows};
 ghost use Rattle.rows.specs.records.Buffers.{bufferRow, opcodeOf};
-ghost use Rattle.rows.specs.ways.LoopCounts.{endsIn, lacksFrom, countedFrom, Alike};
-ghost use Rattle.rows.specs.ways.OpenLoops.{RoleOf};
+ghost use Rattle.rows.specs.ways.OpenLoops.{RoleOf, CountsIn, Cleared, AllCounted};
 
 // What a row is to the sweep: a LOOP row, a flagged END of the innermost open loop's body, neither of both, or something that it does not go into.
 pub(crate) enum RowRole {
@@ -24,6 +24,12 @@ pub(crate) enum RowRole {
     Opens,
     Ends,
     Unknown,
+}
+
+// How far a sweep came, and whether it saw all rows and left no LOOP row open.
+struct Swept {
+    next: usize,
+    whole: bool,
 }
 
 // An END: whether it is flagged, and the row behind it has the address behind LOOP row `top`.
@@ -87,48 +93,18 @@ fn left_open(profile: Profile, buffer: &[u64], next: usize, depth: usize) -> usi
     depth - 1
 }
 
-// Whether each LOOP row but the last row has a body END. Nothing is said by false.
-pub(crate) fn all_ended(profile: Profile, buffer: &[u64], rows: usize) -> bool
-    requires { ⌜ rows ≤ mostRows ⌝ }
-    ensures { λ r. ⌜ (r ≡ true → lacksFrom profile (endsIn profile rows (now (buffer .entry))) rows 0 (now (buffer .entry)) ≡ false) ⌝ }
+// Whether a LOOP row can be counted: there is room on the stack, the address behind it is above those before, and it holds 0.
+fn can_open(depth: usize, above: u64, addr: u64, held: u64) -> bool
+    ensures { λ r. ⌜ (r ≡ true → (depth < 64) × (above ≤ addr) × (held ≡ 0)) ⌝ }
 {
-    let mut stack = [0usize; 65];
-    let mut depth: usize = 0;
-    let mut i: usize = 0;
-    while i + 1 < rows {
-        let role = row_role(profile, buffer, i, depth, stack[depth]);
-        match role {
-            RowRole::Other => {
-                i += 1;
-            }
-            RowRole::Opens => {
-                if depth == 64 {
-                    return false;
-                }
-                depth += 1;
-                stack[depth] = i;
-                i += 1;
-            }
-            RowRole::Ends => {
-                depth = left_open(profile, buffer, i + 1, depth);
-                i += 1;
-            }
-            RowRole::Unknown => {
-                return false;
-            }
-        }
-    }
-    depth == 0
+    (depth < 64) & ((above <= addr) & (held == 0))
 }
 
-// Each LOOP row but the last row gets the number of its body's ENDs, where the addresses behind the LOOP rows rise: it gets 0, and 1 more at each END.
-// False: some LOOP rows may hold another count.
-pub(crate) fn count_nested(profile: Profile, buffer: &mut [u64], rows: usize) -> bool
+// Counts in the LOOP rows the ENDs of their bodies, but for the last row.
+fn sweep(profile: Profile, buffer: &mut [u64], rows: usize) -> Swept
     requires { ⌜ (rowWidth * rows ≤ length (now buffer)) × (rows ≤ mostRows) ⌝ }
-    ensures { λ r. ⌜ Alike (now (buffer .exit)) (now (buffer .entry))
-        × (countedFrom profile (endsIn profile rows (now (buffer .entry))) rows 0 (now (buffer .exit))
-        ≡ countedFrom profile (endsIn profile rows (now (buffer .entry))) rows 0 (now (buffer .entry)))
-        × (r ≡ true → now (buffer .exit) ≡ countedFrom profile (endsIn profile rows (now (buffer .entry))) rows 0 (now (buffer .entry))) ⌝ }
+    ensures { λ r. ⌜ (r .next ≤ rows) × CountsIn profile (now (buffer .entry)) 0 (r .next) (now (buffer .exit))
+        × (r .whole ≡ true → AllCounted profile rows (now (buffer .entry)) (now (buffer .exit))) ⌝ }
 {
     let mut stack = [0usize; 65];
     let mut depth: usize = 0;
@@ -143,13 +119,13 @@ pub(crate) fn count_nested(profile: Profile, buffer: &mut [u64], rows: usize) ->
             }
             RowRole::Opens => {
                 let addr = addr_at(buffer, i + 1);
-                if depth == 64 {
-                    return false;
+                let held = buffer[Row::WIDTH * i + Column::GROUP_COUNT];
+                if !can_open(depth, above, addr, held) {
+                    return Swept {
+                        next: i,
+                        whole: false,
+                    };
                 }
-                if addr < above {
-                    return false;
-                }
-                buffer[Row::WIDTH * i + Column::GROUP_COUNT] = 0;
                 above = addr + 1;
                 depth += 1;
                 stack[depth] = i;
@@ -161,9 +137,45 @@ pub(crate) fn count_nested(profile: Profile, buffer: &mut [u64], rows: usize) ->
                 i += 1;
             }
             RowRole::Unknown => {
-                return false;
+                return Swept {
+                    next: i,
+                    whole: false,
+                };
             }
         }
     }
-    true
+    Swept {
+        next: i,
+        whole: depth == 0,
+    }
+}
+
+// Puts 0 into the LOOP rows before row `end`: what a sweep that gave up there has counted is gone.
+fn clear_counts(profile: Profile, buffer: &mut [u64], end: usize)
+    requires { ⌜ (rowWidth * end ≤ length (now buffer)) × (end ≤ mostRows) ⌝ }
+    ensures { λ _. ⌜ Cleared profile end (now (buffer .entry)) (now (buffer .exit)) ⌝ }
+{
+    let mut i: usize = 0;
+    while i < end {
+        if is_loop(profile, buffer, i) {
+            buffer[Row::WIDTH * i + Column::GROUP_COUNT] = 0;
+            i += 1;
+        } else {
+            i += 1;
+        }
+    }
+}
+
+// Each LOOP row but the last row gets the number of its body's ENDs, and none is 0. False says nothing and changes nothing.
+pub(crate) fn count_nested(profile: Profile, buffer: &mut [u64], rows: usize) -> bool
+    requires { ⌜ (rowWidth * rows ≤ length (now buffer)) × (rows ≤ mostRows) ⌝ }
+    ensures { λ r. ⌜ (r ≡ true → AllCounted profile rows (now (buffer .entry)) (now (buffer .exit)))
+        × (r ≡ false → now (buffer .exit) ≡ now (buffer .entry)) ⌝ }
+{
+    let swept = sweep(profile, buffer, rows);
+    if swept.whole {
+        return true;
+    }
+    clear_counts(profile, buffer, swept.next);
+    false
 }

@@ -12,8 +12,9 @@ use super::rounds::{Times, count, line, ns, power, rounds, section};
 
 const TEXT: &str = "Pass 2 (`core_multiplicities`) beside counting with a map in plain Rust (`rust/src/loops.rs`), and the finisher beside a copy of the \
 rows into a buffer that is there. The first of each 8 (or 1,024) rows is a LOOP, the fifth a flagged END; the others are operations of any opcode. The \
-loops of the first two orders nest, as those of a proper run do. *In order*: the addresses behind the LOOP rows rise, and each END is that of the LOOP \
-before it. *Nested, addresses fall*: the same rows, but for the addresses, which fall from LOOP to LOOP. Those of the other orders do not nest. \
+loops of the first three orders nest, as those of a proper run do. *In order*: the addresses behind the LOOP rows rise, each END is that of the LOOP \
+before it, and the LOOP rows hold 0, as replay leaves them. *Nested, addresses fall*: the same rows, but for the addresses, which fall from LOOP to \
+LOOP. *Counted before*: in order, but the last LOOP row holds a number already. Those of the other orders do not nest. \
 *Shuffled*: the addresses behind LOOPs and behind ENDs are random permutations. *Early* and *late END*: in order, but for one more flagged END in the \
 third row, or in the last but one. The map reads its cells modulo p. Fragments of 1,024 rows, helper \
 cells below 1,024, a height of one more than the rows. Nanoseconds a row.";
@@ -25,10 +26,11 @@ const COPY: usize = 3;
 const FRAGMENT: usize = 1 << 10;
 
 const RISING: Aim = Aim { text: "pass 2 / map from 2^14 rows up, in order (addresses rise)", limit: 1.0, on_most: false };
-const FALLING: Aim = Aim { text: "pass 2 / map from 2^14 rows up, nested, addresses fall", limit: 1.0, on_most: false };
+const BY_TABLES: Aim = Aim { text: "pass 2 / map from 2^14 rows up, nested, addresses fall, counted before", limit: 1.0, on_most: false };
 const UNNESTED: Aim = Aim { text: "pass 2 / map from 2^14 rows up, shuffled, early END, late END", limit: 1.0, on_most: false };
 const RISING_FINISH: Aim = Aim { text: "`finish` / copy at 2^18 rows, in order (addresses rise)", limit: 1.5, on_most: false };
-const FALLING_FINISH: Aim = Aim { text: "`finish` / copy at 2^18 rows, nested, addresses fall", limit: 1.5, on_most: false };
+const BY_TABLES_FINISH: Aim =
+    Aim { text: "`finish` / copy at 2^18 rows, nested, addresses fall, counted before", limit: 1.5, on_most: false };
 const UNNESTED_FINISH: Aim = Aim { text: "`finish` / copy at 2^18 rows, shuffled, early END, late END", limit: 1.5, on_most: false };
 
 /// Rows to measure on, and what the finisher is handed with them.
@@ -84,6 +86,7 @@ fn name(order: Order) -> &'static str {
     match order {
         Order::InOrder => "in order (addresses rise)",
         Order::Falling => "nested, addresses fall",
+        Order::Counted => "counted before",
         Order::Shuffled => "shuffled",
         Order::EarlyEnd => "early END",
         Order::LateEnd => "late END",
@@ -94,7 +97,7 @@ fn name(order: Order) -> &'static str {
 fn aims_of(order: Order) -> (Aim, Aim) {
     match order {
         Order::InOrder => (RISING, RISING_FINISH),
-        Order::Falling => (FALLING, FALLING_FINISH),
+        Order::Falling | Order::Counted => (BY_TABLES, BY_TABLES_FINISH),
         Order::Shuffled | Order::EarlyEnd | Order::LateEnd => (UNNESTED, UNNESTED_FINISH),
     }
 }
@@ -131,6 +134,7 @@ pub fn print(most: usize, aims: &mut Aims) {
 }
 
 pub fn once(log: usize, every: usize, order: &str) {
-    let order = Order::ALL.into_iter().find(|o| format!("{o:?}") == order).expect("InOrder, Falling, Shuffled, EarlyEnd or LateEnd");
+    let order =
+        Order::ALL.into_iter().find(|o| format!("{o:?}") == order).expect("InOrder, Falling, Counted, Shuffled, EarlyEnd or LateEnd");
     measure(log, every, order, 1);
 }

@@ -1,12 +1,14 @@
--- `multiplicity::write_multiplicities` meets its contract: counts that were written before the loops turned out not to nest are written over.
-use mathlib.Core.Path.{_≡_, sym, ap, _∙_, fun-ext}
+-- `multiplicity::write_multiplicities` meets its contract.
+use mathlib.Core.Path.{sym, ap, _∙_}
 use mathlib.Core.List.{List}
 use Prim.Native.Nat.{ℕ}
 use native.Mathlib.Omega.{arith}
 use borrow.Author.Needs.{needs}
 use denote.Ref.{now}
-use Rattle.rows.specs.ways.LoopCounts.{endsIn, countedFrom}
-use Rattle.rows.proofs.passes.RowsFrom.{ends-alike}
+use lib.ListN.{length}
+use Rattle.rows.specs.records.Buffers.{rowsOf, onRows}
+use Rattle.rows.specs.passes.Passes.{loopWithoutBody, multiplied}
+use Rattle.rows.proofs.passes.RowsFrom.{lacks-first}
 use Rattle.rows.proofs.passes.Written.{counted-first}
 use Rattle.rows.proofs.passes.multiplicity.write_multiplicities.Statement.{statement}
 use Rattle.rows.proofs.passes.multiplicity.write_multiplicities.Tie as tie
@@ -14,24 +16,40 @@ use Rattle.rows.proofs.passes.multiplicity.write_multiplicities.Tie as 
 returns : tie.Need-returns
 returns c =
     let a = c .before .before .before .before .before .before .args in
-    c .before .before .before .count-nested .ensures .2 (c .if1 .taken) ∙ sym (counted-first (a .profile) (a .rows) (now (a .buffer)))
+    let n = c .before .before .before .count-nested .ensures .0 (c .if1 .taken) in
+    (sym (lacks-first (a .profile) (a .rows) (now (a .buffer)) ∙ n .1), n .0 ∙ sym (counted-first (a .profile) (a .rows) (now (a .buffer))))
+
+-- where nothing is said by the sweep, nothing has changed
+any-by-tables-requires : tie.Need-any-by-tables-requires
+any-by-tables-requires c κs = let e = c .before .before .before .before .count-nested .ensures .1 (c .before .if1 .left) in (omega (arith, ap (λ (l : List ℕ). length l) e), omega arith)
 
 returns-2 : tie.Need-returns-2
 returns-2 c =
-    let a = c .before .before .before .before .before .before .before .before .before .before .args in
-    let n = c .before .before .before .before .before .before .before .count-nested in
-    let left : List ℕ = n .last .1 .0 in
-    let s : endsIn (a .profile) (a .rows) left ≡ endsIn (a .profile) (a .rows) (now (a .buffer)) = fun-ext (λ x. ends-alike (a .profile) x (a .rows) left (now (a .buffer)) (n .ensures .0)) in
-    c .before .before .write-by-tables .ensures ∙ counted-first (a .profile) (a .rows) left ∙ ap (λ count. countedFrom (a .profile) count (a .rows) 0 left) s ∙ n .ensures .1
-    ∙ sym (counted-first (a .profile) (a .rows) (now (a .buffer)))
+    let a = c .before .before .before .before .before .before .before .before .before .args in
+    let e = c .before .before .before .before .before .before .count-nested .ensures .1 (c .before .before .before .if1 .left) in
+    (sym (c .if2 .taken) ∙ c .before .any-by-tables .ensures ∙ ap (λ (l : List ℕ). loopWithoutBody (a .profile) (rowsOf (a .rows) l)) e, e)
+
+write-by-tables-requires : tie.Need-write-by-tables-requires
+write-by-tables-requires c κs = let e = c .before .before .before .before .before .before .before .count-nested .ensures .1 (c .before .before .before .before .if1 .left) in (omega (arith, ap (λ (l : List ℕ). length l) e), omega arith)
+
+returns-3 : tie.Need-returns-3
+returns-3 c =
+    let a = c .before .before .before .before .before .before .before .before .before .before .before .before .before .args in
+    let e = c .before .before .before .before .before .before .before .before .before .before .count-nested .ensures .1 (c .before .before .before .before .before .before .before .if1 .left) in (
+      sym (c .before .before .before .before .if2 .left) ∙ c .before .before .before .before .before .any-by-tables .ensures ∙ ap (λ (l : List ℕ). loopWithoutBody (a .profile) (rowsOf (a .rows) l)) e,
+      c .before .before .write-by-tables .ensures ∙ ap (λ (l : List ℕ). onRows (a .rows) (multiplied (a .profile)) l) e,
+    )
 
 pub write-multiplicities-spec : {M : Type 1} → statement M
 write-multiplicities-spec =
     tie.close
     (tie.spec
     (λ c κs. search needs)
-    (λ c. c .before .before .before .count-nested .ensures .0 .size)
-    returns
-    (λ c κs. (omega (arith, c .before .before .before .before .count-nested .ensures .0 .size), omega arith))
     (λ c. search needs)
-    returns-2)
+    returns
+    any-by-tables-requires
+    (λ c. search needs)
+    returns-2
+    write-by-tables-requires
+    (λ c. search needs)
+    returns-3)

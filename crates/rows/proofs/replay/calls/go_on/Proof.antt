@@ -1,5 +1,4 @@
 -- `calls::go_on` meets its contract.
-use mathlib.Core.Path.{_≡_, _∙_, ap, sym}
 use native.Mathlib.Omega.{arith}
 use borrow.Author.Needs.{needs}
 use Rattle.rows.proofs.replay.GoingOn.{record-lent, gone-one, gone-more, built-behind}

@@ -1,6 +1,6 @@
 -- `pairs::walk_pairs` meets its contract. Invariant: the walk stands behind a number of pairs.
 use mathlib.Core.Path.{_≡_}
-use Prim.Native.Nat.{_-_, _/_, _<_, _≤_, zero, suc}
+use Prim.Native.Nat.{_-_, _/_, _<_, zero, suc}
 use native.Mathlib.Omega.{arith}
 use borrow.Author.Tests.{not-false}
 use lib.ListN.{length}
@@ -8,7 +8,7 @@ use borrow.Author.Needs.{needs}
 use Rattle.groups.specs.Constants.{rowWidth}
 use Rattle.rows.specs.records.Forests.{forest}
 use Rattle.rows.specs.records.Addresses.{queues}
-use Rattle.rows.specs.ways.Pairs.{Walks, Walked, stays, goes}
+use Rattle.rows.specs.ways.Pairs.{Walks, stays, goes}
 use Rattle.rows.proofs.replay.PairSteps.{onward}
 use Rattle.rows.proofs.replay.pairs.walk_pairs.Statement.{statement}
 use Rattle.rows.proofs.replay.pairs.walk_pairs.Tie as tie
