@@ -113,6 +113,10 @@ fn sweep(profile: Profile, buffer: &mut [u64], rows: usize) -> Swept
     while i + 1 < rows {
         let top = stack[depth];
         let role = row_role(profile, buffer, i, depth, top);
+        let gave_up = Swept {
+            next: i,
+            whole: false,
+        };
         match role {
             RowRole::Other => {
                 i += 1;
@@ -121,10 +125,7 @@ fn sweep(profile: Profile, buffer: &mut [u64], rows: usize) -> Swept
                 let addr = addr_at(buffer, i + 1);
                 let held = buffer[Row::WIDTH * i + Column::GROUP_COUNT];
                 if !can_open(depth, above, addr, held) {
-                    return Swept {
-                        next: i,
-                        whole: false,
-                    };
+                    return gave_up;
                 }
                 above = addr + 1;
                 depth += 1;
@@ -137,10 +138,7 @@ fn sweep(profile: Profile, buffer: &mut [u64], rows: usize) -> Swept
                 i += 1;
             }
             RowRole::Unknown => {
-                return Swept {
-                    next: i,
-                    whole: false,
-                };
+                return gave_up;
             }
         }
     }
