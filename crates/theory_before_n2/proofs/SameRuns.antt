@@ -13,6 +13,7 @@ use Rattle.rows.specs.declared.records.continuation.StoredValues.{StoredValues}
 use Rattle.rows.specs.records.Profiles.{profileWrong}
 use Rattle.rows.specs.records.Addresses.{Queues}
 use Rattle.rows.specs.declared.cycles.tracer.StoredContinuation.{StoredContinuation}
+use Rattle.rows.specs.cycles.Made.{Cursor}
 use Rattle.rows.specs.records.Buffers.{rows_of, onRows, bufferWrong, fewerRows}
 use Rattle.rows.specs.passes.Passes.{fixedUp, builtOf, halted, sum_of, lastBuilt, fragmentsWrong, noFragment, notFull, heightWrong, loopWithoutBody, unlessRefused, refusal1, refusal2, refusal3, refusal4, refusal5, refusalAll, allPasses}
 use Rattle.groups.specs.Answer.{first_of}
@@ -21,9 +22,9 @@ use Rattle.theory_reductions.specs.Below.{Below}
 use Rattle.theory_before_n2.specs.BeforeN2.{LentBelow, calleeCells, infoCells, cycleCells, cycleBefore, rowsBig}
 use Rattle.theory_before_n2.proofs.SameCycles.{same-readCaptured, same-cycle}
 use Rattle.theory_before_n2.proofs.SamePasses.{same-refusal1, same-refusal4, same-refusalAll}
-use Rattle.theory_runs.specs.Calls.{Handed, Held, answered}
+use Rattle.theory_runs.specs.Calls.{Handed, Fragment, Held, answered}
 use Rattle.theory_runs.specs.Happened.{InForce, stored}
-use Rattle.theory_runs.specs.Finished.{buffer1, buffer2, buffer3, buffer4, FiveAccepted, finisherBuffer}
+use Rattle.theory_runs.specs.Finished.{buffer1, buffer2, buffer3, buffer4, FiveAccepted, finisherBuffer, runCounts, runBuilt, runBuffer, FinisherPasses}
 
 -- the values in force after a storing
 pub same-stored : (v : InForce) (values : StoredValues)
@@ -126,16 +127,19 @@ module _ (p : Profile) (size : ℕ) (counts built top : List ℕ) (height : ℕ)
     fifth = (none_first _ 0 _ e).1;
   }
 
-  -- that the finisher is not refused, likewise
-  pub same-finisher-accepted :
-      first_of
-      ((rowsBig (sum_of counts) buffer || (any_from P built || any_from P top), 1)
-      ∷ (profileWrong p, 2)
-      ∷ (fragmentsWrong (length buffer) size counts built || heightWrong (length buffer) (sum_of counts) height, 11)
-      ∷ (noFragment counts, 26)
-      ∷ (notFull size counts, 25)
-      ∷ (loopWithoutBody p (rows_of (sum_of counts) buffer), 14)
-      ∷ []) ≡ 0
-      → refusalAll p buffer size counts built height ≡ 0
-  unfolding refusalAll
-  same-finisher-accepted e = (none_first _ 0 _ e).1
+-- that the finisher is not refused, likewise
+pub same-FinisherPasses : (p : Profile) (q : Queues) (size : ℕ) (fragments : List Fragment) (here : Cursor) (others top : List ℕ) (height : ℕ)
+    → (let counts = runCounts p q size fragments here others top height in
+    let built = runBuilt p q size fragments here others top height in
+    let buffer = runBuffer p q size fragments here others top height in
+    first_of
+    ((rowsBig (sum_of counts) buffer || (any_from P built || any_from P top), 1)
+    ∷ (profileWrong p, 2)
+    ∷ (fragmentsWrong (length buffer) size counts built || heightWrong (length buffer) (sum_of counts) height, 11)
+    ∷ (noFragment counts, 26)
+    ∷ (notFull size counts, 25)
+    ∷ (loopWithoutBody p (rows_of (sum_of counts) buffer), 14)
+    ∷ []) ≡ 0)
+    → FinisherPasses p q size fragments here others top height
+unfolding refusalAll
+same-FinisherPasses p q size fragments here others top height e = (none_first _ 0 _ e).1

@@ -1,7 +1,6 @@
 -- Document 01, C10's run: "a loop at address 1 under 0, two passes of a one-group block at 3 and 5 with the operation 5, height 10". It is the
 -- run that the program `core_listing` makes, in one fragment of ten rows, over the definitions that the contracts of its calls cite.
-use Rattle.std.specs.Prelude.{Bool, true, false, List, [], ◌∷◌, ℕ, ◌*◌, take, replicate}
-use Rattle.groups.specs.Constants.{rowWidth}
+use Rattle.std.specs.Prelude.{Bool, true, false, List, [], ◌∷◌, ℕ, replicate}
 use Rattle.groups.specs.declared.helpers.OperationHelperRegisters.{OperationHelperRegisters}
 use Rattle.rows.specs.declared.records.profile.Profile.{Profile}
 use Rattle.rows.specs.declared.records.continuation.Continuation.{Continuation}
@@ -11,8 +10,8 @@ use Rattle.rows.specs.declared.records.continuation.ContextInfo.{ContextInfo}
 use Rattle.rows.specs.records.Forests.{Forest, nodeId}
 use Rattle.rows.specs.records.Addresses.{Queues}
 use Rattle.rows.specs.cycles.Made.{Cursor}
-use Rattle.theory_runs.specs.Calls.{Call, store, finish, Fragment, finalStates, cells_of, countsOf, builtCells}
-use Rattle.theory_runs.specs.Finished.{finisherBuffer}
+use Rattle.theory_runs.specs.Calls.{Call, store, finish, Fragment}
+use Rattle.theory_runs.specs.Finished.{writtenByFinisher}
 
 -- the opcodes of the Miden VM documentation's decoder chapter, as in the vectors, and a step of 2
 abbrev pub profile : Profile
@@ -88,6 +87,4 @@ loopFragments = record { calls = loopCalls; cells = replicate 490 0 } ∷ []
 
 -- what the finisher makes of the fragment, whose last row is free, to height 10
 unfoldable pub loopTrace : List ℕ
-loopTrace =
-    let finals = finalStates profile loopQueues loopFragments begin in
-    take (rowWidth * 10) (finisherBuffer profile 10 (countsOf finals) (builtCells finals) (replicate 16 0) 10 (cells_of profile loopQueues loopFragments begin))
+loopTrace = writtenByFinisher profile loopQueues 10 loopFragments begin [] (replicate 16 0) 10

@@ -40,13 +40,13 @@ use Rattle.theory_readings.proofs.Examples.{profile}
 use Rattle.theory_runs.specs.Calls.{countsOf, builtCells, OneSize}
 use Rattle.theory_runs.specs.Happened.{nothingStored, start_of, operationAt, finishOf, didBy, didStored, usedBy, positionsAfter, stored, leftBy, inForceAfter, inForceAfterAll, cyclesIn, cyclesOf}
 use Rattle.theory_runs.specs.ProperRuns.{Holds, HasOperations, HasOpcode, withLoop, loopStarts, InBlock, Run, RunPasses, opsFrom, treeFrom}
-use Rattle.theory_runs.specs.Finished.{finisherBuffer, FinishedTo, WrittenOf}
+use Rattle.theory_runs.specs.Finished.{finisherBuffer, FinishedTo}
 use Rattle.theory_runs.specs.SameCalls.{allCalls}
 use Rattle.theory_runs.specs.LiveCalls.{call, LiveFragment, plainCalls, plainAll, liveRefusal, live_after, liveAfterAll, LiveAccepted, AllLiveAccepted, liveEnds, liveFinals, liveCells}
-use Rattle.theory_runs.specs.LiveFinished.{LiveCut, LiveWrittenOf}
-use Rattle.theory_read_back.specs.ReplayedRuns.{Lent, allNumbers, call_of, calls_of, recordedCalls, fragmentsOf, AllReplayed, countsReplayed, builtReplayed, cellsReplayed, ReplayedRuns, recordsNesting, ReplayCut, ReplayWrittenOf}
+use Rattle.theory_runs.specs.LiveFinished.{liveByFinisher, LiveFinisherPasses, LiveCut}
+use Rattle.theory_read_back.specs.ReplayedRuns.{Lent, allNumbers, call_of, calls_of, recordedCalls, fragmentsOf, AllReplayed, countsReplayed, builtReplayed, cellsReplayed, ReplayedRuns, recordsNesting, finishedReplay, ReplayFinishes, ReplayCut}
 use Rattle.theory_read_back.specs.ReadBack.{ReadBack}
-use Rattle.theory_read_back.proofs.ReadBackTheorems.{written_read, any-size, live-written-as, live-cut, replay-written-as, replay-run, replay-cut}
+use Rattle.theory_read_back.proofs.ReadBackTheorems.{replay-read, replay-any-size, live-replay-any-size}
 
 -- forest 0 is one slot that has its digest alone; in forest 1 slot 0 is a loop, slot 1 its body, a block of one batch with the operation 5
 unfoldable forests : Forest
@@ -122,28 +122,23 @@ tree : recordsNesting profile forests directory queued runs ≡ Block.loop 0 (Pa
 unfolding runs run treeFrom opsFrom
 tree = refl
 
--- what is written with height 10: the finisher does not refuse
-unfoldable finished : (cells : List ℕ) × ReplayWrittenOf profile forests directory queued 4 lents begin (replicate 16 0) 10 cells
+-- the finisher, with height 10, does not refuse
+passes : ReplayFinishes profile forests directory queued 4 lents begin [] (replicate 16 0) 10
 unfolding forests directory queued begin store_of cycleOf lents of32 conditionIn callee_in infoIn resumeIn continuationOn namesNoKind continuationIn namesNothing storedInRecord systemIn stackIn fewCells manyCells registersIn finishIn call_in recordAt directoryEntry window forestIn forestOf callDone callWritten through written ending nextState nextPositions told scanned replayed replayedFragment forPasses countsReplayed builtReplayed cellsReplayed fresh storedIn cycleWith leftAfter tracerAfter lastSystem lastStack fragmentAfter finalState scanOf anyBigOpcode forestTooLarge anyLongBlock anyLargeBatch readRegisters helpersOfCells systemCells stackCells any_from profileWrong opcodes twoEqual isOneOf lacksBits fragmentWrong made startNode startKind startBlock startOne madeEnd madeRepeat finishLoop body_of blockKind entryKind operationMade resumed nodeAt node_of isSlot digestAt opcodeAt block_of startedAt entry_at end_at batchAt isBatch startsAt batchFlags flagsUpTo8 contextAtOp group_of falling groupFrom place_in contextInGroup consumed counts doubled round_up groupsOf sumGroups anyAbove8 groupSum pushes opContext tooLarge helpersAnswer all_below u32Values helpersOf putRow rowCells decoderCells builtSystem builtStack noSystem noStack controlFlow basicBlockBatch operation wordAt refusalAll first_of sum_of fragmentsWrong bufferWrong fewerRows anyAbove heightWrong notFull loopWithoutBody anyWithoutBody bodyEnds rows_of opcode_of low_bits flaggedEnd cell_at reduced readSystem readStack readState readCaptured
-finished = (_, FinishedTo.of-finisher [] refl)
+passes = refl
 
--- it is written of the calls of the records, so it is read back
-as-calls : WrittenOf profile queued 4 (fragmentsOf forests directory lents) begin (replicate 16 0) 10 finished.0
-as-calls = replay-written-as profile forests directory queued 4 lents begin free (replicate 16 0) 10 finished.0 finished.1
-
-read : ReadBack profile finished.0 (recordsNesting profile forests directory queued runs)
-read =
-    let (run, same) = replay-run profile forests directory queued 4 lents begin runs in
-    rw same at (written_read profile queued 4 (fragmentsOf forests directory lents) begin run (replicate 16 0) 10 finished.0 as-calls)
+-- so what it leaves is read back
+read : ReadBack profile (finishedReplay profile forests directory queued 4 lents begin [] (replicate 16 0) 10) (recordsNesting profile forests directory queued runs)
+read = replay-read profile forests directory queued 4 lents begin runs [] (replicate 16 0) 10 passes
 
 -- opcode, address and count of each row
 unfoldable fields : List (List ℕ) → List (ℕ × ℕ × ℕ)
 fields [] = []
 fields (row ∷ rows) = (opcode_of row, addr_of row, count_of row) ∷ fields rows
 
-listing : fields (all_rows finished.0) ≡
+listing : fields (all_rows (finishedReplay profile forests directory queued 4 lents begin [] (replicate 16 0) 10)) ≡
     (85, 0, 2) ∷ (86, 1, 1) ∷ (5, 3, 0) ∷ (112, 3, 0) ∷ (116, 1, 0) ∷ (86, 1, 1) ∷ (5, 5, 0) ∷ (112, 5, 0) ∷ (112, 1, 0) ∷ (124, 0, 0) ∷ []
-unfolding finished forests directory queued begin store_of cycleOf lents of32 conditionIn callee_in infoIn resumeIn continuationOn namesNoKind continuationIn namesNothing storedInRecord systemIn stackIn fewCells manyCells registersIn finishIn call_in recordAt directoryEntry window forestIn forestOf callDone callWritten through written ending nextState nextPositions told scanned replayed replayedFragment forPasses countsReplayed builtReplayed cellsReplayed fresh storedIn cycleWith leftAfter tracerAfter lastSystem lastStack fragmentAfter finalState scanOf anyBigOpcode forestTooLarge anyLongBlock anyLargeBatch readRegisters helpersOfCells systemCells stackCells any_from profileWrong opcodes twoEqual isOneOf lacksBits fragmentWrong made startNode startKind startBlock startOne madeEnd madeRepeat finishLoop body_of blockKind entryKind operationMade resumed nodeAt node_of isSlot digestAt opcodeAt block_of startedAt entry_at end_at batchAt isBatch startsAt batchFlags flagsUpTo8 contextAtOp group_of falling groupFrom place_in contextInGroup consumed counts doubled round_up groupsOf sumGroups anyAbove8 groupSum pushes opContext tooLarge helpersAnswer all_below u32Values helpersOf putRow rowCells decoderCells builtSystem builtStack noSystem noStack controlFlow basicBlockBatch operation wordAt refusalAll first_of sum_of fragmentsWrong bufferWrong fewerRows anyAbove heightWrong notFull loopWithoutBody anyWithoutBody bodyEnds rows_of opcode_of low_bits flaggedEnd finisherBuffer allPasses onRows flat fixedUp firstRow withSides laterRows builtOf multiplied withCounts inverted inverseOf euclid lastBuilt halted lastRow haltRow haltDecoder haltStack padded paddingRows paddingRow all_rows fields cell_at reduced readSystem readStack readState readCaptured
+unfolding forests directory queued begin store_of cycleOf lents of32 conditionIn callee_in infoIn resumeIn continuationOn namesNoKind continuationIn namesNothing storedInRecord systemIn stackIn fewCells manyCells registersIn finishIn call_in recordAt directoryEntry window forestIn forestOf callDone callWritten through written ending nextState nextPositions told scanned replayed replayedFragment forPasses countsReplayed builtReplayed cellsReplayed fresh storedIn cycleWith leftAfter tracerAfter lastSystem lastStack fragmentAfter finalState scanOf anyBigOpcode forestTooLarge anyLongBlock anyLargeBatch readRegisters helpersOfCells systemCells stackCells any_from profileWrong opcodes twoEqual isOneOf lacksBits fragmentWrong made startNode startKind startBlock startOne madeEnd madeRepeat finishLoop body_of blockKind entryKind operationMade resumed nodeAt node_of isSlot digestAt opcodeAt block_of startedAt entry_at end_at batchAt isBatch startsAt batchFlags flagsUpTo8 contextAtOp group_of falling groupFrom place_in contextInGroup consumed counts doubled round_up groupsOf sumGroups anyAbove8 groupSum pushes opContext tooLarge helpersAnswer all_below u32Values helpersOf putRow rowCells decoderCells builtSystem builtStack noSystem noStack controlFlow basicBlockBatch operation wordAt refusalAll first_of sum_of fragmentsWrong bufferWrong fewerRows anyAbove heightWrong notFull loopWithoutBody anyWithoutBody bodyEnds rows_of opcode_of low_bits flaggedEnd finisherBuffer allPasses onRows flat fixedUp firstRow withSides laterRows builtOf multiplied withCounts inverted inverseOf euclid lastBuilt halted lastRow haltRow haltDecoder haltStack padded paddingRows paddingRow all_rows fields cell_at reduced readSystem readStack readState readCaptured
 listing = refl
 
 -- N11 over replay: the same records in one fragment of 9 rows, which held other numbers, are finished to the same cells
@@ -157,15 +152,14 @@ cut-whole : ReplayCut profile forests directory queued (allNumbers lents) 9 whol
 unfolding forests directory queued begin store_of cycleOf lents of32 conditionIn callee_in infoIn resumeIn continuationOn namesNoKind continuationIn namesNothing storedInRecord systemIn stackIn fewCells manyCells registersIn finishIn call_in recordAt directoryEntry window forestIn forestOf callDone callWritten through written ending nextState nextPositions told scanned replayed replayedFragment forPasses AllReplayed fresh storedIn cycleWith leftAfter tracerAfter lastSystem lastStack fragmentAfter finalState scanOf anyBigOpcode forestTooLarge anyLongBlock anyLargeBatch readRegisters helpersOfCells systemCells stackCells any_from profileWrong opcodes twoEqual isOneOf lacksBits fragmentWrong made startNode startKind startBlock startOne madeEnd madeRepeat finishLoop body_of blockKind entryKind operationMade resumed nodeAt node_of isSlot digestAt opcodeAt block_of startedAt entry_at end_at batchAt isBatch startsAt batchFlags flagsUpTo8 contextAtOp group_of falling groupFrom place_in contextInGroup consumed counts doubled round_up groupsOf sumGroups anyAbove8 groupSum pushes opContext tooLarge helpersAnswer all_below u32Values helpersOf putRow rowCells decoderCells builtSystem builtStack noSystem noStack controlFlow basicBlockBatch operation wordAt cell_at reduced readSystem readStack readState readCaptured whole allNumbers OneSize fragmentsOf countsReplayed
 cut-whole = record { records-are = refl; replays = (refl, tt); one_size = tt }
 
-finished-whole : (cells : List ℕ) × ReplayWrittenOf profile forests directory queued 9 whole begin (replicate 16 0) 10 cells
+passes-whole : ReplayFinishes profile forests directory queued 9 whole begin (replicate 49 6) (replicate 16 0) 10
 unfolding forests directory queued begin store_of cycleOf lents of32 conditionIn callee_in infoIn resumeIn continuationOn namesNoKind continuationIn namesNothing storedInRecord systemIn stackIn fewCells manyCells registersIn finishIn call_in recordAt directoryEntry window forestIn forestOf callDone callWritten through written ending nextState nextPositions told scanned replayed replayedFragment forPasses countsReplayed builtReplayed cellsReplayed fresh storedIn cycleWith leftAfter tracerAfter lastSystem lastStack fragmentAfter finalState scanOf anyBigOpcode forestTooLarge anyLongBlock anyLargeBatch readRegisters helpersOfCells systemCells stackCells any_from profileWrong opcodes twoEqual isOneOf lacksBits fragmentWrong made startNode startKind startBlock startOne madeEnd madeRepeat finishLoop body_of blockKind entryKind operationMade resumed nodeAt node_of isSlot digestAt opcodeAt block_of startedAt entry_at end_at batchAt isBatch startsAt batchFlags flagsUpTo8 contextAtOp group_of falling groupFrom place_in contextInGroup consumed counts doubled round_up groupsOf sumGroups anyAbove8 groupSum pushes opContext tooLarge helpersAnswer all_below u32Values helpersOf putRow rowCells decoderCells builtSystem builtStack noSystem noStack controlFlow basicBlockBatch operation wordAt refusalAll first_of sum_of fragmentsWrong bufferWrong fewerRows anyAbove heightWrong notFull loopWithoutBody anyWithoutBody bodyEnds rows_of opcode_of low_bits flaggedEnd cell_at reduced readSystem readStack readState readCaptured whole allNumbers
-finished-whole = (_, FinishedTo.of-finisher (replicate 49 6) refl)
+passes-whole = refl
 
-same-files : finished.0 ≡ finished-whole.0
+same-files : finishedReplay profile forests directory queued 4 lents begin [] (replicate 16 0) 10 ≡ finishedReplay profile forests directory queued 9 whole begin (replicate 49 6) (replicate 16 0) 10
 same-files =
-    any-size profile queued (recordedCalls forests directory (allNumbers lents)) 4 9 (fragmentsOf forests directory lents) (fragmentsOf forests directory whole) begin
-    (replay-cut profile forests directory queued 4 lents begin (allNumbers lents) cut-four) (replay-cut profile forests directory queued 9 whole begin (allNumbers lents) cut-whole) (replicate 16 0) 10 finished.0 finished-whole.0
-    as-calls (replay-written-as profile forests directory queued 9 whole begin cut-whole.replays (replicate 16 0) 10 finished-whole.0 finished-whole.1)
+    replay-any-size profile forests directory queued (allNumbers lents) 4 9 lents whole begin cut-four cut-whole (replicate 16 0) 10 _ _
+    (FinishedTo.of-finisher [] passes) (FinishedTo.of-finisher (replicate 49 6) passes-whole)
 
 -- and the same calls with a tally, in one fragment
 unfoldable live : List LiveFragment
@@ -179,12 +173,11 @@ cut-live = record {
   one_size = tt;
 }
 
-finished-live : (cells : List ℕ) × LiveWrittenOf profile queued 9 live begin (replicate 16 0) 10 cells
+passes-live : LiveFinisherPasses profile queued 9 live begin (replicate 49 8) (replicate 16 0) 10
 unfolding forests directory queued begin store_of cycleOf lents of32 conditionIn callee_in infoIn resumeIn continuationOn namesNoKind continuationIn namesNothing storedInRecord systemIn stackIn fewCells manyCells registersIn finishIn call_in recordAt directoryEntry window forestIn forestOf callDone callWritten through written ending nextState nextPositions told scanned replayed replayedFragment forPasses countsReplayed builtReplayed cellsReplayed fresh storedIn cycleWith leftAfter tracerAfter lastSystem lastStack fragmentAfter finalState scanOf anyBigOpcode forestTooLarge anyLongBlock anyLargeBatch readRegisters helpersOfCells systemCells stackCells any_from profileWrong opcodes twoEqual isOneOf lacksBits fragmentWrong made startNode startKind startBlock startOne madeEnd madeRepeat finishLoop body_of blockKind entryKind operationMade resumed nodeAt node_of isSlot digestAt opcodeAt block_of startedAt entry_at end_at batchAt isBatch startsAt batchFlags flagsUpTo8 contextAtOp group_of falling groupFrom place_in contextInGroup consumed counts doubled round_up groupsOf sumGroups anyAbove8 groupSum pushes opContext tooLarge helpersAnswer all_below u32Values helpersOf putRow rowCells decoderCells builtSystem builtStack noSystem noStack controlFlow basicBlockBatch operation wordAt refusalAll first_of sum_of fragmentsWrong bufferWrong fewerRows anyAbove heightWrong notFull loopWithoutBody anyWithoutBody bodyEnds rows_of opcode_of low_bits flaggedEnd cell_at reduced readSystem readStack readState readCaptured live allNumbers countsOf builtCells liveRefusal live_after liveAfterAll LiveAccepted AllLiveAccepted talliedCycle unlessFull tallyAfter countsNext bufferRow liveEnds liveFinals liveCells isFree is_of firstFrom placeFor countedAt cannotCount call_of calls_of
-finished-live = (_, FinishedTo.of-finisher (replicate 49 8) refl)
+passes-live = refl
 
-same-files-live : finished-live.0 ≡ finished.0
+same-files-live : liveByFinisher profile queued 9 live begin (replicate 49 8) (replicate 16 0) 10 ≡ finishedReplay profile forests directory queued 4 lents begin [] (replicate 16 0) 10
 same-files-live =
-    any-size profile queued (recordedCalls forests directory (allNumbers lents)) 9 4 (plainAll live) (fragmentsOf forests directory lents) begin
-    (live-cut profile queued 9 live begin (recordedCalls forests directory (allNumbers lents)) cut-live) (replay-cut profile forests directory queued 4 lents begin (allNumbers lents) cut-four) (replicate 16 0) 10 finished-live.0 finished.0
-    (live-written-as profile queued 9 live begin cut-live.accepted (replicate 16 0) 10 finished-live.0 finished-live.1) as-calls
+    live-replay-any-size profile forests directory queued (allNumbers lents) 9 4 live lents begin cut-live cut-four (replicate 16 0) 10 _ _
+    (FinishedTo.of-finisher (replicate 49 8) passes-live) (FinishedTo.of-finisher [] passes)

@@ -6,3 +6,4 @@ pub mod RecordsAreCalls
 pub mod ReplayedCalls
 pub mod RecordedDepths
 pub mod Replays
+pub mod CutReplays

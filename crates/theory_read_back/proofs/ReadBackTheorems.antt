@@ -1,7 +1,7 @@
--- Demand 3 in one place, and beside it that no SYSCALL is written, the overflow rule of every row written, that one run written at two fragment
--- sizes has the same cells, and what tallies tell and add up to. `ReadsTrace` is the contract of `read_trace`: what it may tell of a buffer and leave in the lent depth
+-- Demand 3 in one place, and beside it that no SYSCALL is written, what tallies tell and add up to, the overflow rule of every row written, and
+-- that one run written at two fragment sizes has the same cells. `ReadsTrace` is the contract of `read_trace`: what it may tell of a buffer and leave in the lent depth
 -- numbers, by `Right`, which says of an answer that it is right, by document 01.
-use mathlib.Core.Path.{◌≡◌, refl, ap}
+use mathlib.Core.Path.{◌≡◌, ap}
 use mathlib.Core.List.{List}
 use mathlib.Core.Logic.{◌↔◌}
 use Prim.Native.Nat.{ℕ, ◌*◌, ◌/◌, ◌≤◌, ◌<◌}
@@ -19,32 +19,33 @@ use Rattle.reader.specs.Reads.{ReadsTrace}
 use Rattle.reader.specs.declared.trace.TraceRead.{TraceRead}
 use Rattle.reader.proofs.trace.read_trace.Reads as read_trace
 use Rattle.reader.proofs.ReaderExact.{one-read, some_read, is-right-answer, reads-tree, reads_as, reads-exactly}
-use Rattle.theory_runs.specs.Calls.{Handed, Call, finish, Fragment, opened, callRefusal, AllAccepted, finalStates, cells_of, countsOf, builtCells}
+use Rattle.theory_runs.specs.Calls.{Handed, Call, finish, Fragment, opened, callRefusal, AllAccepted, finalStates, cells_of, countsOf, builtCells, OneSize}
 use Rattle.theory_runs.specs.Happened.{cyclesOf}
 use Rattle.theory_runs.specs.SameCalls.{allCalls, Cut}
-use Rattle.theory_runs.specs.Finished.{Runs, nesting, WrittenOf}
+use Rattle.theory_runs.specs.Finished.{Runs, nesting, writtenByFive, writtenByFinisher, FivePass, FinisherPasses, WrittenOf}
 use Rattle.theory_runs.specs.LiveCalls.{LiveFragment, plainAll, liveRefusal, liveOpened, AllLiveAccepted, liveEnds, liveFinals, LentAsZeros, FreshFragment, freshEnd, freshEnds}
-use Rattle.theory_runs.specs.LiveFinished.{SameAsPlain, LiveCut, LiveWrittenOf}
+use Rattle.theory_runs.specs.LiveFinished.{SameAsPlain, liveByFive, liveByFinisher, LiveFivePass, LiveFinisherPasses, LiveCut, LiveWrittenOf}
 use Rattle.theory_runs.specs.TallyClaims.{TallyTells, overFragments, rowsOfAll, NoneEmpty, HoldsDecoders, CountsSet}
 use Rattle.theory_runs.specs.Overflow.{OverflowRule, DepthInRange, AllDepths32}
 use Rattle.theory_runs.specs.WithoutSyscall.{NoSyscallStarts, WithoutSyscall, NoSyscallRows}
-use Rattle.theory_runs.proofs.TraceOfRun.{written-trace}
+use Rattle.theory_runs.proofs.TraceOfRun.{finisher-trace, five-trace}
 use Rattle.theory_runs.proofs.LiveRuns as lives
+use Rattle.theory_runs.proofs.LiveTraces as lives-finished
 use Rattle.theory_runs.proofs.TallyTheorems as tellings
 use Rattle.theory_runs.proofs.TallySums as sums
 use Rattle.theory_runs.proofs.ReadRun as runs
-use Rattle.theory_runs.proofs.OverflowTheorems.{overflow-rule, depths-in-range}
+use Rattle.theory_runs.proofs.OverflowTheorems.{finisher-overflow, five-overflow, finisher-depths, five-depths}
 use Rattle.theory_runs.proofs.OneNesting.{one-tree-ran}
 use Rattle.theory_runs.proofs.NoSyscalls.{none-started, none-nested, none-in-rows}
 use Rattle.theory_runs.proofs.AnySize.{first-cycle-refused, same-cycles, runs-cut, written-length, same-written}
 use Rattle.theory_runs.proofs.LiveCuts.{live-first-cycle-refused, plain-cut, plain-written}
 use Rattle.theory_read_back.specs.ReadBack.{ReadAs, CountsPasses, ReadBack}
-use Rattle.theory_read_back.specs.ReplayedRuns.{Lent, recordedCalls, fragmentsOf, AllReplayed, countsReplayed, builtReplayed, cellsReplayed, ReplayedRuns, recordsNesting, ReplayCut, ReplayWrittenOf}
+use Rattle.theory_read_back.specs.ReplayedRuns.{Lent, allNumbers, recordedCalls, fragmentsOf, AllReplayed, countsReplayed, builtReplayed, cellsReplayed, ReplayedRuns, recordsNesting, finishedReplay, ReplayFinishes, fivePassedReplay, ReplayFivePass, ReplayCut, ReplayWrittenOf}
 use Rattle.theory_read_back.proofs.ReadTraceCall.{learns}
 use Rattle.theory_read_back.proofs.LoopRows.{counts-passes}
 use Rattle.theory_read_back.proofs.ReplayedCalls.{replayed-accepted, replayed-counts, replayed-built, replayed-cells}
-use Rattle.theory_read_back.proofs.RecordedDepths.{recorded-depths}
-use Rattle.theory_read_back.proofs.Replays.{records-run, records-cut, records-written}
+use Rattle.theory_read_back.proofs.CutReplays.{records-cut, records-written, replay-runs-cut}
+use Rattle.theory_read_back.proofs.Replays.{run-of-records, replay-finisher-trace, replay-five-trace, replay-finisher-overflow, replay-five-overflow}
 
 -- EVERY BUFFER
 
@@ -113,15 +114,17 @@ call-read κs a r s call b enough back = back.read a.1.1.0.now enough r s.1.1.0.
 
 -- WHAT WE WRITE
 
--- Each claim is stated once, of the cells that are written of calls without tallies (`WrittenOf`): the first height rows after the finisher, or after
--- the five calls one after another, none of them refused. What is asked of the calls is `Runs` or, where no proper run is needed, `Cut`. With tallies
--- the claims are carried by `live-written-as` and `live-cut`, over replay by `replay-written-as`, `replay-run` and `replay-cut`
-
 -- "For every list of storings, cycles and final states .. what is then written is such a trace, its reading is the nesting of blocks and
--- operations that ran, taken from the calls alone, and each LOOP row's count is the number of passes of its body", with the premises `Runs`
+-- operations that ran, taken from the calls alone, and each LOOP row's count is the number of passes of its body", with the premises `Runs`,
+-- and where no pass is refused
 module _ (p : Profile) (q : Queues) (size : ℕ) (fragments : List Fragment) (here : Cursor) (run : Runs p q size fragments here) where
-  pub written_read : (top : List ℕ) (height : ℕ) (cells : List ℕ) → WrittenOf p q size fragments here top height cells → ReadBack p cells (nesting run)
-  written_read top height cells written = read_back p cells (nesting run) (written-trace p q size fragments here run top height written)
+  -- by the finisher
+  pub written_read : (others top : List ℕ) (height : ℕ) → FinisherPasses p q size fragments here others top height → ReadBack p (writtenByFinisher p q size fragments here others top height) (nesting run)
+  written_read others top height e = read_back p _ _ (finisher-trace p q size fragments here run others top height e)
+
+  -- by the five calls, one after another
+  pub written-by-five-read : (others top : List ℕ) (height : ℕ) → FivePass p q size fragments here others top height → ReadBack p (writtenByFive p q size fragments here others top height) (nesting run)
+  written-by-five-read others top height e = read_back p _ _ (five-trace p q size fragments here run others top height e)
 
   -- its program rows are the cycles
   pub program-rows : programRows (nesting run) ≡ length (cyclesOf q fragments here.at)
@@ -131,74 +134,6 @@ module _ (p : Profile) (q : Queues) (size : ℕ) (fragments : List Fragment) (he
   pub one-nesting : (run' : Runs p q size fragments here) → nesting run ≡ nesting run'
   one-nesting run' = one-tree-ran p 0 run.proper run'.proper
 
-  -- `Cut` asks less: its calls, in fragments of its size, none refused
-  pub run-cut : Cut p q (allCalls fragments) size fragments here
-  run-cut = record { calls_are = refl; accepted = run.accepted; one_size = run.one_size }
-
--- what is written are height rows
-pub written-rows : (p : Profile) (q : Queues) (calls : List Call) (size : ℕ) (fragments : List Fragment) (here : Cursor) → Cut p q calls size fragments here →
-    (top : List ℕ) (height : ℕ) (cells : List ℕ) → WrittenOf p q size fragments here top height cells → length cells ≡ 49 * height
-written-rows p q calls size fragments here cut top height cells = written-length p q calls size fragments here cut top height
-
--- WITHOUT SYSCALL
-
--- N8: "the theorem about traces we write covers runs without it": where no call is refused, no cycle starts a SYSCALL node. No proper run is
--- asked for
-pub no-syscall-started : (p : Profile) (q : Queues) (fragments : List Fragment) (here : Cursor) → AllAccepted p q fragments here → NoSyscallStarts (cyclesOf q fragments here.at)
-no-syscall-started = none-started
-
--- so the nesting of a run has no SYSCALL Block, and "Starting such a node is no longer written": no row of what is written is a SYSCALL row
-module _ (p : Profile) (q : Queues) (size : ℕ) (fragments : List Fragment) (here : Cursor) (run : Runs p q size fragments here) where
-  pub no-syscall-nested : WithoutSyscall (nesting run)
-  no-syscall-nested = none-nested p q size fragments here run
-
-  pub no-syscall-written : (top : List ℕ) (height : ℕ) (cells : List ℕ) → WrittenOf p q size fragments here top height cells → NoSyscallRows p cells
-  no-syscall-written top height cells written = none-in-rows p cells (nesting run) (written-trace p q size fragments here run top height written) no-syscall-nested
-
--- THE OVERFLOW RULE
-
--- N4: "A customer checked the overflow rule of the operand stack chapter on every row". Of all fragments on fresh tracers, full but for the last,
--- with no call refused (`Cut`; no proper run is asked for), in each of the first height rows: helper × (b0 − 16) is 1 modulo p where b0 is above
--- 16, and the helper is 0 where it is 16
-module _ (p : Profile) (q : Queues) (calls : List Call) (size : ℕ) (fragments : List Fragment) (here : Cursor) (cut : Cut p q calls size fragments here) where
-  pub written-overflow : (top : List ℕ) (height : ℕ) (cells : List ℕ) → WrittenOf p q size fragments here top height cells → (i : ℕ) → i < height → OverflowRule (bufferRow i cells)
-  written-overflow top height cells = overflow-rule p q size fragments here cut.accepted cut.one_size top height
-
-  -- and no row is left out by it: b0 is 16 or more, and of 32 bits as the depths of the cycles are
-  pub written-depths : AllDepths32 fragments → (top : List ℕ) (height : ℕ) (cells : List ℕ) → WrittenOf p q size fragments here top height cells → (i : ℕ) → i < height → DepthInRange (bufferRow i cells)
-  written-depths depths top height cells = depths-in-range p q size fragments here cut.accepted cut.one_size top height depths
-
--- ANY FRAGMENT SIZE
-
--- N11: "Show that one proper run, cut by two sizes and finished to the same height, gives the same cells in the first height rows. The premises:
--- no call refuses in either, nobody else stores to the rows until the passes are done .., and the first stack top is the same." The calls are one
--- list, cut in two ways (`Cut`: each way has all fragments of its own size with only the last one short, and no call is refused), with one
--- profile, the same queues, and one address state and queue positions to begin with; the passes work on what the calls left, none is refused, and
--- they are the finisher's or the five calls', in either way (`WrittenOf`). Nothing else is asked: the run need not be proper, nor LOOP addresses
--- different, nor blocks at most 64 deep, and what the fragments and the buffer held before are any numbers
-module _ (p : Profile) (q : Queues) (calls : List Call) (size size' : ℕ) (fragments fragments' : List Fragment) (here : Cursor) (cut : Cut p q calls size fragments here) (cut' : Cut p q calls size' fragments' here) where
-  pub any-size : (top : List ℕ) (height : ℕ) (cells cells' : List ℕ) → WrittenOf p q size fragments here top height cells → WrittenOf p q size' fragments' here top height cells' → cells ≡ cells'
-  any-size top height cells cells' = same-written p q calls size size' fragments fragments' here cut cut' top height
-
-  -- "one proper run": a run that meets demand 3's premises meets them in both cuts, and its nesting is the same: either file is read back as that
-  -- nesting
-  pub proper-any-size : (run : Runs p q size fragments here) → (run' : Runs p q size' fragments' here) × (nesting run' ≡ nesting run)
-  proper-any-size = runs-cut p q calls size size' fragments fragments' here cut cut'
-
--- what the cycles did is the same in every cut of the calls where none is refused
-pub cycles-any-size : (p : Profile) (q : Queues) (fragments fragments' : List Fragment) (here : Cursor) → allCalls fragments ≡ allCalls fragments' →
-    AllAccepted p q fragments here → AllAccepted p q fragments' here → cyclesOf q fragments here.at ≡ cyclesOf q fragments' here.at
-cycles-any-size = same-cycles
-
--- a cycle that is the first call of its fragment is refused, so a cut before a cycle that reuses what is stored is outside; the smallest example
--- is theory_runs/proofs/ExampleCuts
-pub reuse-refused : (p : Profile) (q : Queues) (here : Cursor) (fragment : Fragment) (i : Handed) → callRefusal p q (opened p q here fragment) (finish i) ≡ 23
-reuse-refused = first-cycle-refused
-
--- with a tally as well, whatever it holds
-pub live-reuse-refused : (p : Profile) (q : Queues) (here : Cursor) (fragment : LiveFragment) (i : Handed) → liveRefusal p q (liveOpened p q here fragment) (finish i) ≡ 23
-live-reuse-refused = live-first-cycle-refused
-
 -- WITH TALLIES
 
 -- N9: the calls as they are, a tally lent to each cycle, whatever it holds. Where no call is refused the same is done without tallies: no call is
@@ -206,15 +141,25 @@ live-reuse-refused = live-first-cycle-refused
 pub live-as-calls : (p : Profile) (q : Queues) (fragments : List LiveFragment) (here : Cursor) → AllLiveAccepted p q fragments here → SameAsPlain p q fragments here
 live-as-calls = lives.live-as-calls
 
--- so what is written of calls with tallies is written of the calls without, and these are cut by a size where those are: each claim above of what is
--- written, and of two cuts, is so with tallies. N11: "The 256-address tally is outside this comparison": nothing is said of what the tallies hold
-module _ (p : Profile) (q : Queues) (size : ℕ) (fragments : List LiveFragment) (here : Cursor) where
-  pub live-written-as : AllLiveAccepted p q fragments here → (top : List ℕ) (height : ℕ) (cells : List ℕ) →
-      LiveWrittenOf p q size fragments here top height cells → WrittenOf p q size (plainAll fragments) here top height cells
-  live-written-as = plain-written p q size fragments here
+-- so what is said here of the cells written without tallies is so of those written with them: `Q` is any of it
+module _ (p : Profile) (q : Queues) (size : ℕ) (fragments : List LiveFragment) (here : Cursor) (none-refused : AllLiveAccepted p q fragments here) (others top : List ℕ) (height : ℕ) (Q : List ℕ → Type 0) where
+  pub live_written : (FinisherPasses p q size (plainAll fragments) here others top height → Q (writtenByFinisher p q size (plainAll fragments) here others top height)) →
+      LiveFinisherPasses p q size fragments here others top height → Q (liveByFinisher p q size fragments here others top height)
+  live_written = lives-finished.live_written p q size fragments here none-refused others top height Q
 
-  pub live-cut : (calls : List Call) → LiveCut p q calls size fragments here → Cut p q calls size (plainAll fragments) here
-  live-cut = plain-cut p q size fragments here
+  pub live-written-by-five : (FivePass p q size (plainAll fragments) here others top height → Q (writtenByFive p q size (plainAll fragments) here others top height)) →
+      LiveFivePass p q size fragments here others top height → Q (liveByFive p q size fragments here others top height)
+  live-written-by-five = lives-finished.live-written-by-five p q size fragments here none-refused others top height Q
+
+-- it is read back
+module _ (p : Profile) (q : Queues) (size : ℕ) (fragments : List LiveFragment) (here : Cursor) (run : Runs p q size (plainAll fragments) here) (none-refused : AllLiveAccepted p q fragments here) where
+  pub live-read : (others top : List ℕ) (height : ℕ) → LiveFinisherPasses p q size fragments here others top height → ReadBack p (liveByFinisher p q size fragments here others top height) (nesting run)
+  live-read others top height =
+      live_written p q size fragments here none-refused others top height (λ cells. ReadBack p cells (nesting run)) (written_read p q size (plainAll fragments) here run others top height)
+
+  pub live-by-five-read : (others top : List ℕ) (height : ℕ) → LiveFivePass p q size fragments here others top height → ReadBack p (liveByFive p q size fragments here others top height) (nesting run)
+  live-by-five-read others top height =
+      live-written-by-five p q size fragments here none-refused others top height (λ cells. ReadBack p cells (nesting run)) (written-by-five-read p q size (plainAll fragments) here run others top height)
 
 -- "Lent as zeros to a fresh tracer, with one profile and nobody else storing to it or the rows, the tally holds after every cycle, for the rows
 -- written so far in this fragment, exactly each successor address of a flagged END, with its number, in order of first appearance": after any
@@ -230,11 +175,15 @@ pub tallies-add-up : (p : Profile) (fragments : List FreshFragment) (buffer : Li
     CountsSet p (overFragments p (freshEnds p fragments)) (length (rowsOfAll (freshEnds p fragments))) (onRows (length (rowsOfAll (freshEnds p fragments))) (multiplied p) buffer)
 tallies-add-up = sums.tallies-add-up
 
--- and of what is then written, where no call is refused. No proper run is asked for
-pub tallies-add-up-finished : (p : Profile) (q : Queues) (calls : List Call) (size : ℕ) (fragments : List LiveFragment) (here : Cursor) → LentAsZeros fragments → LiveCut p q calls size fragments here →
-    (top : List ℕ) (height : ℕ) (cells : List ℕ) → LiveWrittenOf p q size fragments here top height cells →
-    CountsSet p (overFragments p (liveEnds p q fragments here)) (sum_of (countsOf (liveFinals (liveEnds p q fragments here)))) cells
-tallies-add-up-finished p q calls size fragments here zeros cut = sums.tallies-add-up-finished p q size fragments here zeros cut.accepted cut.one_size
+-- and of what is then written, where no call and no pass is refused. No proper run is asked for
+module _ (p : Profile) (q : Queues) (size : ℕ) (fragments : List LiveFragment) (here : Cursor) (zeros : LentAsZeros fragments) (none-refused : AllLiveAccepted p q fragments here) (one_size : OneSize size (plainAll fragments) (countsOf (liveFinals (liveEnds p q fragments here)))) where
+  pub tallies-add-up-finished : (others top : List ℕ) (height : ℕ) → LiveFinisherPasses p q size fragments here others top height →
+      CountsSet p (overFragments p (liveEnds p q fragments here)) (sum_of (countsOf (liveFinals (liveEnds p q fragments here)))) (liveByFinisher p q size fragments here others top height)
+  tallies-add-up-finished others top height = sums.tallies-add-up-finished p q size fragments here zeros none-refused others top height one_size
+
+  pub tallies-add-up-five : (others top : List ℕ) (height : ℕ) → LiveFivePass p q size fragments here others top height →
+      CountsSet p (overFragments p (liveEnds p q fragments here)) (sum_of (countsOf (liveFinals (liveEnds p q fragments here)))) (liveByFive p q size fragments here others top height)
+  tallies-add-up-five others top height = sums.tallies-add-up-five p q size fragments here zeros none-refused others top height one_size
 
 -- OVER REPLAY
 
@@ -252,19 +201,169 @@ replay-as-calls p f directory q lents here h = (
   replayed-cells p f directory q lents here h,
 )
 
--- so what is written of replays is written of the calls of their records; these are a run with the nesting of the records where demand 3's premises
--- hold over replay, and are cut by a size where the records are: each claim above of what is written, of runs and of two cuts is so over replay
+-- what is finished over them is read as the nesting of the records
+module _ (p : Profile) (f : Forest) (directory : List ℕ) (q : Queues) (size : ℕ) (lents : List Lent) (here : Cursor) (run : ReplayedRuns p f directory q size lents here) where
+  pub replay-read : (others top : List ℕ) (height : ℕ) → ReplayFinishes p f directory q size lents here others top height → ReadBack p (finishedReplay p f directory q size lents here others top height) (recordsNesting p f directory q run)
+  replay-read others top height e = read_back p _ _ (replay-finisher-trace p f directory q size lents here run others top height e)
+
+  pub replay-by-five-read : (others top : List ℕ) (height : ℕ) → ReplayFivePass p f directory q size lents here others top height → ReadBack p (fivePassedReplay p f directory q size lents here others top height) (recordsNesting p f directory q run)
+  replay-by-five-read others top height e = read_back p _ _ (replay-five-trace p f directory q size lents here run others top height e)
+
+  -- its program rows are the cycles of the records
+  pub replay-program-rows : programRows (recordsNesting p f directory q run) ≡ length (cyclesOf q (fragmentsOf f directory lents) here.at)
+  unfolding run-of-records
+  replay-program-rows = runs.program-rows p q size (fragmentsOf f directory lents) here (run-of-records p f directory q size lents here run)
+
+  -- the nesting is taken from the records alone
+  pub replay-one-nesting : (run' : ReplayedRuns p f directory q size lents here) → recordsNesting p f directory q run ≡ recordsNesting p f directory q run'
+  replay-one-nesting run' = one-tree-ran p 0 run.proper run'.proper
+
+-- WITHOUT SYSCALL
+
+-- N8: "the theorem about traces we write covers runs without it": where no call is refused, no cycle starts a SYSCALL node. No proper run is
+-- asked for
+pub no-syscall-started : (p : Profile) (q : Queues) (fragments : List Fragment) (here : Cursor) → AllAccepted p q fragments here → NoSyscallStarts (cyclesOf q fragments here.at)
+no-syscall-started = none-started
+
+-- so the nesting of a run has no SYSCALL Block, and "Starting such a node is no longer written": no row of what is written is a SYSCALL row
+module _ (p : Profile) (q : Queues) (size : ℕ) (fragments : List Fragment) (here : Cursor) (run : Runs p q size fragments here) where
+  pub no-syscall-nested : WithoutSyscall (nesting run)
+  no-syscall-nested = none-nested p q size fragments here run
+
+  pub no-syscall-written : (others top : List ℕ) (height : ℕ) → FinisherPasses p q size fragments here others top height → NoSyscallRows p (writtenByFinisher p q size fragments here others top height)
+  no-syscall-written others top height e = none-in-rows p _ (nesting run) (finisher-trace p q size fragments here run others top height e) no-syscall-nested
+
+  pub no-syscall-written-by-five : (others top : List ℕ) (height : ℕ) → FivePass p q size fragments here others top height → NoSyscallRows p (writtenByFive p q size fragments here others top height)
+  no-syscall-written-by-five others top height e = none-in-rows p _ (nesting run) (five-trace p q size fragments here run others top height e) no-syscall-nested
+
+-- over replay
+pub replay-no-syscall-started : (p : Profile) (f : Forest) (directory : List ℕ) (q : Queues) (lents : List Lent) (here : Cursor) → AllReplayed p f directory q lents here →
+    NoSyscallStarts (cyclesOf q (fragmentsOf f directory lents) here.at)
+replay-no-syscall-started p f directory q lents here h = none-started p q (fragmentsOf f directory lents) here (replayed-accepted p f directory q lents here h)
+
+module _ (p : Profile) (f : Forest) (directory : List ℕ) (q : Queues) (size : ℕ) (lents : List Lent) (here : Cursor) (run : ReplayedRuns p f directory q size lents here) where
+  pub replay-no-syscall-nested : WithoutSyscall (recordsNesting p f directory q run)
+  unfolding run-of-records
+  replay-no-syscall-nested = none-nested p q size (fragmentsOf f directory lents) here (run-of-records p f directory q size lents here run)
+
+  pub replay-no-syscall-written : (others top : List ℕ) (height : ℕ) → ReplayFinishes p f directory q size lents here others top height → NoSyscallRows p (finishedReplay p f directory q size lents here others top height)
+  replay-no-syscall-written others top height e = none-in-rows p _ _ (replay-finisher-trace p f directory q size lents here run others top height e) replay-no-syscall-nested
+
+  pub replay-no-syscall-written-by-five : (others top : List ℕ) (height : ℕ) → ReplayFivePass p f directory q size lents here others top height → NoSyscallRows p (fivePassedReplay p f directory q size lents here others top height)
+  replay-no-syscall-written-by-five others top height e = none-in-rows p _ _ (replay-five-trace p f directory q size lents here run others top height e) replay-no-syscall-nested
+
+-- THE OVERFLOW RULE
+
+-- N4: "A customer checked the overflow rule of the operand stack chapter on every row". Of all fragments on fresh tracers, full but for the last,
+-- with no call and no pass refused (no proper run is asked for), in each of the first height rows: helper × (b0 − 16) is 1 modulo p where b0 is
+-- above 16, and the helper is 0 where it is 16
+module _ (p : Profile) (q : Queues) (size : ℕ) (fragments : List Fragment) (here : Cursor) (none-refused : AllAccepted p q fragments here) (one_size : OneSize size fragments (countsOf (finalStates p q fragments here))) where
+  -- after the finisher
+  pub written-overflow : (others top : List ℕ) (height : ℕ) → FinisherPasses p q size fragments here others top height →
+      (i : ℕ) → i < height → OverflowRule (bufferRow i (writtenByFinisher p q size fragments here others top height))
+  written-overflow = finisher-overflow p q size fragments here none-refused one_size
+
+  -- after the five calls, one after another
+  pub written-by-five-overflow : (others top : List ℕ) (height : ℕ) → FivePass p q size fragments here others top height →
+      (i : ℕ) → i < height → OverflowRule (bufferRow i (writtenByFive p q size fragments here others top height))
+  written-by-five-overflow = five-overflow p q size fragments here none-refused one_size
+
+  -- and no row is left out by it: b0 is 16 or more, and of 32 bits as the depths of the cycles are
+  pub written-depths : AllDepths32 fragments → (others top : List ℕ) (height : ℕ) → FinisherPasses p q size fragments here others top height →
+      (i : ℕ) → i < height → DepthInRange (bufferRow i (writtenByFinisher p q size fragments here others top height))
+  written-depths depths others top height = finisher-depths p q size fragments here none-refused one_size others top height depths
+
+  pub written-by-five-depths : AllDepths32 fragments → (others top : List ℕ) (height : ℕ) → FivePass p q size fragments here others top height →
+      (i : ℕ) → i < height → DepthInRange (bufferRow i (writtenByFive p q size fragments here others top height))
+  written-by-five-depths depths others top height = five-depths p q size fragments here none-refused one_size others top height depths
+
+-- over replay, where a record's depth is of 32 bits or refused
+module _ (p : Profile) (f : Forest) (directory : List ℕ) (q : Queues) (size : ℕ) (lents : List Lent) (here : Cursor) (replays : AllReplayed p f directory q lents here) (one_size : OneSize size (fragmentsOf f directory lents) (countsReplayed p f directory q lents here)) where
+  pub replay-overflow : (others top : List ℕ) (height : ℕ) → ReplayFinishes p f directory q size lents here others top height →
+      (i : ℕ) → i < height → OverflowRule (bufferRow i (finishedReplay p f directory q size lents here others top height)) × DepthInRange (bufferRow i (finishedReplay p f directory q size lents here others top height))
+  replay-overflow = replay-finisher-overflow p f directory q size lents here replays one_size
+
+  pub replay-by-five-overflow : (others top : List ℕ) (height : ℕ) → ReplayFivePass p f directory q size lents here others top height →
+      (i : ℕ) → i < height → OverflowRule (bufferRow i (fivePassedReplay p f directory q size lents here others top height)) × DepthInRange (bufferRow i (fivePassedReplay p f directory q size lents here others top height))
+  replay-by-five-overflow = replay-five-overflow p f directory q size lents here replays one_size
+
+-- ANY FRAGMENT SIZE
+
+-- N11: "Show that one proper run, cut by two sizes and finished to the same height, gives the same cells in the first height rows. The premises:
+-- no call refuses in either, nobody else stores to the rows until the passes are done .., and the first stack top is the same." The calls are one
+-- list, cut in two ways (`Cut`: each way has all fragments of its own size with only the last one short, and no call is refused), with one
+-- profile, the same queues, and one address state and queue positions to begin with; the passes work on what the calls left, none is refused, and
+-- they are the finisher's or the five calls', in either way (`WrittenOf`). Nothing else is asked: the run need not be proper, nor LOOP addresses
+-- different, nor blocks at most 64 deep, and what the fragments and the buffer held before are any numbers
+module _ (p : Profile) (q : Queues) (calls : List Call) (size size' : ℕ) (fragments fragments' : List Fragment) (here : Cursor) (cut : Cut p q calls size fragments here) (cut' : Cut p q calls size' fragments' here) where
+  pub any-size : (top : List ℕ) (height : ℕ) (cells cells' : List ℕ) → WrittenOf p q size fragments here top height cells → WrittenOf p q size' fragments' here top height cells' → cells ≡ cells'
+  any-size top height cells cells' = same-written p q calls size size' fragments fragments' here cut cut' top height
+
+-- these are height rows
+pub written-rows : (p : Profile) (q : Queues) (calls : List Call) (size : ℕ) (fragments : List Fragment) (here : Cursor) → Cut p q calls size fragments here →
+    (top : List ℕ) (height : ℕ) (cells : List ℕ) → WrittenOf p q size fragments here top height cells → length cells ≡ 49 * height
+written-rows p q calls size fragments here cut top height cells = written-length p q calls size fragments here cut top height
+
+-- a cycle that is the first call of its fragment is refused, so a cut before a cycle that reuses what is stored is outside; the smallest example
+-- is theory_runs/proofs/ExampleCuts
+pub reuse-refused : (p : Profile) (q : Queues) (here : Cursor) (fragment : Fragment) (i : Handed) → callRefusal p q (opened p q here fragment) (finish i) ≡ 23
+reuse-refused = first-cycle-refused
+
+-- "one proper run": what the cycles did is the same in every cut of the calls where none is refused
+pub cycles-any-size : (p : Profile) (q : Queues) (fragments fragments' : List Fragment) (here : Cursor) → allCalls fragments ≡ allCalls fragments' →
+    AllAccepted p q fragments here → AllAccepted p q fragments' here → cyclesOf q fragments here.at ≡ cyclesOf q fragments' here.at
+cycles-any-size = same-cycles
+
+-- so a run that meets demand 3's premises meets them in every such cut by a size, and its nesting is the same: either file is read back as that
+-- nesting
+pub proper-any-size : (p : Profile) (q : Queues) (size size' : ℕ) (fragments fragments' : List Fragment) (here : Cursor) (run : Runs p q size fragments here) → Cut p q (allCalls fragments) size' fragments' here →
+    (run' : Runs p q size' fragments' here) × (nesting run' ≡ nesting run)
+proper-any-size = runs-cut
+
+-- with tallies. "The 256-address tally is outside this comparison": nothing is said of what the tallies hold. Calls with tallies that are cut by a
+-- size are the calls without, cut by that size, and what is written of the ones is written of the others
+module _ (p : Profile) (q : Queues) (size : ℕ) (fragments : List LiveFragment) (here : Cursor) where
+  pub live-cut : (calls : List Call) → LiveCut p q calls size fragments here → Cut p q calls size (plainAll fragments) here
+  live-cut = plain-cut p q size fragments here
+
+  pub live-written-as : AllLiveAccepted p q fragments here → (top : List ℕ) (height : ℕ) (cells : List ℕ) →
+      LiveWrittenOf p q size fragments here top height cells → WrittenOf p q size (plainAll fragments) here top height cells
+  live-written-as = plain-written p q size fragments here
+
+module _ (p : Profile) (q : Queues) (calls : List Call) (size size' : ℕ) (fragments fragments' : List LiveFragment) (here : Cursor) (cut : LiveCut p q calls size fragments here) (cut' : LiveCut p q calls size' fragments' here) where
+  pub live-any-size : (top : List ℕ) (height : ℕ) (cells cells' : List ℕ) → LiveWrittenOf p q size fragments here top height cells → LiveWrittenOf p q size' fragments' here top height cells' → cells ≡ cells'
+  live-any-size top height cells cells' written written' =
+      any-size p q calls size size' (plainAll fragments) (plainAll fragments') here (live-cut p q size fragments here calls cut) (live-cut p q size' fragments' here calls cut') top height cells cells'
+      (live-written-as p q size fragments here cut.accepted top height cells written) (live-written-as p q size' fragments' here cut'.accepted top height cells' written')
+
+pub live-reuse-refused : (p : Profile) (q : Queues) (here : Cursor) (fragment : LiveFragment) (i : Handed) → liveRefusal p q (liveOpened p q here fragment) (finish i) ≡ 23
+live-reuse-refused = live-first-cycle-refused
+
+-- over replay: the same records, cut in two ways. Records that are cut by a size are their calls, cut by that size
 module _ (p : Profile) (f : Forest) (directory : List ℕ) (q : Queues) (size : ℕ) (lents : List Lent) (here : Cursor) where
+  pub replay-cut : (numbers : List ℕ) → ReplayCut p f directory q numbers size lents here → Cut p q (recordedCalls f directory numbers) size (fragmentsOf f directory lents) here
+  replay-cut = records-cut p f directory q size lents here
+
   pub replay-written-as : AllReplayed p f directory q lents here → (top : List ℕ) (height : ℕ) (cells : List ℕ) →
       ReplayWrittenOf p f directory q size lents here top height cells → WrittenOf p q size (fragmentsOf f directory lents) here top height cells
   replay-written-as = records-written p f directory q size lents here
 
-  pub replay-run : (replayed : ReplayedRuns p f directory q size lents here) → (run : Runs p q size (fragmentsOf f directory lents) here) × (nesting run ≡ recordsNesting p f directory q replayed)
-  replay-run = records-run p f directory q size lents here
+module _ (p : Profile) (f : Forest) (directory : List ℕ) (q : Queues) (numbers : List ℕ) (size size' : ℕ) (lents lents' : List Lent) (here : Cursor) (cut : ReplayCut p f directory q numbers size lents here) (cut' : ReplayCut p f directory q numbers size' lents' here) where
+  pub replay-any-size : (top : List ℕ) (height : ℕ) (cells cells' : List ℕ) → ReplayWrittenOf p f directory q size lents here top height cells → ReplayWrittenOf p f directory q size' lents' here top height cells' → cells ≡ cells'
+  replay-any-size top height cells cells' written written' =
+      any-size p q (recordedCalls f directory numbers) size size' (fragmentsOf f directory lents) (fragmentsOf f directory lents') here
+      (replay-cut p f directory q size lents here numbers cut) (replay-cut p f directory q size' lents' here numbers cut') top height cells cells'
+      (replay-written-as p f directory q size lents here cut.replays top height cells written) (replay-written-as p f directory q size' lents' here cut'.replays top height cells' written')
 
-  pub replay-cut : (numbers : List ℕ) → ReplayCut p f directory q numbers size lents here → Cut p q (recordedCalls f directory numbers) size (fragmentsOf f directory lents) here
-  replay-cut = records-cut p f directory q size lents here
+pub replay-proper-any-size : (p : Profile) (f : Forest) (directory : List ℕ) (q : Queues) (size size' : ℕ) (lents lents' : List Lent) (here : Cursor) (run : ReplayedRuns p f directory q size lents here) →
+    ReplayCut p f directory q (allNumbers lents) size' lents' here →
+    (run' : ReplayedRuns p f directory q size' lents' here) × (recordsNesting p f directory q run' ≡ recordsNesting p f directory q run)
+replay-proper-any-size = replay-runs-cut
 
--- the depths of recorded cycles are of 32 bits, since others are refused
-pub replay-depths : (f : Forest) (directory : List ℕ) (lents : List Lent) → AllDepths32 (fragmentsOf f directory lents)
-replay-depths = recorded-depths
+-- the one with the other: calls with tallies, and the same calls as records
+module _ (p : Profile) (f : Forest) (directory : List ℕ) (q : Queues) (numbers : List ℕ) (size size' : ℕ) (fragments : List LiveFragment) (lents : List Lent) (here : Cursor) (cut : LiveCut p q (recordedCalls f directory numbers) size fragments here) (cut' : ReplayCut p f directory q numbers size' lents here) where
+  pub live-replay-any-size : (top : List ℕ) (height : ℕ) (cells cells' : List ℕ) → LiveWrittenOf p q size fragments here top height cells → ReplayWrittenOf p f directory q size' lents here top height cells' → cells ≡ cells'
+  live-replay-any-size top height cells cells' written written' =
+      any-size p q (recordedCalls f directory numbers) size size' (plainAll fragments) (fragmentsOf f directory lents) here
+      (live-cut p q size fragments here (recordedCalls f directory numbers) cut) (replay-cut p f directory q size' lents here numbers cut') top height cells cells'
+      (live-written-as p q size fragments here cut.accepted top height cells written) (replay-written-as p f directory q size' lents here cut'.replays top height cells' written')

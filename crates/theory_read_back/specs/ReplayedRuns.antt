@@ -1,7 +1,8 @@
 -- A run that is replayed: fragments lent as records, with one profile, one set of queues, and all forests with their directory. Each fragment
 -- is replayed at the address state and the queue positions that the replay before it answered.
-use Rattle.std.specs.Prelude.{◌≡◌, false, List, [], ◌∷◌, ◌++◌, ℕ, zero, suc, ◌/◌, ◌≤◌, length}
+use Rattle.std.specs.Prelude.{◌≡◌, false, List, [], ◌∷◌, ◌++◌, ℕ, zero, suc, ◌*◌, ◌/◌, ◌≤◌, length, take}
 use Rattle.groups.specs.Answer.{Answer, accepted, refused}
+use Rattle.groups.specs.Constants.{rowWidth}
 use Rattle.rows.specs.declared.records.profile.Profile.{Profile}
 use Rattle.rows.specs.declared.replay.calls.Replayed.{Replayed}
 use Rattle.rows.specs.records.Forests.{Forest}
@@ -12,11 +13,12 @@ use Rattle.rows.specs.replay.Calls as replays
 use Rattle.rows.specs.records.CallRecords as records
 use Rattle.rows.specs.replay.Calls.{directoryEntry, forestIn, Setting, scanned, replayed, replayedFragment}
 use Rattle.rows.specs.records.CallRecords.{stores, finishes, call_in, recordAt}
+use Rattle.rows.specs.passes.Passes.{refusalAll}
 use Rattle.theory_readings.specs.Readings as readings
 use Rattle.theory_runs.specs.Calls.{Call, store, finish, Fragment, OneSize}
 use Rattle.theory_runs.specs.Happened.{cyclesOf}
 use Rattle.theory_runs.specs.ProperRuns.{Run, treeFrom, loopStarts}
-use Rattle.theory_runs.specs.Finished.{FinishedTo}
+use Rattle.theory_runs.specs.Finished.{buffer5, FiveAccepted, finisherBuffer, FinishedTo}
 
 -- what is lent for a fragment: its records, and the cells that it held before
 pub record Lent : Type 0 where
@@ -116,6 +118,24 @@ module _ (p : Profile) (f : Forest) (directory : List ℕ) (q : Queues) where
     pub replays : AllReplayed lents here
     pub one_size : OneSize size (fragmentsOf f directory lents) (countsReplayed lents here)
 
-  -- cells that are written of replayed fragments, by the finisher or by the five calls, with what the replays answered
+  -- the passes on the buffer that holds the replayed fragments, and other cells behind them, with what the replays answered
+  module _ (size : ℕ) (lents : List Lent) (here : Cursor) (others top : List ℕ) (height : ℕ) where
+    abbrev pub replayedBuffer : List ℕ
+    replayedBuffer = cellsReplayed lents here ++ others
+
+    abbrev pub finishedReplay : List ℕ
+    finishedReplay =
+        take (rowWidth * height) (finisherBuffer p size (countsReplayed lents here) (builtReplayed lents here) top height replayedBuffer)
+
+    abbrev pub ReplayFinishes : Type 0
+    ReplayFinishes = refusalAll p replayedBuffer size (countsReplayed lents here) (builtReplayed lents here) height ≡ 0
+
+    abbrev pub fivePassedReplay : List ℕ
+    fivePassedReplay = take (rowWidth * height) (buffer5 p size (countsReplayed lents here) (builtReplayed lents here) top height replayedBuffer)
+
+    abbrev pub ReplayFivePass : Type 0
+    ReplayFivePass = FiveAccepted p size (countsReplayed lents here) (builtReplayed lents here) top height replayedBuffer
+
+  -- N11: cells that are written of replayed fragments, by the finisher or by the five calls
   abbrev pub ReplayWrittenOf : (size : ℕ) (lents : List Lent) (here : Cursor) (top : List ℕ) (height : ℕ) (cells : List ℕ) → Type 0
   ReplayWrittenOf size lents here = FinishedTo p size (countsReplayed lents here) (builtReplayed lents here) (cellsReplayed lents here)

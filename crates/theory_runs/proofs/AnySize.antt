@@ -23,11 +23,11 @@ use Rattle.theory_runs.specs.Calls.{Handed, Call, store, finish, Fragment, Held,
 use Rattle.theory_runs.specs.Happened.{Cycle, InForce, nothingStored, did, stored, leftBy, inForceAfter, inForceAfterAll, cyclesIn, cyclesOf}
 use Rattle.theory_runs.specs.ProperRuns.{Run, loopStarts, treeFrom}
 use Rattle.theory_runs.specs.SameCalls.{allCalls, Cut, cyclesAmong}
-use Rattle.theory_runs.specs.Finished.{Runs, nesting, WrittenOf}
+use Rattle.theory_runs.specs.Finished.{Runs, nesting, FinishedTo, WrittenOf}
 use Rattle.theory_runs.proofs.Folded.{stepped, force-at}
 use Rattle.theory_runs.proofs.Unfragmented.{Item, lastS, last_k, cells25, not-nothing, stored-force, counts-length, last-cells}
 use Rattle.theory_runs.proofs.InOne.{sum-cycles, same-items, rows-any-cut}
-use Rattle.theory_runs.proofs.TraceOfRun.{PassesChecked, run-rows, run-wide, run_length, written_as}
+use Rattle.theory_runs.proofs.TraceOfRun.{PassesChecked, run-rows, run-wide, run_length, by-finisher, by-five}
 
 -- A FIRST CYCLE
 
@@ -79,63 +79,12 @@ module _ (p : Profile) (q : Queues) where
   ProperAs f root parent own third tree cycles =
       (d : Run p f root false parent own third cycles []) × (twoEqual (loopStarts cycles) ≡ false) × (depth_of (treeFrom p 0 d).0 ≤ 64) × ((treeFrom p 0 d).0 ≡ tree)
 
--- ONE CUT
-
-module _ (p : Profile) (q : Queues) (calls : List Call) (size : ℕ) (fragments : List Fragment) (here : Cursor) (cut : Cut p q calls size fragments here) (top : List ℕ) (height : ℕ) where
-  -- the rows after the passes, and that no pass refuses
-  abbrev rows-with : List (List ℕ)
-  rows-with = run-rows p q size fragments here cut.accepted cut.one_size top height
-
-  abbrev Checks : Type 0
-  Checks = PassesChecked p q size fragments here cut.accepted cut.one_size top height
-
-  is-written : {cells : List ℕ} → WrittenOf p q size fragments here top height cells → Checks × (cells ≡ flat rows-with)
-  is-written = written_as p q size fragments here cut.accepted cut.one_size top height
-
-  -- these are height rows
-  pub written-length : {cells : List ℕ} → WrittenOf p q size fragments here top height cells → length cells ≡ 49 * height
-  written-length written =
-      let (c, e) = is-written written in
-      ap length e ∙ length-flat rows-with (run-wide p q size fragments here cut.accepted cut.one_size top height c)
-      ∙ ap (λ (n : ℕ). 49 * n) (run_length p q size fragments here cut.accepted cut.one_size top height c)
-
-  -- there is a fragment, and there are at most 2^24 cycles
-  some-fragment : Checks → 0 < length fragments
-  some-fragment c = omega (arith, counts-length p q fragments here, c.some)
-
-  few-cycles : Checks → cyclesAmong (allCalls fragments) ≤ 16777216
-  few-cycles c = omega (arith, sum-cycles p q fragments here cut.accepted, c.room, c.few)
-
--- TWO CUTS
-
-module _ (p : Profile) (q : Queues) (calls : List Call) (size size' : ℕ) (fragments fragments' : List Fragment) (here : Cursor) (cut : Cut p q calls size fragments here) (cut' : Cut p q calls size' fragments' here) where
-  same-calls : allCalls fragments ≡ allCalls fragments'
-  same-calls = cut.calls_are ∙ sym cut'.calls_are
-
-  module _ (top : List ℕ) (height : ℕ) where
-    same_rows : Checks p q calls size fragments here cut top height → Checks p q calls size' fragments' here cut' top height →
-        rows-with p q calls size fragments here cut top height ≡ rows-with p q calls size' fragments' here cut' top height
-    same_rows c c' =
-        let few = few-cycles p q calls size fragments here cut top height c in
-        let fixed = rows-any-cut p q size size' fragments fragments' here top same-calls c.some_size c'.some_size cut.accepted cut'.accepted cut.one_size cut'.one_size few in
-        let items = same-items p q fragments fragments' here same-calls cut.accepted cut'.accepted few in
-        let last = last-cells p q size fragments here cut.accepted (some-fragment p q calls size fragments here cut top height c) c.full
-        ∙ ap (λ (l : List Item). reduced (cells25 (lastS noSystem l) (last_k noStack l))) items
-        ∙ sym (last-cells p q size' fragments' here cut'.accepted (some-fragment p q calls size' fragments' here cut' top height c') c'.full) in
-        ap₂ (λ x y. padded p height (halted p x (inverted (multiplied p y)))) last fixed
-
-    -- "one proper run, cut by two sizes and finished to the same height, gives the same cells in the first height rows"
-    pub same-written : {cells cells' : List ℕ} → WrittenOf p q size fragments here top height cells → WrittenOf p q size' fragments' here top height cells' → cells ≡ cells'
-    same-written written written' =
-        let (c, e) = is-written p q calls size fragments here cut top height written in
-        let (c', e') = is-written p q calls size' fragments' here cut' top height written' in
-        e ∙ ap flat (same_rows c c') ∙ sym e'
-
   -- a proper run that is cut by another size is one too, with the same nesting
-  pub runs-cut : (runs : Runs p q size fragments here) → (runs' : Runs p q size' fragments' here) × (nesting runs' ≡ nesting runs)
-  runs-cut runs =
-      let e = same-cycles p q fragments fragments' here same-calls cut.accepted cut'.accepted in
-      let (proper, apart, shallow, same) = subst (ProperAs p q runs.forest runs.root runs.parent runs.own runs.third (nesting runs)) e (runs.proper, runs.loops-apart, runs.shallow, refl) in (
+  pub runs-cut : (size size' : ℕ) (fragments fragments' : List Fragment) (here : Cursor) (runs : Runs p q size fragments here) → Cut p q (allCalls fragments) size' fragments' here →
+      (runs' : Runs p q size' fragments' here) × (nesting runs' ≡ nesting runs)
+  runs-cut size size' fragments fragments' here runs cut =
+      let e = same-cycles fragments fragments' here (sym cut.calls_are) runs.accepted cut.accepted in
+      let (proper, apart, shallow, same) = subst (ProperAs runs.forest runs.root runs.parent runs.own runs.third (nesting runs)) e (runs.proper, runs.loops-apart, runs.shallow, refl) in (
         record {
           forest = runs.forest;
           root = runs.root;
@@ -143,10 +92,62 @@ module _ (p : Profile) (q : Queues) (calls : List Call) (size size' : ℕ) (frag
           own = runs.own;
           third = runs.third;
           proper = proper;
-          accepted = cut'.accepted;
+          accepted = cut.accepted;
           loops-apart = apart;
           shallow = shallow;
-          one_size = cut'.one_size;
+          one_size = cut.one_size;
         },
         same,
       )
+
+-- ONE CUT
+
+module _ (p : Profile) (q : Queues) (calls : List Call) (size : ℕ) (fragments : List Fragment) (here : Cursor) (cut : Cut p q calls size fragments here) (top : List ℕ) (height : ℕ) where
+  -- the rows after the passes, and that no pass refuses
+  abbrev rows-with : (others : List ℕ) → List (List ℕ)
+  rows-with others = run-rows p q size fragments here cut.accepted cut.one_size others top height
+
+  abbrev Checks : (others : List ℕ) → Type 0
+  Checks others = PassesChecked p q size fragments here cut.accepted cut.one_size others top height
+
+  -- what holds of them holds of what is written, however it is finished
+  of-written : (Q : List ℕ → Type 0) → ((others : List ℕ) → Checks others → Q (flat (rows-with others))) → {cells : List ℕ} → WrittenOf p q size fragments here top height cells → Q cells
+  of-written Q h (FinishedTo.of-finisher others e) = by-finisher p q size fragments here cut.accepted cut.one_size others top height Q (h others) e
+  of-written Q h (FinishedTo.of-five others e) = by-five p q size fragments here cut.accepted cut.one_size others top height Q (h others) e
+
+  -- these are height rows
+  pub written-length : {cells : List ℕ} → WrittenOf p q size fragments here top height cells → length cells ≡ 49 * height
+  written-length =
+      of-written (λ cells. length cells ≡ 49 * height) (λ others c.
+      length-flat (rows-with others) (run-wide p q size fragments here cut.accepted cut.one_size others top height c)
+      ∙ ap (λ (n : ℕ). 49 * n) (run_length p q size fragments here cut.accepted cut.one_size others top height c))
+
+  -- there is a fragment, and there are at most 2^24 cycles
+  some-fragment : (others : List ℕ) → Checks others → 0 < length fragments
+  some-fragment others c = omega (arith, counts-length p q fragments here, c.some)
+
+  few-cycles : (others : List ℕ) → Checks others → cyclesAmong (allCalls fragments) ≤ 16777216
+  few-cycles others c = omega (arith, sum-cycles p q fragments here cut.accepted, c.room, c.few)
+
+-- TWO CUTS
+
+module _ (p : Profile) (q : Queues) (calls : List Call) (size size' : ℕ) (fragments fragments' : List Fragment) (here : Cursor) (cut : Cut p q calls size fragments here) (cut' : Cut p q calls size' fragments' here) (top : List ℕ) (height : ℕ) where
+  same-calls : allCalls fragments ≡ allCalls fragments'
+  same-calls = cut.calls_are ∙ sym cut'.calls_are
+
+  same_rows : (others others' : List ℕ) → Checks p q calls size fragments here cut top height others → Checks p q calls size' fragments' here cut' top height others' →
+      rows-with p q calls size fragments here cut top height others ≡ rows-with p q calls size' fragments' here cut' top height others'
+  same_rows others others' c c' =
+      let few = few-cycles p q calls size fragments here cut top height others c in
+      let fixed = rows-any-cut p q size size' fragments fragments' here top same-calls c.some_size c'.some_size cut.accepted cut'.accepted cut.one_size cut'.one_size few in
+      let items = same-items p q fragments fragments' here same-calls cut.accepted cut'.accepted few in
+      let last = last-cells p q size fragments here cut.accepted (some-fragment p q calls size fragments here cut top height others c) c.full
+      ∙ ap (λ (l : List Item). reduced (cells25 (lastS noSystem l) (last_k noStack l))) items
+      ∙ sym (last-cells p q size' fragments' here cut'.accepted (some-fragment p q calls size' fragments' here cut' top height others' c') c'.full) in
+      ap₂ (λ x y. padded p height (halted p x (inverted (multiplied p y)))) last fixed
+
+  -- "one proper run, cut by two sizes and finished to the same height, gives the same cells in the first height rows"
+  pub same-written : {cells cells' : List ℕ} → WrittenOf p q size fragments here top height cells → WrittenOf p q size' fragments' here top height cells' → cells ≡ cells'
+  same-written {cells} {cells'} written written' =
+      of-written p q calls size fragments here cut top height (λ x. x ≡ cells') (λ others c.
+      of-written p q calls size' fragments' here cut' top height (λ y. flat (rows-with p q calls size fragments here cut top height others) ≡ y) (λ others' c'. ap flat (same_rows others others' c c')) written') written

@@ -35,10 +35,10 @@ use Rattle.theory_readings.proofs.Examples.{profile}
 use Rattle.theory_runs.specs.Calls.{Call, store, finish, Fragment, after, callRefusal, afterAll, Accepted, opened, closed, cursorOf, AllAccepted, finalStates, cells_of, countsOf, builtCells, OneSize}
 use Rattle.theory_runs.specs.Happened.{nothingStored, start_of, finishOf, didBy, didStored, usedBy, positionsAfter, stored, leftBy, inForceAfter, inForceAfterAll, cyclesIn, cyclesOf}
 use Rattle.theory_runs.specs.ProperRuns.{Child, endingOf, Holds, HasOperations, InBlock, Run}
-use Rattle.theory_runs.specs.Finished.{buffer1, buffer2, buffer3, buffer4, FinishedTo, WrittenOf}
+use Rattle.theory_runs.specs.Finished.{buffer1, buffer2, buffer3, buffer4, writtenByFive, writtenByFinisher, FivePass, FinisherPasses, FinishedTo}
 use Rattle.theory_runs.specs.SameCalls.{allCalls, Cut}
 use Rattle.theory_runs.specs.LiveCalls.{call, LiveFragment, plainCalls, plainAll, liveRefusal, live_after, liveAfterAll, LiveAccepted, AllLiveAccepted, liveEnds, liveFinals, liveCells}
-use Rattle.theory_runs.specs.LiveFinished.{LiveCut, LiveWrittenOf}
+use Rattle.theory_runs.specs.LiveFinished.{liveByFive, liveByFinisher, LiveFivePass, LiveFinisherPasses, LiveCut}
 use Rattle.theory_runs.proofs.AnySize.{first-cycle-refused, same-written}
 use Rattle.theory_runs.proofs.LiveCuts.{plain-cut, plain-written}
 
@@ -114,32 +114,38 @@ cut-two = record {
   one_size = (refl, refl, tt);
 }
 
--- finished to six rows by the finisher, with other numbers behind the fragments
-finished-uncut : (cells : List ℕ) × WrittenOf profile queued 4 uncut begin (replicate 16 0) 6 cells
+-- finished to six rows, with other numbers behind the fragments
+passes-uncut : FinisherPasses profile queued 4 uncut begin (replicate 98 5) (replicate 16 0) 6
 unfolding outer inner queued begin store_of cycleOf opening reusing closing uncut byTwo AllAccepted Accepted callRefusal after afterAll finalState cycle cycleWith scanOf anyBigOpcode forestTooLarge anyLongBlock anyLargeBatch systemCells stackCells any_from profileWrong opcodes twoEqual isOneOf lacksBits fragmentWrong made startNode startKind startBlock startDyn madeEnd dynKind blockKind entryKind nodeAt node_of isSlot digestAt block_of startedAt entry_at end_at batchAt isBatch batchFlags flagsUpTo8 tracerAfter leftAfter storedIn fragmentAfter putRow rowCells decoderCells fresh builtSystem builtStack noSystem noStack lastSystem lastStack controlFlow basicBlockBatch wordAt finalStates countsOf forPasses builtCells cells_of refusalAll first_of sum_of fragmentsWrong bufferWrong fewerRows anyAbove heightWrong notFull loopWithoutBody anyWithoutBody bodyEnds rows_of opcode_of low_bits flaggedEnd cell_at reduced readSystem readStack readState readCaptured
-finished-uncut = (_, FinishedTo.of-finisher (replicate 98 5) refl)
+passes-uncut = refl
 
-finished-two : (cells : List ℕ) × WrittenOf profile queued 2 byTwo begin (replicate 16 0) 6 cells
+passes-two : FinisherPasses profile queued 2 byTwo begin (replicate 147 6) (replicate 16 0) 6
 unfolding outer inner queued begin store_of cycleOf opening reusing closing uncut byTwo AllAccepted Accepted callRefusal after afterAll finalState cycle cycleWith scanOf anyBigOpcode forestTooLarge anyLongBlock anyLargeBatch systemCells stackCells any_from profileWrong opcodes twoEqual isOneOf lacksBits fragmentWrong made startNode startKind startBlock startDyn madeEnd dynKind blockKind entryKind nodeAt node_of isSlot digestAt block_of startedAt entry_at end_at batchAt isBatch batchFlags flagsUpTo8 tracerAfter leftAfter storedIn fragmentAfter putRow rowCells decoderCells fresh builtSystem builtStack noSystem noStack lastSystem lastStack controlFlow basicBlockBatch wordAt finalStates countsOf forPasses builtCells cells_of refusalAll first_of sum_of fragmentsWrong bufferWrong fewerRows anyAbove heightWrong notFull loopWithoutBody anyWithoutBody bodyEnds rows_of opcode_of low_bits flaggedEnd cell_at reduced readSystem readStack readState readCaptured
-finished-two = (_, FinishedTo.of-finisher (replicate 147 6) refl)
+passes-two = refl
 
-same-files : finished-uncut.0 ≡ finished-two.0
-same-files = same-written profile queued (opening ++ reusing ++ closing) 4 2 uncut byTwo begin cut-uncut cut-two (replicate 16 0) 6 finished-uncut.1 finished-two.1
+same-files : writtenByFinisher profile queued 4 uncut begin (replicate 98 5) (replicate 16 0) 6 ≡ writtenByFinisher profile queued 2 byTwo begin (replicate 147 6) (replicate 16 0) 6
+same-files =
+    same-written profile queued (opening ++ reusing ++ closing) 4 2 uncut byTwo begin cut-uncut cut-two (replicate 16 0) 6
+    (FinishedTo.of-finisher (replicate 98 5) passes-uncut) (FinishedTo.of-finisher (replicate 147 6) passes-two)
 
 -- by the five calls, and one by the finisher and one by them
-five-uncut : (cells : List ℕ) × WrittenOf profile queued 4 uncut begin (replicate 16 0) 6 cells
+five-uncut : FivePass profile queued 4 uncut begin (replicate 98 5) (replicate 16 0) 6
 unfolding outer inner queued begin store_of cycleOf opening reusing closing uncut byTwo AllAccepted Accepted callRefusal after afterAll finalState cycle cycleWith scanOf anyBigOpcode forestTooLarge anyLongBlock anyLargeBatch systemCells stackCells any_from profileWrong opcodes twoEqual isOneOf lacksBits fragmentWrong made startNode startKind startBlock startDyn madeEnd dynKind blockKind entryKind nodeAt node_of isSlot digestAt block_of startedAt entry_at end_at batchAt isBatch batchFlags flagsUpTo8 tracerAfter leftAfter storedIn fragmentAfter putRow rowCells decoderCells fresh builtSystem builtStack noSystem noStack lastSystem lastStack controlFlow basicBlockBatch wordAt finalStates countsOf forPasses builtCells cells_of refusalAll first_of sum_of fragmentsWrong bufferWrong fewerRows anyAbove heightWrong notFull loopWithoutBody anyWithoutBody bodyEnds rows_of opcode_of low_bits flaggedEnd cell_at reduced readSystem readStack readState readCaptured buffer1 buffer2 buffer3 buffer4 refusal1 refusal2 refusal3 refusal4 refusal5 onRows flat fixedUp firstRow withSides laterRows builtOf multiplied withCounts inverted inverseOf euclid lastBuilt halted lastRow haltRow haltDecoder haltStack padded paddingRows paddingRow
-five-uncut = (_, FinishedTo.of-five (replicate 98 5) (record { first = refl; second = refl; third = refl; fourth = refl; fifth = refl }))
+five-uncut = record { first = refl; second = refl; third = refl; fourth = refl; fifth = refl }
 
-five-two : (cells : List ℕ) × WrittenOf profile queued 2 byTwo begin (replicate 16 0) 6 cells
+five-two : FivePass profile queued 2 byTwo begin (replicate 147 6) (replicate 16 0) 6
 unfolding outer inner queued begin store_of cycleOf opening reusing closing uncut byTwo AllAccepted Accepted callRefusal after afterAll finalState cycle cycleWith scanOf anyBigOpcode forestTooLarge anyLongBlock anyLargeBatch systemCells stackCells any_from profileWrong opcodes twoEqual isOneOf lacksBits fragmentWrong made startNode startKind startBlock startDyn madeEnd dynKind blockKind entryKind nodeAt node_of isSlot digestAt block_of startedAt entry_at end_at batchAt isBatch batchFlags flagsUpTo8 tracerAfter leftAfter storedIn fragmentAfter putRow rowCells decoderCells fresh builtSystem builtStack noSystem noStack lastSystem lastStack controlFlow basicBlockBatch wordAt finalStates countsOf forPasses builtCells cells_of refusalAll first_of sum_of fragmentsWrong bufferWrong fewerRows anyAbove heightWrong notFull loopWithoutBody anyWithoutBody bodyEnds rows_of opcode_of low_bits flaggedEnd cell_at reduced readSystem readStack readState readCaptured buffer1 buffer2 buffer3 buffer4 refusal1 refusal2 refusal3 refusal4 refusal5 onRows flat fixedUp firstRow withSides laterRows builtOf multiplied withCounts inverted inverseOf euclid lastBuilt halted lastRow haltRow haltDecoder haltStack padded paddingRows paddingRow
-five-two = (_, FinishedTo.of-five (replicate 147 6) (record { first = refl; second = refl; third = refl; fourth = refl; fifth = refl }))
+five-two = record { first = refl; second = refl; third = refl; fourth = refl; fifth = refl }
 
-same-files-five : five-uncut.0 ≡ five-two.0
-same-files-five = same-written profile queued (opening ++ reusing ++ closing) 4 2 uncut byTwo begin cut-uncut cut-two (replicate 16 0) 6 five-uncut.1 five-two.1
+same-files-five : writtenByFive profile queued 4 uncut begin (replicate 98 5) (replicate 16 0) 6 ≡ writtenByFive profile queued 2 byTwo begin (replicate 147 6) (replicate 16 0) 6
+same-files-five =
+    same-written profile queued (opening ++ reusing ++ closing) 4 2 uncut byTwo begin cut-uncut cut-two (replicate 16 0) 6
+    (FinishedTo.of-five (replicate 98 5) five-uncut) (FinishedTo.of-five (replicate 147 6) five-two)
 
-same-files-mixed : finished-uncut.0 ≡ five-two.0
-same-files-mixed = same-written profile queued (opening ++ reusing ++ closing) 4 2 uncut byTwo begin cut-uncut cut-two (replicate 16 0) 6 finished-uncut.1 five-two.1
+same-files-mixed : writtenByFinisher profile queued 4 uncut begin (replicate 98 5) (replicate 16 0) 6 ≡ writtenByFive profile queued 2 byTwo begin (replicate 147 6) (replicate 16 0) 6
+same-files-mixed =
+    same-written profile queued (opening ++ reusing ++ closing) 4 2 uncut byTwo begin cut-uncut cut-two (replicate 16 0) 6
+    (FinishedTo.of-finisher (replicate 98 5) passes-uncut) (FinishedTo.of-five (replicate 147 6) five-two)
 
 -- with tallies, which hold other numbers in the two
 unfoldable lent : (tally : List ℕ) → Fragment → LiveFragment
@@ -163,20 +169,20 @@ live-cut-two = record {
   one_size = (refl, refl, tt);
 }
 
-live-finished-uncut : (cells : List ℕ) × LiveWrittenOf profile queued 4 liveUncut begin (replicate 16 0) 6 cells
+live-passes-uncut : LiveFinisherPasses profile queued 4 liveUncut begin (replicate 98 5) (replicate 16 0) 6
 unfolding outer inner queued begin store_of cycleOf opening reusing closing uncut byTwo finalState cycleWith scanOf anyBigOpcode forestTooLarge anyLongBlock anyLargeBatch systemCells stackCells any_from profileWrong opcodes twoEqual isOneOf lacksBits fragmentWrong made startNode startKind startBlock startDyn madeEnd dynKind blockKind entryKind nodeAt node_of isSlot digestAt block_of startedAt entry_at end_at batchAt isBatch batchFlags flagsUpTo8 tracerAfter leftAfter storedIn fragmentAfter putRow rowCells decoderCells fresh builtSystem builtStack noSystem noStack lastSystem lastStack controlFlow basicBlockBatch wordAt countsOf forPasses builtCells refusalAll first_of sum_of fragmentsWrong bufferWrong fewerRows anyAbove heightWrong notFull loopWithoutBody anyWithoutBody bodyEnds rows_of opcode_of low_bits flaggedEnd cell_at reduced readSystem readStack readState readCaptured liveRefusal live_after liveAfterAll LiveAccepted AllLiveAccepted talliedCycle unlessFull tallyAfter countsNext bufferRow lent liveEnds liveFinals liveCells
-live-finished-uncut = (_, FinishedTo.of-finisher (replicate 98 5) refl)
+live-passes-uncut = refl
 
-live-five-two : (cells : List ℕ) × LiveWrittenOf profile queued 2 liveByTwo begin (replicate 16 0) 6 cells
+live-five-two : LiveFivePass profile queued 2 liveByTwo begin (replicate 147 6) (replicate 16 0) 6
 unfolding outer inner queued begin store_of cycleOf opening reusing closing uncut byTwo finalState cycleWith scanOf anyBigOpcode forestTooLarge anyLongBlock anyLargeBatch systemCells stackCells any_from profileWrong opcodes twoEqual isOneOf lacksBits fragmentWrong made startNode startKind startBlock startDyn madeEnd dynKind blockKind entryKind nodeAt node_of isSlot digestAt block_of startedAt entry_at end_at batchAt isBatch batchFlags flagsUpTo8 tracerAfter leftAfter storedIn fragmentAfter putRow rowCells decoderCells fresh builtSystem builtStack noSystem noStack lastSystem lastStack controlFlow basicBlockBatch wordAt countsOf forPasses builtCells refusalAll first_of sum_of fragmentsWrong bufferWrong fewerRows anyAbove heightWrong notFull loopWithoutBody anyWithoutBody bodyEnds rows_of opcode_of low_bits flaggedEnd cell_at reduced readSystem readStack readState readCaptured buffer1 buffer2 buffer3 buffer4 refusal1 refusal2 refusal3 refusal4 refusal5 onRows flat fixedUp firstRow withSides laterRows builtOf multiplied withCounts inverted inverseOf euclid lastBuilt halted lastRow haltRow haltDecoder haltStack padded paddingRows paddingRow liveRefusal live_after liveAfterAll LiveAccepted AllLiveAccepted talliedCycle unlessFull tallyAfter countsNext bufferRow lent liveEnds liveFinals liveCells
-live-five-two = (_, FinishedTo.of-five (replicate 147 6) (record { first = refl; second = refl; third = refl; fourth = refl; fifth = refl }))
+live-five-two = record { first = refl; second = refl; third = refl; fourth = refl; fifth = refl }
 
-live-same-files : live-finished-uncut.0 ≡ live-five-two.0
+live-same-files : liveByFinisher profile queued 4 liveUncut begin (replicate 98 5) (replicate 16 0) 6 ≡ liveByFive profile queued 2 liveByTwo begin (replicate 147 6) (replicate 16 0) 6
 live-same-files =
     same-written profile queued (opening ++ reusing ++ closing) 4 2 (plainAll liveUncut) (plainAll liveByTwo) begin
     (plain-cut profile queued 4 liveUncut begin _ live-cut-uncut) (plain-cut profile queued 2 liveByTwo begin _ live-cut-two) (replicate 16 0) 6
-    (plain-written profile queued 4 liveUncut begin live-cut-uncut.accepted (replicate 16 0) 6 live-finished-uncut.0 live-finished-uncut.1)
-    (plain-written profile queued 2 liveByTwo begin live-cut-two.accepted (replicate 16 0) 6 live-five-two.0 live-five-two.1)
+    (plain-written profile queued 4 liveUncut begin live-cut-uncut.accepted (replicate 16 0) 6 _ (FinishedTo.of-finisher (replicate 98 5) live-passes-uncut))
+    (plain-written profile queued 2 liveByTwo begin live-cut-two.accepted (replicate 16 0) 6 _ (FinishedTo.of-five (replicate 147 6) live-five-two))
 
 -- 23
 

@@ -41,12 +41,11 @@ use Rattle.theory_readings.specs.Answers.{refused, readerRefusal, rowAsked}
 use Rattle.theory_readings.specs.ways.Parser.{give, passesWith, opsWith, close, enter, opening, atRepeat, step, parse, ifHalt, afterHalt, after_block, wordAnswer, readWord, isMet, firstWrong, answerOfCells, answerOfWord, unlessBadInput, answer}
 use Rattle.theory_readings.proofs.AcceptedTraces.{accepts-traces}
 use Rattle.theory_readings.proofs.Examples.{profile}
-use Rattle.theory_runs.specs.Calls.{Call, store, finish, Fragment, after, callRefusal, afterAll, Accepted, AllAccepted, finalStates, cells_of, countsOf, builtCells, OneSize}
+use Rattle.theory_runs.specs.Calls.{Call, store, finish, Fragment, after, callRefusal, afterAll, Accepted, AllAccepted, finalStates, cells_of, countsOf, builtCells}
 use Rattle.theory_runs.specs.Happened.{nothingStored, start_of, operationAt, finishOf, didBy, didStored, usedBy, positionsAfter, stored, leftBy, inForceAfter, inForceAfterAll, cyclesIn, cyclesOf}
 use Rattle.theory_runs.specs.ProperRuns.{Holds, HasOperations, HasOpcode, withLoop, loopStarts, InBlock, Run, RunPasses, treeFrom}
-use Rattle.theory_runs.specs.Finished.{finisherBuffer, FinishedTo, WrittenOf}
-use Rattle.theory_runs.specs.SameCalls.{allCalls, Cut}
-use Rattle.theory_runs.proofs.AnySize.{written-length}
+use Rattle.theory_runs.specs.Finished.{finisherBuffer, runCounts, runBuilt, runBuffer, writtenByFinisher, FinisherPasses}
+use Rattle.theory_runs.proofs.ReadRun.{short}
 
 -- slot 0 a join of slot 1 twice, slot 1 a loop, slot 2 its body
 unfoldable forestA : Forest
@@ -131,25 +130,22 @@ unfolding forestA second queued begin store_of cycleOf calls fragments cyclesOf 
 starts false = refl
 starts true = refl
 
-unfoldable by-finisher : (u : Bool) → (cells : List ℕ) × WrittenOf profile (queued u) 13 fragments begin (replicate 16 0) 13 cells
+passes : (u : Bool) → FinisherPasses profile (queued u) 13 fragments begin [] (replicate 16 0) 13
 unfolding forestA second queued begin store_of cycleOf calls fragments AllAccepted Accepted callRefusal after afterAll finalState cycle cycleWith scanOf anyBigOpcode forestTooLarge anyLongBlock anyLargeBatch readRegisters helpersOfCells systemCells stackCells any_from profileWrong opcodes twoEqual isOneOf lacksBits fragmentWrong made startNode startKind startBlock startTwo startOne madeEnd madeRepeat finishLoop body_of blockKind entryKind operationMade resumed nodeAt node_of isSlot digestAt opcodeAt block_of startedAt entry_at end_at batchAt isBatch startsAt batchFlags flagsUpTo8 contextAtOp group_of falling groupFrom place_in contextInGroup consumed counts doubled round_up groupsOf sumGroups anyAbove8 groupSum pushes opContext tooLarge helpersAnswer all_below u32Values helpersOf tracerAfter leftAfter storedIn fragmentAfter putRow rowCells decoderCells fresh builtSystem builtStack noSystem noStack lastSystem lastStack controlFlow basicBlockBatch operation wordAt finalStates countsOf forPasses builtCells cells_of refusalAll first_of sum_of fragmentsWrong bufferWrong fewerRows anyAbove heightWrong notFull loopWithoutBody anyWithoutBody bodyEnds rows_of opcode_of low_bits flaggedEnd cell_at reduced readSystem readStack readState readCaptured
-by-finisher false = (_, FinishedTo.of-finisher [] refl)
-by-finisher true = (_, FinishedTo.of-finisher [] refl)
-
-cut : (u : Bool) → Cut profile (queued u) calls 13 fragments begin
-unfolding calls fragments allCalls OneSize
-cut u = record { calls_are = refl; accepted = free u; one_size = tt }
+passes false = refl
+passes true = refl
 
 -- row 1 is refused: its count is 2
-answered : (u : Bool) → answer profile (by-finisher u).0 13 ≡ refused 13 1
-unfolding by-finisher forestA second queued begin store_of cycleOf calls fragments AllAccepted Accepted callRefusal after afterAll finalState cycle cycleWith scanOf anyBigOpcode forestTooLarge anyLongBlock anyLargeBatch readRegisters helpersOfCells systemCells stackCells any_from profileWrong opcodes twoEqual isOneOf lacksBits fragmentWrong made startNode startKind startBlock startTwo startOne madeEnd madeRepeat finishLoop body_of blockKind entryKind operationMade resumed nodeAt node_of isSlot digestAt opcodeAt block_of startedAt entry_at end_at batchAt isBatch startsAt batchFlags flagsUpTo8 contextAtOp group_of falling groupFrom place_in contextInGroup consumed counts doubled round_up groupsOf sumGroups anyAbove8 groupSum pushes opContext tooLarge helpersAnswer all_below u32Values helpersOf tracerAfter leftAfter storedIn fragmentAfter putRow rowCells decoderCells fresh builtSystem builtStack noSystem noStack lastSystem lastStack controlFlow basicBlockBatch operation wordAt finalStates countsOf forPasses builtCells cells_of refusalAll first_of sum_of fragmentsWrong bufferWrong fewerRows anyAbove heightWrong notFull loopWithoutBody anyWithoutBody bodyEnds rows_of opcode_of low_bits flaggedEnd finisherBuffer allPasses onRows flat fixedUp firstRow withSides laterRows builtOf multiplied withCounts inverted inverseOf euclid lastBuilt halted lastRow haltRow haltDecoder haltStack padded paddingRows paddingRow all_rows answer unlessBadInput answerOfWord answerOfCells firstWrong isMet asks asksOf passesIn endRowOf rowAsked readWord wordAnswer after_block afterHalt ifHalt parse step give close opsWith passesWith opening enter atRepeat numbered tokensOf tokenOf allBits controlToken opToken isOpOpcode controlOpcodes controls tokenBeside readerRefusal cell_at reduced readSystem readStack readState readCaptured
+answered : (u : Bool) → answer profile (writtenByFinisher profile (queued u) 13 fragments begin [] (replicate 16 0) 13) 13 ≡ refused 13 1
+unfolding forestA second queued begin store_of cycleOf calls fragments AllAccepted Accepted callRefusal after afterAll finalState cycle cycleWith scanOf anyBigOpcode forestTooLarge anyLongBlock anyLargeBatch readRegisters helpersOfCells systemCells stackCells any_from profileWrong opcodes twoEqual isOneOf lacksBits fragmentWrong made startNode startKind startBlock startTwo startOne madeEnd madeRepeat finishLoop body_of blockKind entryKind operationMade resumed nodeAt node_of isSlot digestAt opcodeAt block_of startedAt entry_at end_at batchAt isBatch startsAt batchFlags flagsUpTo8 contextAtOp group_of falling groupFrom place_in contextInGroup consumed counts doubled round_up groupsOf sumGroups anyAbove8 groupSum pushes opContext tooLarge helpersAnswer all_below u32Values helpersOf tracerAfter leftAfter storedIn fragmentAfter putRow rowCells decoderCells fresh builtSystem builtStack noSystem noStack lastSystem lastStack controlFlow basicBlockBatch operation wordAt finalStates countsOf forPasses builtCells cells_of refusalAll first_of sum_of fragmentsWrong bufferWrong fewerRows anyAbove heightWrong notFull loopWithoutBody anyWithoutBody bodyEnds rows_of opcode_of low_bits flaggedEnd finisherBuffer allPasses onRows flat fixedUp firstRow withSides laterRows builtOf multiplied withCounts inverted inverseOf euclid lastBuilt halted lastRow haltRow haltDecoder haltStack padded paddingRows paddingRow all_rows answer unlessBadInput answerOfWord answerOfCells firstWrong isMet asks asksOf passesIn endRowOf rowAsked readWord wordAnswer after_block afterHalt ifHalt parse step give close opsWith passesWith opening enter atRepeat numbered tokensOf tokenOf allBits controlToken opToken isOpOpcode controlOpcodes controls tokenBeside readerRefusal cell_at reduced readSystem readStack readState readCaptured
 answered false = refl
 answered true = refl
 
-no-trace : (u : Bool) (b : Block) → ¬ Trace profile (by-finisher u).0 b
+no-trace : (u : Bool) (b : Block) → ¬ Trace profile (writtenByFinisher profile (queued u) 13 fragments begin [] (replicate 16 0) 13) b
 no-trace u b t =
-    let long = written-length profile (queued u) calls 13 fragments begin (cut u) (replicate 16 0) 13 (by-finisher u).1 in
-    let e = (accepts-traces profile (by-finisher u).0 13 b (omega (arith, long))).1 t in
+    let cells : List ℕ = writtenByFinisher profile (queued u) 13 fragments begin [] (replicate 16 0) 13 in
+    let few = short 13 (finisherBuffer profile 13 (runCounts profile (queued u) 13 fragments begin [] (replicate 16 0) 13) (runBuilt profile (queued u) 13 fragments begin [] (replicate 16 0) 13) (replicate 16 0) 13 (runBuffer profile (queued u) 13 fragments begin [] (replicate 16 0) 13)) in
+    let e = (accepts-traces profile cells 13 b few).1 t in
     let f = answered u in
     let z : ◌≡◌ {A = ℕ} 0 1 = cc in
     omega arith

@@ -43,8 +43,8 @@ use Rattle.theory_runs.specs.Calls.{Call, store, finish, Fragment, after, callRe
 use Rattle.theory_runs.specs.Happened.{nothingStored, start_of, operationAt, finishOf, didBy, didStored, usedBy, positionsAfter, stored, leftBy, inForceAfter, inForceAfterAll, cyclesIn, cyclesOf}
 use Rattle.theory_runs.specs.ProperRuns.{Holds, HasOperations, HasOpcode, Child, withLoop, loopStarts, endingOf, InBlock, Run, RunPasses, opsFrom, treeFrom}
 use Rattle.theory_runs.specs.Overflow.{b0Cell, helperCell}
-use Rattle.theory_runs.specs.Finished.{Runs, nesting, finisherBuffer, FinishedTo, WrittenOf}
-use Rattle.theory_runs.proofs.TraceOfRun.{written-trace}
+use Rattle.theory_runs.specs.Finished.{Runs, nesting, finisherBuffer, writtenByFinisher, FinisherPasses}
+use Rattle.theory_runs.proofs.TraceOfRun.{finisher-trace}
 
 -- 0 Join of 1 and 2; 1 Split of 3 and 7; 2 Loop of 5; 3 Call of 4; 4 a block of two batches; 5 Call of 6; 6 Dyn; 7 a digest alone
 unfoldable forestA : Forest
@@ -227,13 +227,13 @@ tree : nesting runs ≡ Block.join 0
 unfolding runs run treeFrom opsFrom
 tree = refl
 
--- what is written with height 34: the finisher does not refuse
-unfoldable by-finisher : (cells : List ℕ) × WrittenOf profile queued 5 fragments begin (replicate 16 0) 34 cells
+-- the finisher, with height 34, does not refuse
+passes : FinisherPasses profile queued 5 fragments begin [] (replicate 16 0) 34
 unfolding forestA forestB queued begin store_of cycleOf part1 part2 part3 part4 part5 part6 part7 fragments AllAccepted Accepted callRefusal after afterAll finalState cycle cycleWith scanOf anyBigOpcode forestTooLarge anyLongBlock anyLargeBatch readRegisters helpersOfCells systemCells stackCells any_from profileWrong opcodes twoEqual isOneOf lacksBits fragmentWrong made startNode startKind startBlock startTwo startOne startDyn startDyncall madeEnd madeRepeat finishLoop body_of callKind dynKind blockKind entryKind operationMade resumed madeRespan respanStep nodeAt node_of isSlot digestAt opcodeAt block_of startedAt entry_at end_at batchAt isBatch startsAt batchFlags flagsUpTo8 contextAtOp contextAtBatchStart lentBatches group_of falling groupFrom place_in contextInGroup consumed counts doubled round_up groupsOf sumGroups anyAbove8 groupSum pushes opContext tooLarge helpersAnswer all_below u32Values helpersOf tracerAfter leftAfter storedIn fragmentAfter putRow rowCells decoderCells fresh builtSystem builtStack noSystem noStack lastSystem lastStack controlFlow basicBlockBatch operation wordAt finalStates countsOf forPasses builtCells cells_of refusalAll first_of sum_of fragmentsWrong bufferWrong fewerRows anyAbove heightWrong notFull loopWithoutBody anyWithoutBody bodyEnds rows_of opcode_of low_bits flaggedEnd cell_at reduced readSystem readStack readState readCaptured
-by-finisher = (_, FinishedTo.of-finisher [] refl)
+passes = refl
 
-trace : Trace profile by-finisher.0 (nesting runs)
-trace = written-trace profile queued 5 fragments begin runs (replicate 16 0) 34 by-finisher.1
+trace : Trace profile (writtenByFinisher profile queued 5 fragments begin [] (replicate 16 0) 34) (nesting runs)
+trace = finisher-trace profile queued 5 fragments begin runs [] (replicate 16 0) 34 passes
 
 -- opcode, address and count of each row
 unfoldable fields : List (List ℕ) → List (ℕ × ℕ × ℕ)
@@ -246,7 +246,7 @@ stacks [] = []
 stacks (row ∷ rows) = (b0Cell row, helperCell row) ∷ stacks rows
 
 abbrev written : List (List ℕ)
-written = all_rows by-finisher.0
+written = all_rows (writtenByFinisher profile queued 5 fragments begin [] (replicate 16 0) 34)
 
 -- depth and helper are 16 and 0 in row 0, then 18 and the inverse of 2, in the HALT rows as in the others (N4)
 listing : ◌≡◌ {A = List (ℕ × ℕ × ℕ) × List (ℕ × ℕ)} (fields written, stacks written) (
@@ -256,5 +256,5 @@ listing : ◌≡◌ {A = List (ℕ × ℕ × ℕ) × List (ℕ × ℕ)} (fields 
       ∷ (112, 11, 0) ∷ (112, 1, 0) ∷ (124, 0, 0) ∷ (124, 0, 0) ∷ [],
   (16, 0) ∷ replicate 33 (18, 9223372034707292161),
 )
-unfolding by-finisher forestA forestB queued begin store_of cycleOf part1 part2 part3 part4 part5 part6 part7 fragments AllAccepted Accepted callRefusal after afterAll finalState cycle cycleWith scanOf anyBigOpcode forestTooLarge anyLongBlock anyLargeBatch readRegisters helpersOfCells systemCells stackCells any_from profileWrong opcodes twoEqual isOneOf lacksBits fragmentWrong made startNode startKind startBlock startTwo startOne startDyn startDyncall madeEnd madeRepeat finishLoop body_of callKind dynKind blockKind entryKind operationMade resumed madeRespan respanStep nodeAt node_of isSlot digestAt opcodeAt block_of startedAt entry_at end_at batchAt isBatch startsAt batchFlags flagsUpTo8 contextAtOp contextAtBatchStart lentBatches group_of falling groupFrom place_in contextInGroup consumed counts doubled round_up groupsOf sumGroups anyAbove8 groupSum pushes opContext tooLarge helpersAnswer all_below u32Values helpersOf tracerAfter leftAfter storedIn fragmentAfter putRow rowCells decoderCells fresh builtSystem builtStack noSystem noStack lastSystem lastStack controlFlow basicBlockBatch operation wordAt finalStates countsOf forPasses builtCells cells_of refusalAll first_of sum_of fragmentsWrong bufferWrong fewerRows anyAbove heightWrong notFull loopWithoutBody anyWithoutBody bodyEnds rows_of opcode_of low_bits flaggedEnd finisherBuffer allPasses onRows flat fixedUp firstRow withSides laterRows builtOf multiplied withCounts inverted inverseOf euclid lastBuilt halted lastRow haltRow haltDecoder haltStack padded paddingRows paddingRow all_rows fields stacks cell_at reduced readSystem readStack readState readCaptured
+unfolding forestA forestB queued begin store_of cycleOf part1 part2 part3 part4 part5 part6 part7 fragments AllAccepted Accepted callRefusal after afterAll finalState cycle cycleWith scanOf anyBigOpcode forestTooLarge anyLongBlock anyLargeBatch readRegisters helpersOfCells systemCells stackCells any_from profileWrong opcodes twoEqual isOneOf lacksBits fragmentWrong made startNode startKind startBlock startTwo startOne startDyn startDyncall madeEnd madeRepeat finishLoop body_of callKind dynKind blockKind entryKind operationMade resumed madeRespan respanStep nodeAt node_of isSlot digestAt opcodeAt block_of startedAt entry_at end_at batchAt isBatch startsAt batchFlags flagsUpTo8 contextAtOp contextAtBatchStart lentBatches group_of falling groupFrom place_in contextInGroup consumed counts doubled round_up groupsOf sumGroups anyAbove8 groupSum pushes opContext tooLarge helpersAnswer all_below u32Values helpersOf tracerAfter leftAfter storedIn fragmentAfter putRow rowCells decoderCells fresh builtSystem builtStack noSystem noStack lastSystem lastStack controlFlow basicBlockBatch operation wordAt finalStates countsOf forPasses builtCells cells_of refusalAll first_of sum_of fragmentsWrong bufferWrong fewerRows anyAbove heightWrong notFull loopWithoutBody anyWithoutBody bodyEnds rows_of opcode_of low_bits flaggedEnd finisherBuffer allPasses onRows flat fixedUp firstRow withSides laterRows builtOf multiplied withCounts inverted inverseOf euclid lastBuilt halted lastRow haltRow haltDecoder haltStack padded paddingRows paddingRow all_rows fields stacks cell_at reduced readSystem readStack readState readCaptured
 listing = refl

@@ -41,15 +41,15 @@ use Rattle.theory_readings.specs.Readings.{Ops, Block, Passes, depth_of, all_row
 use Rattle.theory_readings.proofs.Examples.{profile}
 use Rattle.theory_runs.specs.Calls.{Call, store, finish, Fragment, after, callRefusal, afterAll, Accepted, AllAccepted, finalStates, cells_of, countsOf, builtCells, OneSize}
 use Rattle.theory_runs.specs.LiveCalls.{LiveCall, call, lend, LiveFragment, plainCalls, plainAll, liveRefusal, live_after, liveAfterAll, LiveAccepted, AllLiveAccepted, liveEnds, liveFinals, liveCells, NoneLent, LentAsZeros, liveAfterEach, FreshFragment, freshEnd, freshEnds}
-use Rattle.theory_runs.specs.LiveFinished.{LiveWrittenOf}
+use Rattle.theory_runs.specs.LiveFinished.{liveByFive, liveByFinisher, LiveFivePass, LiveFinisherPasses}
 use Rattle.theory_runs.specs.TallyClaims.{talliedAt, talliesAt, crossing, crossings, overFragments, rowsOfAll, NoneEmpty, CountsSet}
 use Rattle.theory_runs.specs.Written.{decodersOf}
 use Rattle.theory_runs.specs.Happened.{nothingStored, start_of, operationAt, finishOf, didBy, didStored, usedBy, positionsAfter, stored, leftBy, inForceAfter, inForceAfterAll, cyclesIn, cyclesOf}
 use Rattle.theory_runs.specs.ProperRuns.{Holds, HasOperations, HasOpcode, withLoop, loopStarts, InBlock, Run, RunPasses, opsFrom, treeFrom}
-use Rattle.theory_runs.specs.Finished.{Runs, nesting, buffer1, buffer2, buffer3, buffer4, finisherBuffer, FinishedTo, WrittenOf}
-use Rattle.theory_runs.proofs.TraceOfRun.{written-trace}
-use Rattle.theory_runs.proofs.LiveCuts.{plain-written}
-use Rattle.theory_runs.proofs.TallySums.{tallies-add-up, tallies-add-up-finished}
+use Rattle.theory_runs.specs.Finished.{Runs, nesting, buffer1, buffer2, buffer3, buffer4, finisherBuffer, writtenByFive, writtenByFinisher, FivePass, FinisherPasses}
+use Rattle.theory_runs.proofs.TraceOfRun.{finisher-trace, five-trace}
+use Rattle.theory_runs.proofs.LiveTraces.{live_written}
+use Rattle.theory_runs.proofs.TallySums.{tallies-add-up, tallies-add-up-finished, tallies-add-up-five}
 
 -- slot 0 a loop, slot 1 its body, a block of one batch with the operation 5
 unfoldable forestA : Forest
@@ -137,30 +137,30 @@ tree : nesting runs ≡ Block.loop 0 (Passes.repeated (Block.span 1 (Ops.op 2 5 
 unfolding runs run treeFrom opsFrom
 tree = refl
 
--- what is written with height 10: the finisher does not refuse
-unfoldable by-finisher : (cells : List ℕ) × WrittenOf profile queued 4 fragments begin (replicate 16 0) 10 cells
+-- the finisher and the five calls, with height 10, do not refuse
+passes : FinisherPasses profile queued 4 fragments begin [] (replicate 16 0) 10
 unfolding forestA queued begin store_of cycleOf calls1 calls2 calls3 fragments AllAccepted Accepted callRefusal after afterAll finalState cycle cycleWith scanOf anyBigOpcode forestTooLarge anyLongBlock anyLargeBatch readRegisters helpersOfCells systemCells stackCells any_from profileWrong opcodes twoEqual isOneOf lacksBits fragmentWrong made startNode startKind startBlock startOne madeEnd madeRepeat finishLoop body_of blockKind entryKind operationMade resumed nodeAt node_of isSlot digestAt opcodeAt block_of startedAt entry_at end_at batchAt isBatch startsAt batchFlags flagsUpTo8 contextAtOp group_of falling groupFrom place_in contextInGroup consumed counts doubled round_up groupsOf sumGroups anyAbove8 groupSum pushes opContext tooLarge helpersAnswer all_below u32Values helpersOf tracerAfter leftAfter storedIn fragmentAfter putRow rowCells decoderCells fresh builtSystem builtStack noSystem noStack lastSystem lastStack controlFlow basicBlockBatch operation wordAt finalStates countsOf forPasses builtCells cells_of refusalAll first_of sum_of fragmentsWrong bufferWrong fewerRows anyAbove heightWrong notFull loopWithoutBody anyWithoutBody bodyEnds rows_of opcode_of low_bits flaggedEnd cell_at reduced readSystem readStack readState readCaptured
-by-finisher = (_, FinishedTo.of-finisher [] refl)
+passes = refl
 
-trace : Trace profile by-finisher.0 (nesting runs)
-trace = written-trace profile queued 4 fragments begin runs (replicate 16 0) 10 by-finisher.1
+trace : Trace profile (writtenByFinisher profile queued 4 fragments begin [] (replicate 16 0) 10) (nesting runs)
+trace = finisher-trace profile queued 4 fragments begin runs [] (replicate 16 0) 10 passes
 
 -- nor do the five calls
-by-five : (cells : List ℕ) × WrittenOf profile queued 4 fragments begin (replicate 16 0) 10 cells
+five : FivePass profile queued 4 fragments begin [] (replicate 16 0) 10
 unfolding forestA queued begin store_of cycleOf calls1 calls2 calls3 fragments AllAccepted Accepted callRefusal after afterAll finalState cycle cycleWith scanOf anyBigOpcode forestTooLarge anyLongBlock anyLargeBatch readRegisters helpersOfCells systemCells stackCells any_from profileWrong opcodes twoEqual isOneOf lacksBits fragmentWrong made startNode startKind startBlock startOne madeEnd madeRepeat finishLoop body_of blockKind entryKind operationMade resumed nodeAt node_of isSlot digestAt opcodeAt block_of startedAt entry_at end_at batchAt isBatch startsAt batchFlags flagsUpTo8 contextAtOp group_of falling groupFrom place_in contextInGroup consumed counts doubled round_up groupsOf sumGroups anyAbove8 groupSum pushes opContext tooLarge helpersAnswer all_below u32Values helpersOf tracerAfter leftAfter storedIn fragmentAfter putRow rowCells decoderCells fresh builtSystem builtStack noSystem noStack lastSystem lastStack controlFlow basicBlockBatch operation wordAt finalStates countsOf forPasses builtCells cells_of refusalAll first_of sum_of fragmentsWrong bufferWrong fewerRows anyAbove heightWrong notFull loopWithoutBody anyWithoutBody bodyEnds rows_of opcode_of low_bits flaggedEnd buffer1 buffer2 buffer3 buffer4 refusal1 refusal2 refusal3 refusal4 refusal5 onRows flat fixedUp firstRow withSides laterRows builtOf multiplied withCounts inverted inverseOf euclid lastBuilt halted lastRow haltRow haltDecoder haltStack padded paddingRows paddingRow cell_at reduced readSystem readStack readState readCaptured
-by-five = (_, FinishedTo.of-five [] (record { first = refl; second = refl; third = refl; fourth = refl; fifth = refl }))
+five = record { first = refl; second = refl; third = refl; fourth = refl; fifth = refl }
 
-trace-five : Trace profile by-five.0 (nesting runs)
-trace-five = written-trace profile queued 4 fragments begin runs (replicate 16 0) 10 by-five.1
+trace-five : Trace profile (writtenByFive profile queued 4 fragments begin [] (replicate 16 0) 10) (nesting runs)
+trace-five = five-trace profile queued 4 fragments begin runs [] (replicate 16 0) 10 five
 
 -- opcode, address and count of each row
 unfoldable fields : List (List ℕ) → List (ℕ × ℕ × ℕ)
 fields [] = []
 fields (row ∷ rows) = (opcode_of row, addr_of row, count_of row) ∷ fields rows
 
-listing : fields (all_rows by-finisher.0) ≡
+listing : fields (all_rows (writtenByFinisher profile queued 4 fragments begin [] (replicate 16 0) 10)) ≡
     (85, 0, 2) ∷ (86, 1, 1) ∷ (5, 3, 0) ∷ (112, 3, 0) ∷ (116, 1, 0) ∷ (86, 1, 1) ∷ (5, 5, 0) ∷ (112, 5, 0) ∷ (112, 1, 0) ∷ (124, 0, 0) ∷ []
-unfolding by-finisher forestA queued begin store_of cycleOf calls1 calls2 calls3 fragments AllAccepted Accepted callRefusal after afterAll finalState cycle cycleWith scanOf anyBigOpcode forestTooLarge anyLongBlock anyLargeBatch readRegisters helpersOfCells systemCells stackCells any_from profileWrong opcodes twoEqual isOneOf lacksBits fragmentWrong made startNode startKind startBlock startOne madeEnd madeRepeat finishLoop body_of blockKind entryKind operationMade resumed nodeAt node_of isSlot digestAt opcodeAt block_of startedAt entry_at end_at batchAt isBatch startsAt batchFlags flagsUpTo8 contextAtOp group_of falling groupFrom place_in contextInGroup consumed counts doubled round_up groupsOf sumGroups anyAbove8 groupSum pushes opContext tooLarge helpersAnswer all_below u32Values helpersOf tracerAfter leftAfter storedIn fragmentAfter putRow rowCells decoderCells fresh builtSystem builtStack noSystem noStack lastSystem lastStack controlFlow basicBlockBatch operation wordAt finalStates countsOf forPasses builtCells cells_of refusalAll first_of sum_of fragmentsWrong bufferWrong fewerRows anyAbove heightWrong notFull loopWithoutBody anyWithoutBody bodyEnds rows_of opcode_of low_bits flaggedEnd finisherBuffer allPasses onRows flat fixedUp firstRow withSides laterRows builtOf multiplied withCounts inverted inverseOf euclid lastBuilt halted lastRow haltRow haltDecoder haltStack padded paddingRows paddingRow all_rows fields cell_at reduced readSystem readStack readState readCaptured
+unfolding forestA queued begin store_of cycleOf calls1 calls2 calls3 fragments AllAccepted Accepted callRefusal after afterAll finalState cycle cycleWith scanOf anyBigOpcode forestTooLarge anyLongBlock anyLargeBatch readRegisters helpersOfCells systemCells stackCells any_from profileWrong opcodes twoEqual isOneOf lacksBits fragmentWrong made startNode startKind startBlock startOne madeEnd madeRepeat finishLoop body_of blockKind entryKind operationMade resumed nodeAt node_of isSlot digestAt opcodeAt block_of startedAt entry_at end_at batchAt isBatch startsAt batchFlags flagsUpTo8 contextAtOp group_of falling groupFrom place_in contextInGroup consumed counts doubled round_up groupsOf sumGroups anyAbove8 groupSum pushes opContext tooLarge helpersAnswer all_below u32Values helpersOf tracerAfter leftAfter storedIn fragmentAfter putRow rowCells decoderCells fresh builtSystem builtStack noSystem noStack lastSystem lastStack controlFlow basicBlockBatch operation wordAt finalStates countsOf forPasses builtCells cells_of refusalAll first_of sum_of fragmentsWrong bufferWrong fewerRows anyAbove heightWrong notFull loopWithoutBody anyWithoutBody bodyEnds rows_of opcode_of low_bits flaggedEnd finisherBuffer allPasses onRows flat fixedUp firstRow withSides laterRows builtOf multiplied withCounts inverted inverseOf euclid lastBuilt halted lastRow haltRow haltDecoder haltStack padded paddingRows paddingRow all_rows fields cell_at reduced readSystem readStack readState readCaptured
 listing = refl
 
 -- WITH TALLIES
@@ -224,25 +224,25 @@ free8 = (
   ((refl, (refl, refl)), tt),
 )
 
-unfoldable finished8 : (cells : List ℕ) × LiveWrittenOf profile queued 8 live8 begin (replicate 16 0) 10 cells
+passes8 : LiveFinisherPasses profile queued 8 live8 begin [] (replicate 16 0) 10
 unfolding forestA queued begin store_of cycleOf calls1 calls2 calls3 finalState cycleWith scanOf anyBigOpcode forestTooLarge anyLongBlock anyLargeBatch readRegisters helpersOfCells systemCells stackCells any_from profileWrong opcodes twoEqual isOneOf lacksBits fragmentWrong made startNode startKind startBlock startOne madeEnd madeRepeat finishLoop body_of blockKind entryKind operationMade resumed nodeAt node_of isSlot digestAt opcodeAt block_of startedAt entry_at end_at batchAt isBatch startsAt batchFlags flagsUpTo8 contextAtOp group_of falling groupFrom place_in contextInGroup consumed counts doubled round_up groupsOf sumGroups anyAbove8 groupSum pushes opContext tooLarge helpersAnswer all_below u32Values helpersOf tracerAfter leftAfter storedIn fragmentAfter putRow rowCells decoderCells fresh builtSystem builtStack noSystem noStack lastSystem lastStack controlFlow basicBlockBatch operation wordAt countsOf forPasses builtCells refusalAll first_of sum_of fragmentsWrong bufferWrong fewerRows anyAbove heightWrong notFull loopWithoutBody anyWithoutBody bodyEnds rows_of opcode_of low_bits flaggedEnd cell_at reduced readSystem readStack readState readCaptured AllLiveAccepted LiveAccepted liveRefusal live_after liveAfterAll talliedCycle unlessFull tallyAfter countsNext placeFor firstFrom is_of isFree cannotCount countedAt bufferRow fragments8 lent liveEnds liveFinals liveCells
-finished8 = (_, FinishedTo.of-finisher [] refl)
+passes8 = refl
 
-five8 : (cells : List ℕ) × LiveWrittenOf profile queued 8 live8 begin (replicate 16 0) 10 cells
+five8 : LiveFivePass profile queued 8 live8 begin [] (replicate 16 0) 10
 unfolding forestA queued begin store_of cycleOf calls1 calls2 calls3 finalState cycleWith scanOf anyBigOpcode forestTooLarge anyLongBlock anyLargeBatch readRegisters helpersOfCells systemCells stackCells any_from profileWrong opcodes twoEqual isOneOf lacksBits fragmentWrong made startNode startKind startBlock startOne madeEnd madeRepeat finishLoop body_of blockKind entryKind operationMade resumed nodeAt node_of isSlot digestAt opcodeAt block_of startedAt entry_at end_at batchAt isBatch startsAt batchFlags flagsUpTo8 contextAtOp group_of falling groupFrom place_in contextInGroup consumed counts doubled round_up groupsOf sumGroups anyAbove8 groupSum pushes opContext tooLarge helpersAnswer all_below u32Values helpersOf tracerAfter leftAfter storedIn fragmentAfter putRow rowCells decoderCells fresh builtSystem builtStack noSystem noStack lastSystem lastStack controlFlow basicBlockBatch operation wordAt countsOf forPasses builtCells refusalAll first_of sum_of fragmentsWrong bufferWrong fewerRows anyAbove heightWrong notFull loopWithoutBody anyWithoutBody bodyEnds rows_of opcode_of low_bits flaggedEnd buffer1 buffer2 buffer3 buffer4 refusal1 refusal2 refusal3 refusal4 refusal5 onRows flat fixedUp firstRow withSides laterRows builtOf multiplied withCounts inverted inverseOf euclid lastBuilt halted lastRow haltRow haltDecoder haltStack padded paddingRows paddingRow cell_at reduced readSystem readStack readState readCaptured AllLiveAccepted LiveAccepted liveRefusal live_after liveAfterAll talliedCycle unlessFull tallyAfter countsNext placeFor firstFrom is_of isFree cannotCount countedAt bufferRow fragments8 lent liveEnds liveFinals liveCells
-five8 = (_, FinishedTo.of-five [] (record { first = refl; second = refl; third = refl; fourth = refl; fifth = refl }))
+five8 = record { first = refl; second = refl; third = refl; fourth = refl; fifth = refl }
 
 -- the sums are the counts of what is written, and the LOOP has 2
-sum8 : CountsSet profile (overFragments profile (liveEnds profile queued live8 begin)) 9 finished8.0
+sum8 : CountsSet profile (overFragments profile (liveEnds profile queued live8 begin)) 9 (liveByFinisher profile queued 8 live8 begin [] (replicate 16 0) 10)
 unfolding forestA queued begin store_of cycleOf calls1 calls2 calls3 finalState cycleWith scanOf anyBigOpcode forestTooLarge anyLongBlock anyLargeBatch readRegisters helpersOfCells systemCells stackCells any_from profileWrong opcodes twoEqual isOneOf lacksBits fragmentWrong made startNode startKind startBlock startOne madeEnd madeRepeat finishLoop body_of blockKind entryKind operationMade resumed nodeAt node_of isSlot digestAt opcodeAt block_of startedAt entry_at end_at batchAt isBatch startsAt batchFlags flagsUpTo8 contextAtOp group_of falling groupFrom place_in contextInGroup consumed counts doubled round_up groupsOf sumGroups anyAbove8 groupSum pushes opContext tooLarge helpersAnswer all_below u32Values helpersOf tracerAfter leftAfter storedIn fragmentAfter putRow rowCells decoderCells fresh builtSystem builtStack noSystem noStack lastSystem lastStack controlFlow basicBlockBatch operation wordAt countsOf forPasses builtCells refusalAll first_of sum_of fragmentsWrong bufferWrong fewerRows anyAbove heightWrong notFull loopWithoutBody anyWithoutBody bodyEnds rows_of opcode_of low_bits flaggedEnd cell_at reduced readSystem readStack readState readCaptured AllLiveAccepted LiveAccepted liveRefusal live_after liveAfterAll talliedCycle unlessFull tallyAfter countsNext placeFor firstFrom is_of isFree cannotCount countedAt bufferRow fragments8 lent plainAll plainCalls liveEnds liveFinals OneSize
-sum8 = tallies-add-up-finished profile queued 8 live8 begin (lent-zeros fragments8) free8 (refl, refl, tt) (replicate 16 0) 10 finished8.0 finished8.1
+sum8 = tallies-add-up-finished profile queued 8 live8 begin (lent-zeros fragments8) free8 [] (replicate 16 0) 10 (refl, refl, tt) passes8
 
-sum8-five : CountsSet profile (overFragments profile (liveEnds profile queued live8 begin)) 9 five8.0
+sum8-five : CountsSet profile (overFragments profile (liveEnds profile queued live8 begin)) 9 (liveByFive profile queued 8 live8 begin [] (replicate 16 0) 10)
 unfolding forestA queued begin store_of cycleOf calls1 calls2 calls3 finalState cycleWith scanOf anyBigOpcode forestTooLarge anyLongBlock anyLargeBatch readRegisters helpersOfCells systemCells stackCells any_from profileWrong opcodes twoEqual isOneOf lacksBits fragmentWrong made startNode startKind startBlock startOne madeEnd madeRepeat finishLoop body_of blockKind entryKind operationMade resumed nodeAt node_of isSlot digestAt opcodeAt block_of startedAt entry_at end_at batchAt isBatch startsAt batchFlags flagsUpTo8 contextAtOp group_of falling groupFrom place_in contextInGroup consumed counts doubled round_up groupsOf sumGroups anyAbove8 groupSum pushes opContext tooLarge helpersAnswer all_below u32Values helpersOf tracerAfter leftAfter storedIn fragmentAfter putRow rowCells decoderCells fresh builtSystem builtStack noSystem noStack lastSystem lastStack controlFlow basicBlockBatch operation wordAt countsOf forPasses builtCells refusalAll first_of sum_of fragmentsWrong bufferWrong fewerRows anyAbove heightWrong notFull loopWithoutBody anyWithoutBody bodyEnds rows_of opcode_of low_bits flaggedEnd cell_at reduced readSystem readStack readState readCaptured AllLiveAccepted LiveAccepted liveRefusal live_after liveAfterAll talliedCycle unlessFull tallyAfter countsNext placeFor firstFrom is_of isFree cannotCount countedAt bufferRow fragments8 lent plainAll plainCalls liveEnds liveFinals OneSize
-sum8-five = tallies-add-up-finished profile queued 8 live8 begin (lent-zeros fragments8) free8 (refl, refl, tt) (replicate 16 0) 10 five8.0 five8.1
+sum8-five = tallies-add-up-five profile queued 8 live8 begin (lent-zeros fragments8) free8 [] (replicate 16 0) 10 (refl, refl, tt) five8
 
-set8 : take 1 (fields (all_rows finished8.0)) ≡ (85, 0, 2) ∷ []
-unfolding finished8 forestA queued begin store_of cycleOf calls1 calls2 calls3 finalState cycleWith scanOf anyBigOpcode forestTooLarge anyLongBlock anyLargeBatch readRegisters helpersOfCells systemCells stackCells any_from profileWrong opcodes twoEqual isOneOf lacksBits fragmentWrong made startNode startKind startBlock startOne madeEnd madeRepeat finishLoop body_of blockKind entryKind operationMade resumed nodeAt node_of isSlot digestAt opcodeAt block_of startedAt entry_at end_at batchAt isBatch startsAt batchFlags flagsUpTo8 contextAtOp group_of falling groupFrom place_in contextInGroup consumed counts doubled round_up groupsOf sumGroups anyAbove8 groupSum pushes opContext tooLarge helpersAnswer all_below u32Values helpersOf tracerAfter leftAfter storedIn fragmentAfter putRow rowCells decoderCells fresh builtSystem builtStack noSystem noStack lastSystem lastStack controlFlow basicBlockBatch operation wordAt countsOf forPasses builtCells refusalAll first_of sum_of fragmentsWrong bufferWrong fewerRows anyAbove heightWrong notFull loopWithoutBody anyWithoutBody bodyEnds rows_of opcode_of low_bits flaggedEnd finisherBuffer allPasses onRows flat fixedUp firstRow withSides laterRows builtOf multiplied withCounts inverted inverseOf euclid lastBuilt halted lastRow haltRow haltDecoder haltStack padded paddingRows paddingRow all_rows fields cell_at reduced readSystem readStack readState readCaptured AllLiveAccepted LiveAccepted liveRefusal live_after liveAfterAll talliedCycle unlessFull tallyAfter countsNext placeFor firstFrom is_of isFree cannotCount countedAt bufferRow fragments8 lent liveEnds liveFinals liveCells
+set8 : take 1 (fields (all_rows (liveByFinisher profile queued 8 live8 begin [] (replicate 16 0) 10))) ≡ (85, 0, 2) ∷ []
+unfolding forestA queued begin store_of cycleOf calls1 calls2 calls3 finalState cycleWith scanOf anyBigOpcode forestTooLarge anyLongBlock anyLargeBatch readRegisters helpersOfCells systemCells stackCells any_from profileWrong opcodes twoEqual isOneOf lacksBits fragmentWrong made startNode startKind startBlock startOne madeEnd madeRepeat finishLoop body_of blockKind entryKind operationMade resumed nodeAt node_of isSlot digestAt opcodeAt block_of startedAt entry_at end_at batchAt isBatch startsAt batchFlags flagsUpTo8 contextAtOp group_of falling groupFrom place_in contextInGroup consumed counts doubled round_up groupsOf sumGroups anyAbove8 groupSum pushes opContext tooLarge helpersAnswer all_below u32Values helpersOf tracerAfter leftAfter storedIn fragmentAfter putRow rowCells decoderCells fresh builtSystem builtStack noSystem noStack lastSystem lastStack controlFlow basicBlockBatch operation wordAt countsOf forPasses builtCells refusalAll first_of sum_of fragmentsWrong bufferWrong fewerRows anyAbove heightWrong notFull loopWithoutBody anyWithoutBody bodyEnds rows_of opcode_of low_bits flaggedEnd finisherBuffer allPasses onRows flat fixedUp firstRow withSides laterRows builtOf multiplied withCounts inverted inverseOf euclid lastBuilt halted lastRow haltRow haltDecoder haltStack padded paddingRows paddingRow all_rows fields cell_at reduced readSystem readStack readState readCaptured AllLiveAccepted LiveAccepted liveRefusal live_after liveAfterAll talliedCycle unlessFull tallyAfter countsNext placeFor firstFrom is_of isFree cannotCount countedAt bufferRow fragments8 lent liveEnds liveFinals liveCells
 set8 = refl
 
 -- other numbers in the tallies, and one lent in front of the cycle that counts
@@ -280,12 +280,12 @@ forged-free = (
   ((refl, (refl, refl)), tt),
 )
 
-forged-written : (cells : List ℕ) × LiveWrittenOf profile queued 8 forged8 begin (replicate 16 0) 10 cells
+forged-passes : LiveFinisherPasses profile queued 8 forged8 begin [] (replicate 16 0) 10
 unfolding forestA queued begin store_of cycleOf calls1 calls2 calls3 finalState cycleWith scanOf anyBigOpcode forestTooLarge anyLongBlock anyLargeBatch readRegisters helpersOfCells systemCells stackCells any_from profileWrong opcodes twoEqual isOneOf lacksBits fragmentWrong made startNode startKind startBlock startOne madeEnd madeRepeat finishLoop body_of blockKind entryKind operationMade resumed nodeAt node_of isSlot digestAt opcodeAt block_of startedAt entry_at end_at batchAt isBatch startsAt batchFlags flagsUpTo8 contextAtOp group_of falling groupFrom place_in contextInGroup consumed counts doubled round_up groupsOf sumGroups anyAbove8 groupSum pushes opContext tooLarge helpersAnswer all_below u32Values helpersOf tracerAfter leftAfter storedIn fragmentAfter putRow rowCells decoderCells fresh builtSystem builtStack noSystem noStack lastSystem lastStack controlFlow basicBlockBatch operation wordAt countsOf forPasses builtCells refusalAll first_of sum_of fragmentsWrong bufferWrong fewerRows anyAbove heightWrong notFull loopWithoutBody anyWithoutBody bodyEnds rows_of opcode_of low_bits flaggedEnd cell_at reduced readSystem readStack readState readCaptured AllLiveAccepted LiveAccepted liveRefusal live_after liveAfterAll talliedCycle unlessFull tallyAfter countsNext placeFor firstFrom is_of isFree cannotCount countedAt bufferRow forged8 liveEnds liveFinals liveCells
-forged-written = (_, FinishedTo.of-finisher [] refl)
+forged-passes = refl
 
 -- what is written is read as the run
-forged-trace : Trace profile forged-written.0 (nesting runs8)
+forged-trace : Trace profile (liveByFinisher profile queued 8 forged8 begin [] (replicate 16 0) 10) (nesting runs8)
 forged-trace =
-    written-trace profile queued 8 fragments8 begin runs8 (replicate 16 0) 10
-    (rw plain8 at (plain-written profile queued 8 forged8 begin forged-free (replicate 16 0) 10 forged-written.0 forged-written.1))
+    live_written profile queued 8 forged8 begin forged-free [] (replicate 16 0) 10 (λ cells. Trace profile cells (nesting runs8))
+    (rw plain8 (finisher-trace profile queued 8 fragments8 begin runs8 [] (replicate 16 0) 10)) forged-passes

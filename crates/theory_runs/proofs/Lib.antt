@@ -30,6 +30,7 @@ pub mod BodiesEnd
 pub mod ExactRuns
 pub mod ImproperRuns
 pub mod LiveRuns
+pub mod LiveTraces
 pub mod LiveCuts
 pub mod TallySteps
 pub mod TallyTheorems

@@ -17,13 +17,13 @@ use Rattle.rows.specs.passes.Passes.{fixedUp, builtOf, lastBuilt}
 use Rattle.rows.proofs.passes.RowLists.{Wide, row-at}
 use Rattle.rows.proofs.passes.FirstRows.{fixed-wide}
 use Rattle.rows.proofs.passes.Written.{multiplied-wide}
-use Rattle.theory_runs.specs.Calls.{Call, store, finish, Fragment, AllAccepted, finalStates, countsOf, builtCells, OneSize}
+use Rattle.theory_runs.specs.Calls.{Call, store, finish, Fragment, AllAccepted, finalStates, countsOf, OneSize}
 use Rattle.theory_runs.specs.Written.{rowsRun}
-use Rattle.theory_runs.specs.Finished.{WrittenOf}
+use Rattle.theory_runs.specs.Finished.{runCounts, runBuilt, writtenByFive, writtenByFinisher, FivePass, FinisherPasses}
 use Rattle.theory_runs.specs.Overflow.{b0Cell, helperCell, OverflowRule, Is32, DepthInRange, Depths32, AllDepths32}
 use Rattle.theory_runs.proofs.Folded.{rows-wide}
 use Rattle.theory_runs.proofs.Unfragmented.{counts-length, fixed-items, itemsEach, together}
-use Rattle.theory_runs.proofs.TraceOfRun.{PassesChecked, run-lasts, run-rows, run-wide, run_length, written_as}
+use Rattle.theory_runs.proofs.TraceOfRun.{PassesChecked, run-lasts, run-rows, run-wide, run_length, by-finisher, by-five}
 use Rattle.theory_runs.proofs.OverflowRows.{Every, every-at, EachDepth, AllDepths, BuiltRow, InvertedRow, run-deep, run-last, fixed-built, passed-inverted}
 
 -- A ROW
@@ -83,36 +83,42 @@ all-32 (fragment ∷ fragments) h = (each-32 fragment.calls h.0, all-32 fragment
 
 -- AFTER THE PASSES
 
-module _ (p : Profile) (q : Queues) (size : ℕ) (fragments : List Fragment) (here : Cursor) (none-refused : AllAccepted p q fragments here) (one_size : OneSize size fragments (countsOf (finalStates p q fragments here))) (top : List ℕ) (height : ℕ) where
+module _ (p : Profile) (q : Queues) (size : ℕ) (fragments : List Fragment) (here : Cursor) (none-refused : AllAccepted p q fragments here) (one_size : OneSize size fragments (countsOf (finalStates p q fragments here))) (others top : List ℕ) (height : ℕ) where
   -- of each row of a buffer
   abbrev EachRow : (List ℕ → Type 0) → List ℕ → Type 0
   EachRow Q cells = (i : ℕ) → i < height → Q (bufferRow i cells)
 
   module _ (Known : ℕ → Type 0) (first : Known 16) (depths : AllDepths Known fragments) where
-    run-inverted : (c : PassesChecked p q size fragments here none-refused one_size top height) → Every (InvertedRow Known) (run-rows p q size fragments here none-refused one_size top height)
+    run-inverted : (c : PassesChecked p q size fragments here none-refused one_size others top height) → Every (InvertedRow Known) (run-rows p q size fragments here none-refused one_size others top height)
     run-inverted c =
-        let counts : List ℕ = countsOf (finalStates p q fragments here) in
-        let built : List ℕ = builtCells (finalStates p q fragments here) in
+        let counts : List ℕ = runCounts p q size fragments here others top height in
+        let built : List ℕ = runBuilt p q size fragments here others top height in
         let lasts : List (List ℕ) = builtOf (length counts - 1) built in
         let rows : List (List ℕ) = rowsRun p q fragments here in
         let fixed : List (List ℕ) = fixedUp size top lasts rows in
         let fixed-rows : Every (BuiltRow Known) fixed = rw (fixed-items p q size size fragments here top c.some_size none-refused one_size) (fixed-built Known size top (together (itemsEach p q fragments here)) first (run-deep Known p q fragments here none-refused depths)) in
         let last = run-last Known p q size fragments here none-refused depths (omega (arith, counts-length p q fragments here, c.some)) c.full in
-        let wide : Wide fixed = fixed-wide rows lasts size top (run-lasts p q size fragments here none-refused one_size top height c) (rows-wide p q fragments here none-refused) in
+        let wide : Wide fixed = fixed-wide rows lasts size top (run-lasts p q size fragments here none-refused one_size others top height c) (rows-wide p q fragments here none-refused) in
         passed-inverted Known p height (lastBuilt counts built) last.system last.stack fixed last.cells_are last.is-built (multiplied-wide p fixed wide) fixed-rows
 
-    each-inverted : (Q : List ℕ → Type 0) → ((row : List ℕ) → InvertedRow Known row → Q row) → {cells : List ℕ} → WrittenOf p q size fragments here top height cells → EachRow Q cells
+    each-inverted : (Q : List ℕ → Type 0) → ((row : List ℕ) → InvertedRow Known row → Q row) → (c : PassesChecked p q size fragments here none-refused one_size others top height) →
+        EachRow Q (flat (run-rows p q size fragments here none-refused one_size others top height))
     unfolding bufferRow
-    each-inverted Q h written i low =
-        let (c, e) = written_as p q size fragments here none-refused one_size top height written in
-        let rows : List (List ℕ) = run-rows p q size fragments here none-refused one_size top height in
-        let is_row : i < length rows = omega (arith, run_length p q size fragments here none-refused one_size top height c, low) in
-        rw (e, ← (append-nil (flat rows)), row-at rows [] i (run-wide p q size fragments here none-refused one_size top height c) is_row) (h (get_or rows i []) (every-at (InvertedRow Known) rows i (run-inverted c) is_row))
+    each-inverted Q h c i low =
+        let rows : List (List ℕ) = run-rows p q size fragments here none-refused one_size others top height in
+        let is_row : i < length rows = omega (arith, run_length p q size fragments here none-refused one_size others top height c, low) in
+        rw (← (append-nil (flat rows)), row-at rows [] i (run-wide p q size fragments here none-refused one_size others top height c) is_row) (h (get_or rows i []) (every-at (InvertedRow Known) rows i (run-inverted c) is_row))
 
-  -- the overflow rule
-  pub overflow-rule : {cells : List ℕ} → WrittenOf p q size fragments here top height cells → (i : ℕ) → i < height → OverflowRule (bufferRow i cells)
-  overflow-rule = each-inverted Any tt (any-depths fragments) OverflowRule (row-rule Any)
+  -- the overflow rule, after the finisher and after the five calls one after another
+  pub finisher-overflow : FinisherPasses p q size fragments here others top height → (i : ℕ) → i < height → OverflowRule (bufferRow i (writtenByFinisher p q size fragments here others top height))
+  finisher-overflow = by-finisher p q size fragments here none-refused one_size others top height (EachRow OverflowRule) (each-inverted Any tt (any-depths fragments) OverflowRule (row-rule Any))
+
+  pub five-overflow : FivePass p q size fragments here others top height → (i : ℕ) → i < height → OverflowRule (bufferRow i (writtenByFive p q size fragments here others top height))
+  five-overflow = by-five p q size fragments here none-refused one_size others top height (EachRow OverflowRule) (each-inverted Any tt (any-depths fragments) OverflowRule (row-rule Any))
 
   -- and no row is left out by it, where the depths are of 32 bits
-  pub depths-in-range : AllDepths32 fragments → {cells : List ℕ} → WrittenOf p q size fragments here top height cells → (i : ℕ) → i < height → DepthInRange (bufferRow i cells)
-  depths-in-range depths = each-inverted Is32 (omega arith) (all-32 fragments depths) DepthInRange row-in-range
+  pub finisher-depths : AllDepths32 fragments → FinisherPasses p q size fragments here others top height → (i : ℕ) → i < height → DepthInRange (bufferRow i (writtenByFinisher p q size fragments here others top height))
+  finisher-depths depths = by-finisher p q size fragments here none-refused one_size others top height (EachRow DepthInRange) (each-inverted Is32 (omega arith) (all-32 fragments depths) DepthInRange row-in-range)
+
+  pub five-depths : AllDepths32 fragments → FivePass p q size fragments here others top height → (i : ℕ) → i < height → DepthInRange (bufferRow i (writtenByFive p q size fragments here others top height))
+  five-depths depths = by-five p q size fragments here none-refused one_size others top height (EachRow DepthInRange) (each-inverted Is32 (omega arith) (all-32 fragments depths) DepthInRange row-in-range)

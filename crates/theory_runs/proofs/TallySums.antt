@@ -29,15 +29,15 @@ use Rattle.theory_reductions.proofs.CellsBelow.{ends-most}
 use Rattle.theory_runs.specs.Calls.{Fragment, opened, closed, cursorOf, AllAccepted, finalStates, countsOf, builtCells, OneSize}
 use Rattle.theory_runs.specs.LiveCalls.{LiveHeld, LiveCall, call, lend, LiveFragment, plainCalls, plain_of, plainAll, live_after, liveAfterAll, LiveAccepted, liveOpened, liveClosed, liveCursor, AllLiveAccepted, liveEnds, liveFinals, NoneLent, LentAsZeros, LentCall, liveAfterEach, FreshFragment, freshEnds}
 use Rattle.theory_runs.specs.Written.{rowsIn, rowsRun, decodersOf}
-use Rattle.theory_runs.specs.LiveFinished.{LiveWrittenOf}
+use Rattle.theory_runs.specs.LiveFinished.{liveByFive, liveByFinisher, LiveFivePass, LiveFinisherPasses}
 use Rattle.theory_runs.specs.TallyClaims.{successors, writtenSoFar, talliesAt, crossing, crossings, overFragments, rowsOfAll, NoneEmpty, HoldsDecoders, CountsSet}
 use Rattle.theory_runs.proofs.Folded.{fragment-holding, count-rows, rows-wide, sum_rows}
 use Rattle.theory_runs.proofs.LiveRuns.{live-calls, live-as-calls}
-use Rattle.theory_runs.proofs.LiveCuts.{plain-written}
+use Rattle.theory_runs.proofs.LiveTraces.{live_written, live-written-by-five}
 use Rattle.theory_runs.proofs.Tallied.{hits}
 use Rattle.theory_runs.proofs.PassLooks.{decoderOf, same-looks, cell-by, bits-by, count-decoder, count_bits, cell_other, cell_set, helper-decoder, fixed-looks, ends-hits, inverted-length}
 use Rattle.theory_runs.proofs.TallyTheorems.{tally-count}
-use Rattle.theory_runs.proofs.TraceOfRun.{few-rows, PassesChecked, run-rows, run-lasts, run-wide, run_length, written_as}
+use Rattle.theory_runs.proofs.TraceOfRun.{few-rows, PassesChecked, run-rows, run-lasts, run-wide, run_length, by-finisher, by-five}
 
 -- THE ENDS OF SOME ROWS
 
@@ -298,23 +298,23 @@ module _ (p : Profile) (q : Queues) (size : ℕ) (fragments : List LiveFragment)
   accepted : AllAccepted p q plain here
   accepted = (live-as-calls p q fragments here none-refused).none-refused
 
-  module _ (one_size : OneSize size plain (countsOf finals)) (top : List ℕ) (height : ℕ) where
-    run-set : PassesChecked p q size plain here accepted one_size top height → CountsSet p (overFragments p ends) (sum_of (countsOf finals)) (flat (run-rows p q size plain here accepted one_size top height))
+  module _ (one_size : OneSize size plain (countsOf finals)) (others top : List ℕ) (height : ℕ) where
+    run-set : PassesChecked p q size plain here accepted one_size others top height → CountsSet p (overFragments p ends) (sum_of (countsOf finals)) (flat (run-rows p q size plain here accepted one_size others top height))
     unfolding bufferRow multiplied
     run-set c i h is =
         let rows : List (List ℕ) = rowsRun p q plain here in
         let lasts : List (List ℕ) = builtOf (length (countsOf finals) - 1) (builtCells finals) in
-        let lasts-25 = run-lasts p q size plain here accepted one_size top height c in
+        let lasts-25 = run-lasts p q size plain here accepted one_size others top height c in
         let wide : Wide rows = rows-wide p q plain here accepted in
         let rows1 : List (List ℕ) = fixedUp size top lasts rows in
         let rows2 : List (List ℕ) = multiplied p rows1 in
         let rows3 : List (List ℕ) = inverted rows2 in
-        let all : List (List ℕ) = run-rows p q size plain here accepted one_size top height in
+        let all : List (List ℕ) = run-rows p q size plain here accepted one_size others top height in
         let sum : sum_of (countsOf finals) ≡ length rows = sum_rows p q plain here accepted in
         let long1 : length rows1 ≡ length rows = fixed-length rows lasts size top in
         let long3 : length rows3 ≡ length rows = inverted-length rows2 ∙ multiplied-length p rows1 ∙ long1 in
-        let all-wide = run-wide p q size plain here accepted one_size top height c in
-        let all-long : length all ≡ height = run_length p q size plain here accepted one_size top height c in
+        let all-wide = run-wide p q size plain here accepted one_size others top height c in
+        let all-long : length all ≡ height = run_length p q size plain here accepted one_size others top height c in
         let few = c.few in
         let room = c.room in
         let this : bufferRow i (flat all) ≡ get_or rows3 i [] =
@@ -333,11 +333,23 @@ module _ (p : Profile) (q : Queues) (size : ℕ) (fragments : List LiveFragment)
         ap (λ x. cell_at x 23) this ∙ same-cell (get_or rows3 i []) (get_or rows2 i []) 17 (omega arith) (inverted-decoder rows2 i) ∙ was ∙ ap count at ∙ over
 
   -- "The fragments' tallies, with 1 more for each flagged END that ends a fragment and has its successor in the next, must add up to every count it
-  -- sets": of fragments on fresh tracers with tallies of zeros, no call refused, all full but the last (no proper run is asked for)
-  pub tallies-add-up-finished : OneSize size plain (countsOf (liveFinals ends)) → (top : List ℕ) (height : ℕ) (cells : List ℕ) → LiveWrittenOf p q size fragments here top height cells →
-      CountsSet p (overFragments p ends) (sum_of (countsOf (liveFinals ends))) cells
-  tallies-add-up-finished one_size top height cells written =
+  -- sets": of fragments on fresh tracers with tallies of zeros, no call refused, all full but the last (no proper run is asked for), after the
+  -- finisher
+  pub tallies-add-up-finished : (others top : List ℕ) (height : ℕ) → OneSize size plain (countsOf (liveFinals ends)) → LiveFinisherPasses p q size fragments here others top height →
+      CountsSet p (overFragments p ends) (sum_of (countsOf (liveFinals ends))) (liveByFinisher p q size fragments here others top height)
+  tallies-add-up-finished others top height one_size =
       let same = live-as-calls p q fragments here none-refused in
       let sizes = rw same.same-finals at one_size in
-      let (c, e) = written_as p q size plain here accepted sizes top height (plain-written p q size fragments here none-refused top height cells written) in
-      rw (same.same-finals, e) (run-set sizes top height c)
+      let Q : List ℕ → Type 0 = CountsSet p (overFragments p ends) (sum_of (countsOf (liveFinals ends))) in
+      live_written p q size fragments here none-refused others top height Q
+      (by-finisher p q size plain here accepted sizes others top height Q (λ c. rw same.same-finals (run-set sizes others top height c)))
+
+  -- and after the five calls, one after another
+  pub tallies-add-up-five : (others top : List ℕ) (height : ℕ) → OneSize size plain (countsOf (liveFinals ends)) → LiveFivePass p q size fragments here others top height →
+      CountsSet p (overFragments p ends) (sum_of (countsOf (liveFinals ends))) (liveByFive p q size fragments here others top height)
+  tallies-add-up-five others top height one_size =
+      let same = live-as-calls p q fragments here none-refused in
+      let sizes = rw same.same-finals at one_size in
+      let Q : List ℕ → Type 0 = CountsSet p (overFragments p ends) (sum_of (countsOf (liveFinals ends))) in
+      live-written-by-five p q size fragments here none-refused others top height Q
+      (by-five p q size plain here accepted sizes others top height Q (λ c. rw same.same-finals (run-set sizes others top height c)))

@@ -23,18 +23,18 @@ use Rattle.rows.proofs.passes.RowLists.{Wide, length-flat, rows-flat}
 use Rattle.rows.proofs.passes.FirstRows.{Cells25, fixed-wide, fixed-length}
 use Rattle.rows.proofs.passes.Written.{multiplied-wide, multiplied-length}
 use Rattle.theory_readings.specs.Readings.{bufferRefusal, all_rows, Trace}
-use Rattle.theory_runs.specs.Calls.{Fragment, AllAccepted, finalStates, cells_of, countsOf, builtCells, OneSize}
+use Rattle.theory_runs.specs.Calls.{Fragment, AllAccepted, finalStates, countsOf, OneSize}
 use Rattle.theory_runs.specs.Happened.{Cycle, cyclesOf}
 use Rattle.theory_runs.specs.ProperRuns.{InBlock, Run, RunPasses}
 use Rattle.theory_runs.specs.Written.{rowsRun}
-use Rattle.theory_runs.specs.Finished.{Runs, nesting, buffer1, buffer2, buffer3, buffer4, buffer5, FiveAccepted, finisherBuffer, FinishedTo, WrittenOf}
+use Rattle.theory_runs.specs.Finished.{Runs, nesting, buffer1, buffer2, buffer3, buffer4, buffer5, FiveAccepted, finisherBuffer, runCounts, runBuilt, runBuffer, writtenByFive, writtenByFinisher, FivePass, FinisherPasses}
 use Rattle.theory_runs.proofs.Looks.{Fine}
 use Rattle.theory_runs.proofs.Folded.{AllFine, rows-wide, sum_rows, cells-rows, rows-laid}
 use Rattle.theory_reductions.specs.Below.{BelowAll}
 use Rattle.theory_reductions.proofs.CellsBelow.{below-reduced, below-fixed, below-multiplied, below-inverted, below-halted, below-padded}
 use Rattle.theory_runs.proofs.StartsReduced.{starts-reduced}
 use Rattle.theory_runs.proofs.PassLooks.{inverted-wide, inverted-length}
-use Rattle.theory_runs.proofs.FinishedRows.{halted-wide, halted-length, all-wide, all-length, all-reading}
+use Rattle.theory_runs.proofs.FinishedRows.{all-rows, halted-wide, halted-length, all-wide, all-length, all-reading}
 
 -- THE CYCLES OF A PROPER RUN
 
@@ -78,15 +78,6 @@ unfolding builtOf BelowAll
 built-below zero built = tt
 built-below (suc n) built = (below-reduced (take 25 built), built-below n (drop 25 built))
 
--- rows whose cells are below p have such cells after the five passes
-pub finished-below : (p : Profile) (size : ℕ) (counts built top : List ℕ) (height : ℕ) (rows : List (List ℕ)) → length rows ≤ 16777216 → BelowAll rows →
-    BelowAll (padded p height (halted p (lastBuilt counts built) (inverted (multiplied p (fixedUp size top (builtOf (length counts - 1) built) rows)))))
-finished-below p size counts built top height rows few below =
-    let lasts : List (List ℕ) = builtOf (length counts - 1) built in
-    let fixed : List (List ℕ) = fixedUp size top lasts rows in
-    let h = below-multiplied p fixed (omega (arith, fixed-length rows lasts size top)) (below-fixed rows lasts size top (built-below (length counts - 1) built) below) in
-    below-padded p height _ (below-halted p (lastBuilt counts built) _ (below-inverted (multiplied p fixed) h))
-
 -- all rows of a buffer that is rows alone
 all-flat : (rows : List (List ℕ)) → Wide rows → all_rows (flat rows) ≡ rows
 unfolding all_rows
@@ -94,10 +85,81 @@ all-flat rows w =
     let e : length (flat rows) / 49 ≡ length rows = omega (arith, length-flat rows w) in
     ap₂ rows_of e (sym (append-nil (flat rows))) ∙ rows-flat rows [] w
 
+-- the five passes on a buffer with the rows in front
+module _ (p : Profile) (size : ℕ) (counts built top : List ℕ) (height : ℕ) (buffer rest : List ℕ) (rows : List (List ℕ))
+    (holds : buffer ≡ flat rows ++ rest) (sum : sum_of counts ≡ length rows) (wide : Wide rows) (right : profileWrong p ≡ false)
+    (in-built : 25 * length counts ≤ length built) (some : 0 < length counts) (room : length rows < height) where
+  abbrev pub lasts : List (List ℕ)
+  lasts = builtOf (length counts - 1) built
+
+  abbrev pub last_built : List ℕ
+  last_built = lastBuilt counts built
+
+  pub lasts-25 : Cells25 lasts
+  lasts-25 = built-25 (length counts - 1) built (omega arith)
+
+  pub last-25 : length last_built ≡ 25
+  unfolding lastBuilt
+  last-25 = simp (length-take, length-drop) (omega arith)
+
+  abbrev pub finished : List (List ℕ)
+  finished = all-rows p right size top lasts last_built height rows lasts-25 last-25 wide room
+
+  pub passes-rows : take (49 * height) (allPasses p size counts built top height buffer) ≡ flat finished
+  unfolding allPasses
+  passes-rows =
+      let rows1 : List (List ℕ) = fixedUp size top lasts rows in
+      let rows2 : List (List ℕ) = multiplied p rows1 in
+      let rows3 : List (List ℕ) = inverted rows2 in
+      let rows4 : List (List ℕ) = halted p last_built rows3 in
+      let w1 : Wide rows1 = fixed-wide rows lasts size top lasts-25 wide in
+      let w2 : Wide rows2 = multiplied-wide p rows1 w1 in
+      let w3 : Wide rows3 = inverted-wide rows2 w2 in
+      let w4 : Wide rows4 = halted-wide p right size top lasts last_built height rows lasts-25 last-25 wide room in
+      let l1 : sum_of counts ≡ length rows1 = sum ∙ sym (fixed-length rows lasts size top) in
+      let l2 : sum_of counts ≡ length rows2 = l1 ∙ sym (multiplied-length p rows1) in
+      let l3 : sum_of counts ≡ length rows3 = l2 ∙ sym (inverted-length rows2) in
+      let l4 : sum_of counts + 1 ≡ length rows4 = omega (arith, sum, halted-length p right size top lasts last_built height rows lasts-25 last-25 wide room) in
+      let b1 : List ℕ = onRows (sum_of counts) (fixedUp size top lasts) buffer in
+      let b2 : List ℕ = onRows (sum_of counts) (multiplied p) b1 in
+      let b3 : List ℕ = onRows (sum_of counts) inverted b2 in
+      let b4 : List ℕ = onRows (sum_of counts) (halted p last_built) b3 in
+      let e1 = on-front (sum_of counts) (fixedUp size top lasts) buffer rest rows holds sum wide in
+      let e2 = on-front (sum_of counts) (multiplied p) b1 (drop (49 * length rows1) buffer) rows1 e1 l1 w1 in
+      let e3 = on-front (sum_of counts) inverted b2 (drop (49 * length rows2) b1) rows2 e2 l2 w2 in
+      let e4 = on-front (sum_of counts) (halted p last_built) b3 (drop (49 * length rows3) b2) rows3 e3 l3 w3 in
+      let e5 = on-front (sum_of counts + 1) (padded p height) b4 (drop (49 * length rows4) b3) rows4 e4 l4 w4 in
+      let w5 = all-wide p right size top lasts last_built height rows lasts-25 last-25 wide room in
+      let l5 = all-length p right size top lasts last_built height rows lasts-25 last-25 wide room in
+      ap (take (49 * height)) e5 ∙ take_at (flat finished) (drop (49 * length finished) b4) (49 * height) (length-flat finished w5 ∙ ap (λ (n : ℕ). 49 * n) l5)
+
+  module _ (few : height ≤ 16777216) (rows-below : BelowAll rows) where
+    pub finished-below : BelowAll finished
+    finished-below =
+        let rows1 : List (List ℕ) = fixedUp size top lasts rows in
+        let rows2 : List (List ℕ) = multiplied p rows1 in
+        let rows3 : List (List ℕ) = inverted rows2 in
+        let rows4 : List (List ℕ) = halted p last_built rows3 in
+        let h1 = below-fixed rows lasts size top (built-below (length counts - 1) built) rows-below in
+        let h2 = below-multiplied p rows1 (omega (arith, fixed-length rows lasts size top)) h1 in
+        let h3 = below-inverted rows2 h2 in
+        let h4 = below-halted p last_built rows3 h3 in
+        below-padded p height rows4 h4
+
+  module _ (few : height ≤ 16777216) where
+    -- 2 and 11 pass
+    buffer-passes : bufferRefusal p (flat finished) ≡ 0
+    unfolding bufferRefusal first_of bufferWrong
+    buffer-passes =
+        let w5 = all-wide p right size top lasts last_built height rows lasts-25 last-25 wide room in
+        let l5 = all-length p right size top lasts last_built height rows lasts-25 last-25 wide room in
+        let long : length (flat finished) ≡ 49 * height = length-flat finished w5 ∙ ap (λ (n : ℕ). 49 * n) l5 in
+        rw (right, long, le-ltb 0 (49 * height % 49) (omega arith), le-ltb 16777216 (49 * height / 49) (omega arith))
+
 -- WHAT THE PASSES REFUSE
 
 -- what is known where none of the checks holds
-pub record Checked (p : Profile) (size : ℕ) (counts built : List ℕ) (height : ℕ) : Type 0 where
+pub record Checked (p : Profile) (size : ℕ) (counts built top : List ℕ) (height : ℕ) (buffer : List ℕ) : Type 0 where
   pub right : profileWrong p ≡ false
   pub some : 0 < length counts
   pub in-built : 25 * length counts ≤ length built
@@ -129,9 +191,9 @@ height-fits cells rows height e =
     let (a, b) = neither (leb height rows) (ltb (cells / 49) height) e in
     (leb-false height rows a, ltb-false (cells / 49) height b)
 
-checked-finisher : (p : Profile) (size : ℕ) (counts built : List ℕ) (height : ℕ) (buffer : List ℕ) → refusalAll p buffer size counts built height ≡ 0 → Checked p size counts built height
+pub checked-finisher : (p : Profile) (size : ℕ) (counts built top : List ℕ) (height : ℕ) (buffer : List ℕ) → refusalAll p buffer size counts built height ≡ 0 → Checked p size counts built top height buffer
 unfolding refusalAll
-checked-finisher p size counts built height buffer e =
+checked-finisher p size counts built top height buffer e =
     let (c, d) = none_first _ _ _ e in
     let (f, g) = none_first _ _ _ d in
     let (h, i) = none_first _ _ _ g in
@@ -152,7 +214,7 @@ not-refused : (number : ℕ) (before after : List ℕ) → number ≡ 0 → unle
 not-refused number before after e = rw e
 
 module _ (p : Profile) (size : ℕ) (counts built top : List ℕ) (height : ℕ) (buffer : List ℕ) (five : FiveAccepted p size counts built top height buffer) where
-  checked-five : Checked p size counts built height
+  pub checked-five : Checked p size counts built top height buffer
   unfolding refusal1 refusal2 refusal5
   checked-five =
       let (c, d) = none_first _ _ _ five.first in
@@ -175,48 +237,27 @@ module _ (p : Profile) (size : ℕ) (counts built top : List ℕ) (height : ℕ)
       let e5 : buffer5 p size counts built top height buffer ≡ onRows (rows + 1) (padded p height) (buffer4 p size counts built top height buffer) = not-refused _ _ _ five.fifth in
       e5 ∙ ap (onRows (rows + 1) (padded p height)) (e4 ∙ ap (onRows rows (halted p (lastBuilt counts built))) (e3 ∙ ap (onRows rows inverted) (e2 ∙ ap (onRows rows (multiplied p)) e1)))
 
--- cells that are written are the first height rows after all passes, and no check holds
-finished_as : {p : Profile} {size : ℕ} {counts built held top : List ℕ} {height : ℕ} {cells : List ℕ} → FinishedTo p size counts built held top height cells →
-    Checked p size counts built height × ((others : List ℕ) × (cells ≡ take (49 * height) (allPasses p size counts built top height (held ++ others))))
-unfolding finisherBuffer
-finished_as {p} {size} {counts} {built} {held} {top} {height} (FinishedTo.of-finisher others e) = (checked-finisher p size counts built height (held ++ others) e, (others, rw e))
-finished_as {p} {size} {counts} {built} {held} {top} {height} (FinishedTo.of-five others five) =
-    (checked-five p size counts built top height (held ++ others) five, (others, ap (take (49 * height)) (five-all p size counts built top height (held ++ others) five)))
-
 -- THE ROWS OF A RUN
 
 -- any list of calls, none refused, all fragments but the last full
-module _ (p : Profile) (q : Queues) (size : ℕ) (fragments : List Fragment) (here : Cursor) (none-refused : AllAccepted p q fragments here) (one_size : OneSize size fragments (countsOf (finalStates p q fragments here))) (top : List ℕ) (height : ℕ) where
+module _ (p : Profile) (q : Queues) (size : ℕ) (fragments : List Fragment) (here : Cursor) (none-refused : AllAccepted p q fragments here) (one_size : OneSize size fragments (countsOf (finalStates p q fragments here))) (others top : List ℕ) (height : ℕ) where
   abbrev counts : List ℕ
-  counts = countsOf (finalStates p q fragments here)
+  counts = runCounts p q size fragments here others top height
 
   abbrev built : List ℕ
-  built = builtCells (finalStates p q fragments here)
+  built = runBuilt p q size fragments here others top height
 
-  abbrev lasts : List (List ℕ)
-  lasts = builtOf (length counts - 1) built
+  abbrev buffer : List ℕ
+  buffer = runBuffer p q size fragments here others top height
 
-  abbrev last : List ℕ
-  last = lastBuilt counts built
-
-  -- what the cycles write, and what each pass makes of it; the last are the first height rows after the passes
   abbrev rows : List (List ℕ)
   rows = rowsRun p q fragments here
 
-  abbrev rows1 : List (List ℕ)
-  rows1 = fixedUp size top lasts rows
-
-  abbrev rows2 : List (List ℕ)
-  rows2 = multiplied p rows1
-
-  abbrev rows3 : List (List ℕ)
-  rows3 = inverted rows2
-
-  abbrev rows4 : List (List ℕ)
-  rows4 = halted p last rows3
-
-  abbrev pub run-rows : List (List ℕ)
-  run-rows = padded p height rows4
+  -- its rows stand in front
+  rows-first : (rest : List ℕ) × (buffer ≡ flat rows ++ rest)
+  rows-first =
+      let (rest, cells) = cells-rows p q size fragments here none-refused one_size in
+      (rest ++ others, ap (λ y. y ++ others) cells ∙ append_assoc (flat rows) rest others)
 
   sum : sum_of counts ≡ length rows
   sum = sum_rows p q fragments here none-refused
@@ -224,81 +265,66 @@ module _ (p : Profile) (q : Queues) (size : ℕ) (fragments : List Fragment) (he
   wide : Wide rows
   wide = rows-wide p q fragments here none-refused
 
+  -- the first height rows after the passes
+  abbrev pub run-rows : List (List ℕ)
+  run-rows = padded p height (halted p (lastBuilt counts built) (inverted (multiplied p (fixedUp size top (builtOf (length counts - 1) built) rows))))
+
   -- no pass refuses
   abbrev pub PassesChecked : Type 0
-  PassesChecked = Checked p size counts built height
+  PassesChecked = Checked p size counts built top height buffer
 
   module _ (c : PassesChecked) where
     room : length rows < height
     room = omega (arith, sum, c.room)
 
-    pub run-lasts : Cells25 lasts
-    run-lasts = built-25 (length counts - 1) built (omega (arith, c.in-built))
+    pub run-lasts : Cells25 (builtOf (length counts - 1) built)
+    run-lasts = lasts-25 p size counts built top height buffer rows-first.0 rows rows-first.1 sum wide c.right c.in-built c.some room
 
-    last-25 : length last ≡ 25
-    unfolding lastBuilt
-    last-25 = simp (length-take, length-drop) (omega (arith, c.in-built, c.some))
+    run-last : length (lastBuilt counts built) ≡ 25
+    run-last = last-25 p size counts built top height buffer rows-first.0 rows rows-first.1 sum wide c.right c.in-built c.some room
+
+    run-written : take (49 * height) (allPasses p size counts built top height buffer) ≡ flat run-rows
+    run-written = passes-rows p size counts built top height buffer rows-first.0 rows rows-first.1 sum wide c.right c.in-built c.some room
 
     pub run-wide : Wide run-rows
-    run-wide = all-wide p c.right size top lasts last height rows run-lasts last-25 wide room
+    run-wide = all-wide p c.right size top (builtOf (length counts - 1) built) (lastBuilt counts built) height rows run-lasts run-last wide room
 
     pub run_length : length run-rows ≡ height
-    run_length = all-length p c.right size top lasts last height rows run-lasts last-25 wide room
-
-    run-cells : length (flat run-rows) ≡ 49 * height
-    run-cells = length-flat run-rows run-wide ∙ ap (λ (n : ℕ). 49 * n) run_length
-
-    -- the passes on the buffer with the fragments in front
-    run-written : (others : List ℕ) → take (49 * height) (allPasses p size counts built top height (cells_of p q fragments here ++ others)) ≡ flat run-rows
-    unfolding allPasses
-    run-written others =
-        let (rest, cells) = cells-rows p q size fragments here none-refused one_size in
-        let buffer : List ℕ = cells_of p q fragments here ++ others in
-        let w1 : Wide rows1 = fixed-wide rows lasts size top run-lasts wide in
-        let w2 : Wide rows2 = multiplied-wide p rows1 w1 in
-        let w3 : Wide rows3 = inverted-wide rows2 w2 in
-        let w4 : Wide rows4 = halted-wide p c.right size top lasts last height rows run-lasts last-25 wide room in
-        let l1 : sum_of counts ≡ length rows1 = sum ∙ sym (fixed-length rows lasts size top) in
-        let l2 : sum_of counts ≡ length rows2 = l1 ∙ sym (multiplied-length p rows1) in
-        let l3 : sum_of counts ≡ length rows3 = l2 ∙ sym (inverted-length rows2) in
-        let l4 : sum_of counts + 1 ≡ length rows4 = omega (arith, sum, halted-length p c.right size top lasts last height rows run-lasts last-25 wide room) in
-        let b1 : List ℕ = onRows (sum_of counts) (fixedUp size top lasts) buffer in
-        let b2 : List ℕ = onRows (sum_of counts) (multiplied p) b1 in
-        let b3 : List ℕ = onRows (sum_of counts) inverted b2 in
-        let b4 : List ℕ = onRows (sum_of counts) (halted p last) b3 in
-        let e1 = on-front (sum_of counts) (fixedUp size top lasts) buffer (rest ++ others) rows (ap (λ y. y ++ others) cells ∙ append_assoc (flat rows) rest others) sum wide in
-        let e2 = on-front (sum_of counts) (multiplied p) b1 (drop (49 * length rows1) buffer) rows1 e1 l1 w1 in
-        let e3 = on-front (sum_of counts) inverted b2 (drop (49 * length rows2) b1) rows2 e2 l2 w2 in
-        let e4 = on-front (sum_of counts) (halted p last) b3 (drop (49 * length rows3) b2) rows3 e3 l3 w3 in
-        let e5 = on-front (sum_of counts + 1) (padded p height) b4 (drop (49 * length rows4) b3) rows4 e4 l4 w4 in
-        ap (take (49 * height)) e5 ∙ take_at (flat run-rows) (drop (49 * length run-rows) b4) (49 * height) run-cells
+    run_length = all-length p c.right size top (builtOf (length counts - 1) built) (lastBuilt counts built) height rows run-lasts run-last wide room
 
     pub rows-below : BelowAll rows → BelowAll run-rows
-    rows-below = finished-below p size counts built top height rows (omega (arith, room, c.few))
+    rows-below = finished-below p size counts built top height buffer rows-first.0 rows rows-first.1 sum wide c.right c.in-built c.some room c.few
 
-    -- 2 and 11 pass
     run-passes : bufferRefusal p (flat run-rows) ≡ 0
-    unfolding bufferRefusal first_of bufferWrong
-    run-passes = rw (c.right, run-cells, le-ltb 0 (49 * height % 49) (omega arith), le-ltb 16777216 (49 * height / 49) (omega (arith, c.few)))
+    run-passes = buffer-passes p size counts built top height buffer rows-first.0 rows rows-first.1 sum wide c.right c.in-built c.some room c.few
 
     -- of a proper run they are a trace
     run-trace : (runs : Runs p q size fragments here) → Trace p (flat run-rows) (nesting runs)
     unfolding Trace AllFine
     run-trace runs =
         let laid-rows = rows-laid p q fragments here none-refused (run-fine p q runs.proper tt) in
-        let reading = all-reading p c.right size top lasts last height rows run-lasts last-25 wide room (cyclesOf q fragments here.at) (readState here.state) laid-rows (omega (arith, c.few, room)) runs.proper (rw (starts-reduced q fragments here.at) runs.loops-apart) runs.shallow in
+        let reading = all-reading p c.right size top (builtOf (length counts - 1) built) (lastBuilt counts built) height rows run-lasts run-last wide room (cyclesOf q fragments here.at) (readState here.state) laid-rows (omega (arith, c.few, room)) runs.proper (rw (starts-reduced q fragments here.at) runs.loops-apart) runs.shallow in
         rw (all-flat run-rows run-wide) (run-passes, reading)
 
-  -- what is written, by the finisher or by the five calls one after another, is these rows, and no pass refuses
-  pub written_as : {cells : List ℕ} → WrittenOf p q size fragments here top height cells → PassesChecked × (cells ≡ flat run-rows)
-  written_as written = let (c, (others, e)) = finished_as written in (c, e ∙ run-written c others)
+  -- what holds of their cells holds of what is written: by the finisher, and by the five calls one after another
+  module _ (Q : List ℕ → Type 0) (h : PassesChecked → Q (flat run-rows)) where
+    pub by-finisher : FinisherPasses p q size fragments here others top height → Q (writtenByFinisher p q size fragments here others top height)
+    unfolding finisherBuffer
+    by-finisher e = let c = checked-finisher p size counts built top height buffer e in rw (e, run-written c) (h c)
+
+    pub by-five : FivePass p q size fragments here others top height → Q (writtenByFive p q size fragments here others top height)
+    by-five five = let c = checked-five p size counts built top height buffer five in rw (five-all p size counts built top height buffer five, run-written c) (h c)
 
 -- THE THEOREM
 
--- "what is then written is such a trace, its reading is the nesting of blocks and operations that ran .., and each LOOP row's count is the number of
--- passes of its body"
-pub written-trace : (p : Profile) (q : Queues) (size : ℕ) (fragments : List Fragment) (here : Cursor) (runs : Runs p q size fragments here) (top : List ℕ) (height : ℕ) {cells : List ℕ} →
-    WrittenOf p q size fragments here top height cells → Trace p cells (nesting runs)
-written-trace p q size fragments here runs top height written =
-    let (c, e) = written_as p q size fragments here runs.accepted runs.one_size top height written in
-    rw e (run-trace p q size fragments here runs.accepted runs.one_size top height c runs)
+module _ (p : Profile) (q : Queues) (size : ℕ) (fragments : List Fragment) (here : Cursor) (runs : Runs p q size fragments here) (others top : List ℕ) (height : ℕ) where
+  -- "what is then written is such a trace, its reading is the nesting of blocks and operations that ran .., and each LOOP row's count is the
+  -- number of passes of its body": for the finisher
+  pub finisher-trace : FinisherPasses p q size fragments here others top height → Trace p (writtenByFinisher p q size fragments here others top height) (nesting runs)
+  finisher-trace =
+      by-finisher p q size fragments here runs.accepted runs.one_size others top height (λ cells. Trace p cells (nesting runs)) (λ c. run-trace p q size fragments here runs.accepted runs.one_size others top height c runs)
+
+  -- and for the five calls, one after another
+  pub five-trace : FivePass p q size fragments here others top height → Trace p (writtenByFive p q size fragments here others top height) (nesting runs)
+  five-trace =
+      by-five p q size fragments here runs.accepted runs.one_size others top height (λ cells. Trace p cells (nesting runs)) (λ c. run-trace p q size fragments here runs.accepted runs.one_size others top height c runs)

@@ -9,12 +9,13 @@ use Rattle.groups.specs.Answer.{Answer, accepted, refused}
 use Rattle.rows.specs.records.Addresses.{Queues}
 use Rattle.rows.specs.records.Cells.{rowCells}
 use Rattle.rows.specs.cycles.Made.{Cursor}
+use Rattle.rows.specs.records.Buffers.{flat}
 use Rattle.theory_runs.specs.Calls.{Call, store, finish, Fragment, Held, answered, after, opened, closed, cursorOf, AllAccepted, finalStates, countsOf, OneSize}
 use Rattle.theory_runs.specs.Written.{rowMade, rowsIn, rowsRun}
-use Rattle.theory_runs.specs.Finished.{WrittenOf}
+use Rattle.theory_runs.specs.Finished.{writtenByFive, writtenByFinisher, FivePass, FinisherPasses}
 use Rattle.theory_reductions.specs.Below.{Below, BelowAll}
 use Rattle.theory_reductions.proofs.CellsBelow.{below-reduced, below-all-app, below-flat}
-use Rattle.theory_runs.proofs.TraceOfRun.{rows-below, written_as}
+use Rattle.theory_runs.proofs.TraceOfRun.{PassesChecked, run-rows, rows-below, by-finisher, by-five}
 
 -- THE ROWS OF CYCLES
 
@@ -39,8 +40,13 @@ module _ (p : Profile) (q : Queues) where
 
 -- AFTER THE PASSES
 
-pub written_below : (p : Profile) (q : Queues) (size : ℕ) (fragments : List Fragment) (here : Cursor) → AllAccepted p q fragments here → OneSize size fragments (countsOf (finalStates p q fragments here)) →
-    (top : List ℕ) (height : ℕ) {cells : List ℕ} → WrittenOf p q size fragments here top height cells → Below cells
-written_below p q size fragments here none-refused one_size top height written =
-    let (c, e) = written_as p q size fragments here none-refused one_size top height written in
-    rw e (below-flat _ (rows-below p q size fragments here none-refused one_size top height c (run-below p q fragments here)))
+module _ (p : Profile) (q : Queues) (size : ℕ) (fragments : List Fragment) (here : Cursor) (none-refused : AllAccepted p q fragments here) (one_size : OneSize size fragments (countsOf (finalStates p q fragments here))) (others top : List ℕ) (height : ℕ) where
+  passes-below : (c : PassesChecked p q size fragments here none-refused one_size others top height) → Below (flat (run-rows p q size fragments here none-refused one_size others top height))
+  passes-below c = below-flat _ (rows-below p q size fragments here none-refused one_size others top height c (run-below p q fragments here))
+
+  -- by the finisher, and by the five calls one after another
+  pub written_below : FinisherPasses p q size fragments here others top height → Below (writtenByFinisher p q size fragments here others top height)
+  written_below = by-finisher p q size fragments here none-refused one_size others top height Below passes-below
+
+  pub written-below-five : FivePass p q size fragments here others top height → Below (writtenByFive p q size fragments here others top height)
+  written-below-five = by-five p q size fragments here none-refused one_size others top height Below passes-below

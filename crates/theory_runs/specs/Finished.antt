@@ -64,16 +64,39 @@ module _ (p : Profile) (size : ℕ) (counts built top : List ℕ) (height : ℕ)
   unfoldable pub finisherBuffer : List ℕ
   finisherBuffer = unlessRefused (refusalAll p buffer size counts built height) buffer (allPasses p size counts built top height buffer)
 
--- "A trace that we write is the first height rows after all five, run once each in this order ..": these cells are the first height rows after the
--- finisher, or after the five calls one after another, none of them refused, on a buffer that begins with what fragments hold (`held`). What
--- stands behind them is free
+-- N11: "finished to the same height", "the same cells in the first height rows": these cells are the first height rows after the finisher, or
+-- after the five calls, none of them refused, on a buffer that begins with what fragments hold; what stands behind them is free
 pub data FinishedTo (p : Profile) (size : ℕ) (counts built held top : List ℕ) (height : ℕ) : (cells : List ℕ) → Type 0 where
   of-finisher : (others : List ℕ) → refusalAll p (held ++ others) size counts built height ≡ 0 →
       FinishedTo p size counts built held top height (take (rowWidth * height) (finisherBuffer p size counts built top height (held ++ others)))
   of-five : (others : List ℕ) → FiveAccepted p size counts built top height (held ++ others) →
       FinishedTo p size counts built held top height (take (rowWidth * height) (buffer5 p size counts built top height (held ++ others)))
 
--- cells that are written of a run: the passes "with the run's profile, fragment size, and its final states' row counts and last built cells", on the
--- buffer that holds the fragments from row 0 on; the first stack top and the height are free
+-- the passes "with the run's profile, fragment size, and its final states' row counts and last built cells", on the buffer that holds the
+-- fragments and other cells behind them; the first stack top and the height are free
+module _ (p : Profile) (q : Queues) (size : ℕ) (fragments : List Fragment) (here : Cursor) (others top : List ℕ) (height : ℕ) where
+  abbrev pub runCounts : List ℕ
+  runCounts = countsOf (finalStates p q fragments here)
+
+  abbrev pub runBuilt : List ℕ
+  runBuilt = builtCells (finalStates p q fragments here)
+
+  abbrev pub runBuffer : List ℕ
+  runBuffer = cells_of p q fragments here ++ others
+
+  -- "A trace that we write is the first height rows after all five"
+  abbrev pub writtenByFive : List ℕ
+  writtenByFive = take (rowWidth * height) (buffer5 p size runCounts runBuilt top height runBuffer)
+
+  abbrev pub writtenByFinisher : List ℕ
+  writtenByFinisher = take (rowWidth * height) (finisherBuffer p size runCounts runBuilt top height runBuffer)
+
+  abbrev pub FivePass : Type 0
+  FivePass = FiveAccepted p size runCounts runBuilt top height runBuffer
+
+  abbrev pub FinisherPasses : Type 0
+  FinisherPasses = refusalAll p runBuffer size runCounts runBuilt height ≡ 0
+
+-- cells that are written of a run, by the finisher or by the five calls
 abbrev pub WrittenOf : (p : Profile) (q : Queues) (size : ℕ) (fragments : List Fragment) (here : Cursor) (top : List ℕ) (height : ℕ) (cells : List ℕ) → Type 0
 WrittenOf p q size fragments here = FinishedTo p size (countsOf (finalStates p q fragments here)) (builtCells (finalStates p q fragments here)) (cells_of p q fragments here)
