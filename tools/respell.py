@@ -22,12 +22,15 @@ CAMEL = re.compile(r"(^|-|_)[a-z][a-z0-9]*[A-Z]")
 # Lemmas whose name would be that of a definition, and a type in lower case.
 BY_HAND = [
     ("cameOf", "CameOf", ""),
-    ("last_built", "last_built_lem", "rows theory_reductions"),
+    ("last_built", "last_built_lem", "rows theory_reductions theory_runs"),
     ("row_made", "row_made_lem", "theory_runs"),
     ("value_line", "value_line_lem", "dump"),
     ("made_row", "made_row_lem", "theory_reductions"),
     ("left_by", "left_by_lem", "reader"),
     ("from_first", "from_first_lem", "theory_dumps"),
+    ("built-system", "built_system_below", "theory_before_n2"),
+    ("built-stack", "built_stack_below", "theory_before_n2"),
+    ("few-rows", "rows_few", "dump"),
 ]
 
 
@@ -82,6 +85,9 @@ def table_of(root):
                 table[w] = snake(w).replace("-", "_")
             elif re.match("[A-Z]", w) and "data Ending" in text:
                 table[w] = re.sub(r"(?<=[a-z0-9])([A-Z])", r"_\1", w).lower()
+    for a, _, crates in BY_HAND:
+        if crates:
+            table.pop(a, None)
     rows = [(a, b, "") for a, b in sorted(table.items()) if a != b] + BY_HAND
     return "".join("\t".join(r).rstrip("\t") + "\n" for r in rows)
 
