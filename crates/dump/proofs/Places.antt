@@ -11,56 +11,56 @@ use lib.ListN.{length, length-append}
 use Rattle.field.specs.Modulus.{P}
 use Rattle.field.specs.Cells.{cell_at}
 use Rattle.groups.specs.Answer.{pick}
-use Rattle.theory_dumps.specs.Dumps.{timeLine, valueLine}
+use Rattle.theory_dumps.specs.Dumps.{time_line, value_line}
 use Rattle.theory_dumps.proofs.LineLengths.{time-length, value-length}
-use Rattle.dump.specs.ways.Places.{value_at, oldAt, changeLine, changesTo, lines_of, linesTo}
+use Rattle.dump.specs.ways.Places.{value_at, old_at, change_line, changes_to, lines_of, lines_to}
 
 -- before the first row no column has a value
-pub first-changed : (cells : List ℕ) (row column : ℕ) → row ≡ 0 → eqb (oldAt cells row column) (value_at cells row column) ≡ false
-unfolding oldAt cell_at
+pub first-changed : (cells : List ℕ) (row column : ℕ) → row ≡ 0 → eqb (old_at cells row column) (value_at cells row column) ≡ false
+unfolding old_at cell_at
 first-changed cells row column e = rw e (ne_eqb P (value_at cells 0 column) (λ z. omega arith))
 
-pub old-next : (cells : List ℕ) (row column : ℕ) → ¬ (row ≡ 0) → value_at cells (row - 1) column ≡ oldAt cells row column
-unfolding oldAt
+pub old-next : (cells : List ℕ) (row column : ℕ) → ¬ (row ≡ 0) → value_at cells (row - 1) column ≡ old_at cells row column
+unfolding old_at
 old-next cells zero column h = absurd (h refl)
 old-next cells (suc row) column h = let e : suc row - 1 ≡ row = omega arith in rw e refl
 
-pub no_line : (column old value : ℕ) → eqb old value ≡ true → changeLine column old value ≡ []
-unfolding changeLine
+pub no_line : (column old value : ℕ) → eqb old value ≡ true → change_line column old value ≡ []
+unfolding change_line
 no_line column old value e = rw e
 
-pub a-line : (column old value : ℕ) → eqb old value ≡ false → changeLine column old value ≡ valueLine column value
-unfolding changeLine
+pub a-line : (column old value : ℕ) → eqb old value ≡ false → change_line column old value ≡ value_line column value
+unfolding change_line
 a-line column old value e = rw e
 
 -- one more column, one more row
-pub changes-next : (cells : List ℕ) (row n : ℕ) → changesTo cells row n ++ changeLine n (oldAt cells row n) (value_at cells row n) ≡ changesTo cells row (n + 1)
-unfolding changesTo
+pub changes-next : (cells : List ℕ) (row n : ℕ) → changes_to cells row n ++ change_line n (old_at cells row n) (value_at cells row n) ≡ changes_to cells row (n + 1)
+unfolding changes_to
 changes-next cells row n = rw (add-one n) refl
 
-pub lines_next : (cells : List ℕ) (n : ℕ) → linesTo cells n ++ lines_of cells n ≡ linesTo cells (n + 1)
-unfolding linesTo
+pub lines_next : (cells : List ℕ) (n : ℕ) → lines_to cells n ++ lines_of cells n ≡ lines_to cells (n + 1)
+unfolding lines_to
 lines_next cells n = rw (add-one n) refl
 
 -- LENGTHS
 
-change-length : (column old value : ℕ) → length (changeLine column old value) ≤ 68
-unfolding changeLine
+change-length : (column old value : ℕ) → length (change_line column old value) ≤ 68
+unfolding change_line
 change-length column old value = go (eqb old value) (value-length column value)
   where
-    go : (t : Bool) → length (valueLine column value) ≤ 68 → length (pick t [] (valueLine column value)) ≤ 68
+    go : (t : Bool) → length (value_line column value) ≤ 68 → length (pick t [] (value_line column value)) ≤ 68
     go true h = omega arith
     go false h = h
 
-pub changes-length : (cells : List ℕ) (row n : ℕ) → length (changesTo cells row n) ≤ 68 * n
-unfolding changesTo
+pub changes-length : (cells : List ℕ) (row n : ℕ) → length (changes_to cells row n) ≤ 68 * n
+unfolding changes_to
 changes-length cells row zero = omega arith
 changes-length cells row (suc n) =
-    let line = changeLine n (oldAt cells row n) (value_at cells row n) in
-    omega (arith, changes-length cells row n, change-length n (oldAt cells row n) (value_at cells row n), length-append (changesTo cells row n) line)
+    let line = change_line n (old_at cells row n) (value_at cells row n) in
+    omega (arith, changes-length cells row n, change-length n (old_at cells row n) (value_at cells row n), length-append (changes_to cells row n) line)
 
-pub lines-length : (cells : List ℕ) (n : ℕ) → length (linesTo cells n) ≤ 3354 * n
-unfolding linesTo
+pub lines-length : (cells : List ℕ) (n : ℕ) → length (lines_to cells n) ≤ 3354 * n
+unfolding lines_to
 lines-length cells zero = omega arith
 lines-length cells (suc n) =
-    omega (arith, lines-length cells n, time-length n, changes-length cells n 49, length-append (timeLine n) (changesTo cells n 49), length-append (linesTo cells n) (lines_of cells n))
+    omega (arith, lines-length cells n, time-length n, changes-length cells n 49, length-append (time_line n) (changes_to cells n 49), length-append (lines_to cells n) (lines_of cells n))

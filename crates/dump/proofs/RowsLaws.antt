@@ -8,45 +8,45 @@ use native.Mathlib.Omega.{arith}
 use lib.ListN.{length, drop, get_or, length-drop, length-append, drop_of_length-le}
 use lib.Seq.{drop-cons}
 use Rattle.groups.specs.Answer.{pick}
-use Rattle.theory_dumps.specs.Dumps.{timeLine, changes}
-use Rattle.theory_dumps.specs.ways.Undump.{behind, orNone, with_row, orEnd, readChanges, readRows, noValues}
+use Rattle.theory_dumps.specs.Dumps.{time_line, changes}
+use Rattle.theory_dumps.specs.ways.Undump.{behind, or_none, with_row, or_end, read_changes, read_rows, no_values}
 use Rattle.theory_dumps.proofs.ReadBack.{behind-is, changes-sound}
-use Rattle.dump.specs.ways.Reading.{RowRead, RowsCounted, rowThen, timedRow, howMany}
+use Rattle.dump.specs.ways.Reading.{RowRead, RowsCounted, row_then, timed_row, how_many}
 use Rattle.dump.proofs.ReadLaws.{no_true}
 
 -- a row takes bytes of the text
 pub no-some : {A : Type 0} (x : A) → none ≡ some x → ⊥
 no-some x e = let z : ◌≡◌ {A = ℕ} 0 1 = cc in omega arith
 
-pub timed-shorter : (number : ℕ) (before text row rest : List ℕ) → timedRow number before text ≡ rowThen row rest → length rest < length text
-unfolding timedRow
-timed-shorter number before text row rest e = go (behind (timeLine number) text) refl e
+pub timed-shorter : (number : ℕ) (before text row rest : List ℕ) → timed_row number before text ≡ row_then row rest → length rest < length text
+unfolding timed_row
+timed-shorter number before text row rest e = go (behind (time_line number) text) refl e
   where
-    go : (o : Option (List ℕ)) → behind (timeLine number) text ≡ o → orNone o (readChanges 0 before) ≡ rowThen row rest → length rest < length text
+    go : (o : Option (List ℕ)) → behind (time_line number) text ≡ o → or_none o (read_changes 0 before) ≡ row_then row rest → length rest < length text
     go none h e = absurd (no-some (row, rest) e)
     go (some lines) h e =
-        let t : text ≡ timeLine number ++ lines = behind-is (timeLine number) text lines h in
-        let c : lines ≡ changes 0 before row ++ rest = (changes-sound before lines row rest 0 e).is-text in
-        let l : 0 < length (timeLine number) = unfold timeLine in omega arith in
-        omega (arith, ap (λ (l : List ℕ). length l) t, ap (λ (l : List ℕ). length l) c, length-append (timeLine number) lines, length-append (changes 0 before row) rest)
+        let t : text ≡ time_line number ++ lines = behind-is (time_line number) text lines h in
+        let c : lines ≡ changes 0 before row ++ rest = (changes-sound before lines row rest 0 e).is_text in
+        let l : 0 < length (time_line number) = unfold time_line in omega arith in
+        omega (arith, ap (λ (l : List ℕ). length l) t, ap (λ (l : List ℕ). length l) c, length-append (time_line number) lines, length-append (changes 0 before row) rest)
 
 -- rows by the first and those behind it
 unfoldable pub rows_from : (most number : ℕ) → List ℕ × List ℕ → Option (List (List ℕ))
-rows_from most number x = with_row x.0 (readRows most (suc number) x.0 x.1)
+rows_from most number x = with_row x.0 (read_rows most (suc number) x.0 x.1)
 
-pub rows_step : (most number : ℕ) (before text : List ℕ) → readRows (suc most) number before text ≡ orEnd text (orNone (timedRow number before text) (rows_from most number))
-unfolding readRows timedRow rows_from
-rows_step most number before text = ap (orEnd text) (go (behind (timeLine number) text))
+pub rows_step : (most number : ℕ) (before text : List ℕ) → read_rows (suc most) number before text ≡ or_end text (or_none (timed_row number before text) (rows_from most number))
+unfolding read_rows timed_row rows_from
+rows_step most number before text = ap (or_end text) (go (behind (time_line number) text))
   where
     go : (o : Option (List ℕ)) →
-        orNone o (λ lines. orNone (readChanges 0 before lines) (λ x. with_row x.0 (readRows most (suc number) x.0 x.1)))
-        ≡ orNone (orNone o (readChanges 0 before)) (rows_from most number)
+        or_none o (λ lines. or_none (read_changes 0 before lines) (λ x. with_row x.0 (read_rows most (suc number) x.0 x.1)))
+        ≡ or_none (or_none o (read_changes 0 before)) (rows_from most number)
     go none = refl
     go (some lines) = refl
 
 -- bytes enough are enough
-rows-most : (most most' number : ℕ) (before text : List ℕ) → length text ≤ most → length text ≤ most' → readRows most number before text ≡ readRows most' number before text
-unfolding readRows rows_from
+rows-most : (most most' number : ℕ) (before text : List ℕ) → length text ≤ most → length text ≤ most' → read_rows most number before text ≡ read_rows most' number before text
+unfolding read_rows rows_from
 rows-most zero zero number before text h h' = refl
 rows-most zero (suc most') number before [] h h' = refl
 rows-most zero (suc most') number before (byte ∷ text) h h' = absurd (omega arith)
@@ -54,10 +54,10 @@ rows-most (suc most) zero number before [] h h' = refl
 rows-most (suc most) zero number before (byte ∷ text) h h' = absurd (omega arith)
 rows-most (suc most) (suc most') number before text h h' =
     rows_step most number before text
-    ∙ ap (orEnd text) (go (timedRow number before text) refl (rows-most most most' (suc number)))
+    ∙ ap (or_end text) (go (timed_row number before text) refl (rows-most most most' (suc number)))
     ∙ sym (rows_step most' number before text)
   where
-    go : (o : Option (List ℕ × List ℕ)) → timedRow number before text ≡ o → ((b t : List ℕ) → length t ≤ most → length t ≤ most' → readRows most (suc number) b t ≡ readRows most' (suc number) b t) → orNone o (rows_from most number) ≡ orNone o (rows_from most' number)
+    go : (o : Option (List ℕ × List ℕ)) → timed_row number before text ≡ o → ((b t : List ℕ) → length t ≤ most → length t ≤ most' → read_rows most (suc number) b t ≡ read_rows most' (suc number) b t) → or_none o (rows_from most number) ≡ or_none o (rows_from most' number)
     go none e more = refl
     go (some x) e more =
         let l : length x.1 < length text = timed-shorter number before text x.0 x.1 e in
@@ -65,33 +65,33 @@ rows-most (suc most) (suc most') number before text h h' =
 
 -- COUNTING
 
-unfoldable pub plusRows : ℕ → Option ℕ → Option ℕ
-plusRows n none = none
-plusRows n (some m) = some (n + m)
+unfoldable pub plus_rows : ℕ → Option ℕ → Option ℕ
+plus_rows n none = none
+plus_rows n (some m) = some (n + m)
 
-no_rows : (o : Option ℕ) → plusRows 0 o ≡ o
-unfolding plusRows
+no_rows : (o : Option ℕ) → plus_rows 0 o ≡ o
+unfolding plus_rows
 no_rows none = refl
 no_rows (some m) = ap some (omega arith)
 
-one-row : (n : ℕ) (row : List ℕ) (o : Option (List (List ℕ))) → plusRows n (howMany (with_row row o)) ≡ plusRows (suc n) (howMany o)
-unfolding plusRows howMany
+one-row : (n : ℕ) (row : List ℕ) (o : Option (List (List ℕ))) → plus_rows n (how_many (with_row row o)) ≡ plus_rows (suc n) (how_many o)
+unfolding plus_rows how_many
 one-row n row none = refl
 one-row n row (some rows) = ap some (omega arith)
 
 -- the rows of a text from a place on, as many bytes as it has
 abbrev pub rows_at : (text : List ℕ) → (number : ℕ) → (before : List ℕ) → (place : ℕ) → Option (List (List ℕ))
-rows_at text number before place = readRows (length (drop place text)) number before (drop place text)
+rows_at text number before place = read_rows (length (drop place text)) number before (drop place text)
 
 pub rows_none : (text : List ℕ) (number : ℕ) (before : List ℕ) (place : ℕ) → length text ≤ place → rows_at text number before place ≡ some []
-unfolding readRows
+unfolding read_rows
 rows_none text number before place h = rw (drop_of_length-le text {i = place} h)
 
-module _ (text : List ℕ) (number : ℕ) (before : List ℕ) (place : ℕ) (h : place < length text) (good : Bool) (row : List ℕ) (end : ℕ) (r : RowRead text (timedRow number before (drop place text)) good row end) where
-  by_row : rows_at text number before place ≡ orNone (pick good (rowThen row (drop end text)) none) (rows_from (length (drop (suc place) text)) number)
+module _ (text : List ℕ) (number : ℕ) (before : List ℕ) (place : ℕ) (h : place < length text) (good : Bool) (row : List ℕ) (end : ℕ) (r : RowRead text (timed_row number before (drop place text)) good row end) where
+  by_row : rows_at text number before place ≡ or_none (pick good (row_then row (drop end text)) none) (rows_from (length (drop (suc place) text)) number)
   by_row =
       let e : drop place text ≡ get_or text place 0 ∷ drop (suc place) text = drop-cons text place 0 h in
-      ap (λ (l : List ℕ). readRows (length l) number before l) e
+      ap (λ (l : List ℕ). read_rows (length l) number before l) e
       ∙ rows_step (length (drop (suc place) text)) number before (get_or text place 0 ∷ drop (suc place) text)
       ∙ rw (← e, r.is)
 
@@ -113,17 +113,17 @@ pub record RowsTo (text : List ℕ) (at : ℕ) (row : List ℕ) (place number : 
   pub within : place ≤ length text
   pub few : number ≤ place
   pub long : length row ≡ 49
-  pub is : howMany (rows_at text 0 noValues at) ≡ plusRows number (howMany (rows_at text number row place))
+  pub is : how_many (rows_at text 0 no_values at) ≡ plus_rows number (how_many (rows_at text number row place))
 
-pub count_none : (text : List ℕ) (at : ℕ) → at ≤ length text → RowsTo text at noValues at 0
-count_none text at h = record { within = h; few = omega arith; long = refl; is = sym (no_rows (howMany (rows_at text 0 noValues at))) }
+pub count_none : (text : List ℕ) (at : ℕ) → at ≤ length text → RowsTo text at no_values at 0
+count_none text at h = record { within = h; few = omega arith; long = refl; is = sym (no_rows (how_many (rows_at text 0 no_values at))) }
 
 module _ (text : List ℕ) (at : ℕ) (before : List ℕ) (place number : ℕ) (t : RowsTo text at before place number) where
-  pub count-end : length text ≤ place → RowsCounted (rows_at text 0 noValues at) true number
-  unfolding plusRows howMany
+  pub count-end : length text ≤ place → RowsCounted (rows_at text 0 no_values at) true number
+  unfolding plus_rows how_many
   count-end h = record { is = t.is ∙ rw (rows_none text number before place h) (ap some (omega arith)); nothing = λ z. absurd (no_true z) }
 
-  module _ (h : place < length text) (good : Bool) (row : List ℕ) (end : ℕ) (r : RowRead text (timedRow number before (drop place text)) good row end) where
+  module _ (h : place < length text) (good : Bool) (row : List ℕ) (end : ℕ) (r : RowRead text (timed_row number before (drop place text)) good row end) where
     pub count-more : good ≡ true → RowsTo text at row end (suc number)
     count-more g =
         record {
@@ -133,6 +133,6 @@ module _ (text : List ℕ) (at : ℕ) (before : List ℕ) (place number : ℕ) (
           is = t.is ∙ rw (rows-good text number before place h good row end r g) (one-row number row (rows_at text (suc number) row end));
         }
 
-    pub count-bad : good ≡ false → RowsCounted (rows_at text 0 noValues at) false 0
-    unfolding plusRows howMany
+    pub count-bad : good ≡ false → RowsCounted (rows_at text 0 no_values at) false 0
+    unfolding plus_rows how_many
     count-bad g = record { is = t.is ∙ rw (rows-bad text number before place h good row end r g); nothing = λ z. refl }

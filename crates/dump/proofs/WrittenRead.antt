@@ -14,7 +14,7 @@ use Rattle.rows.proofs.passes.RowLists.{length-rows, flat_rows}
 use Rattle.theory_readings.specs.Readings.{all_rows}
 use Rattle.theory_dumps.specs.Dumps.{dump}
 use Rattle.theory_dumps.proofs.ReadBack.{Below, Rows, Dumped}
-use Rattle.dump.specs.Dumping.{rowsWrong}
+use Rattle.dump.specs.Dumping.{rows_wrong}
 use Rattle.dump.proofs.Writing.{whole}
 
 below-reduced : (l : List ℕ) → Below (reduced l)
@@ -30,7 +30,7 @@ rows-cells (suc n) cells h =
     let wide : length (take 49 (reduced cells)) ≡ 49 = length-take-le 49 (reduced cells) (omega (arith, length-reduced cells)) in
     ((wide, rw row (below-reduced (take 49 cells))), rw (← (reduced-drop 49 cells)) (rows-cells n (drop 49 cells) (omega (arith, length-drop 49 cells))))
 
-module _ (cells : List ℕ) (right : rowsWrong (length cells) ≡ false) where
+module _ (cells : List ℕ) (right : rows_wrong (length cells) ≡ false) where
   abbrev rows : List (List ℕ)
   rows = all_rows (reduced cells)
 
@@ -43,9 +43,9 @@ module _ (cells : List ℕ) (right : rowsWrong (length cells) ≡ false) where
   dumped =
       let (a, b, c) = whole (length cells) right in
       record {
-        some-rows = omega (arith, many);
+        some_rows = omega (arith, many);
         cells = rows-cells (length (reduced cells) / 49) cells (omega (arith, length-reduced cells));
-        is-dump = refl;
+        is_dump = refl;
       }
 
   -- their cells are the reduced cells

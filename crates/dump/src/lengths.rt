@@ -1,8 +1,8 @@
 // How many bytes the lines of a buffer take.
 ghost use Rattle.std.specs.Prelude.{◌≡◌, ◌+◌, ◌*◌, ◌/◌, ◌≤◌, ◌<◌, length};
-ghost use Rattle.groups.specs.Constants.{rowWidth, mostRows, mostCells};
+ghost use Rattle.groups.specs.Constants.{row_width, most_rows, most_cells};
 ghost use Rattle.theory_dumps.specs.Numerals.{binary, decimal};
-ghost use Rattle.dump.specs.ways.Places.{value_at, oldAt, changeLine, changesTo, linesTo};
+ghost use Rattle.dump.specs.ways.Places.{value_at, old_at, change_line, changes_to, lines_to};
 
 use crate::lines::unchanged;
 use field::cell::cell;
@@ -20,7 +20,7 @@ fn binary_digits(value: u64) -> usize
 
 // How many decimal digits the number of a row has, by the powers of ten.
 fn decimal_digits(row: usize) -> usize
-    requires { row < mostRows }
+    requires { row < most_rows }
     ensures { result ≡ length (decimal row) }
 {
     let mut count = 1;
@@ -34,8 +34,8 @@ fn decimal_digits(row: usize) -> usize
 
 // The bytes of a column's line, 0 where its value did not change.
 fn change_bytes(cells: &[u64], row: usize, column: usize) -> usize
-    requires { (row < mostRows) × (column < rowWidth) × (rowWidth * row + rowWidth ≤ length cells.now) }
-    ensures { result ≡ length (changeLine column (oldAt cells.now row column) (value_at cells.now row column)) }
+    requires { (row < most_rows) × (column < row_width) × (row_width * row + row_width ≤ length cells.now) }
+    ensures { result ≡ length (change_line column (old_at cells.now row column) (value_at cells.now row column)) }
 {
     if unchanged(cells, row, column) {
         return 0;
@@ -45,8 +45,8 @@ fn change_bytes(cells: &[u64], row: usize, column: usize) -> usize
 
 // The bytes of the lines of a row's values that changed.
 fn changes_bytes(cells: &[u64], row: usize) -> usize
-    requires { (row < mostRows) × (rowWidth * row + rowWidth ≤ length cells.now) }
-    ensures { result ≡ length (changesTo cells.now row rowWidth) }
+    requires { (row < most_rows) × (row_width * row + row_width ≤ length cells.now) }
+    ensures { result ≡ length (changes_to cells.now row row_width) }
 {
     let mut bytes = 0;
     let mut column = 0;
@@ -59,8 +59,8 @@ fn changes_bytes(cells: &[u64], row: usize) -> usize
 
 // The bytes of the lines of all rows.
 pub(crate) fn rows_bytes(cells: &[u64]) -> usize
-    requires { length cells.now ≤ mostCells }
-    ensures { result ≡ length (linesTo cells.now (length cells.now / rowWidth)) }
+    requires { length cells.now ≤ most_cells }
+    ensures { result ≡ length (lines_to cells.now (length cells.now / row_width)) }
 {
     let rows = cells.len() / Row::WIDTH;
     let mut bytes = 0;

@@ -1,8 +1,8 @@
 // The rows of a buffer put into a text, each as its time line and the lines of the values that changed.
 ghost use Rattle.std.specs.Prelude.{◌≡◌, ◌+◌, ◌*◌, ◌/◌, ◌≤◌, ◌<◌, eqb, length};
-ghost use Rattle.groups.specs.Constants.{rowWidth, mostRows, mostCells};
+ghost use Rattle.groups.specs.Constants.{row_width, most_rows, most_cells};
 ghost use Rattle.dump.specs.ways.Putting.{Put};
-ghost use Rattle.dump.specs.ways.Places.{value_at, oldAt, changeLine, changesTo, linesTo};
+ghost use Rattle.dump.specs.ways.Places.{value_at, old_at, change_line, changes_to, lines_to};
 
 use crate::text::{put_time, put_value};
 use field::cell::cell;
@@ -10,8 +10,8 @@ use groups::constants::Row;
 
 // Whether a column's value is that of the row before; no value of the first row is. Numbers that are equal as they stand are not reduced.
 pub(crate) fn unchanged(cells: &[u64], row: usize, column: usize) -> bool
-    requires { (row < mostRows) × (column < rowWidth) × (rowWidth * row + rowWidth ≤ length cells.now) }
-    ensures { result ≡ eqb (oldAt cells.now row column) (value_at cells.now row column) }
+    requires { (row < most_rows) × (column < row_width) × (row_width * row + row_width ≤ length cells.now) }
+    ensures { result ≡ eqb (old_at cells.now row column) (value_at cells.now row column) }
 {
     if row == 0 {
         return false;
@@ -26,9 +26,9 @@ pub(crate) fn unchanged(cells: &[u64], row: usize, column: usize) -> bool
 
 // The line of a column, where its value changed.
 fn put_change(text: &mut [u8], at: usize, cells: &[u64], row: usize, column: usize) -> usize
-    requires { (at ≤ 2305843009213693952) × (row < mostRows) × (column < rowWidth) × (rowWidth * row + rowWidth ≤ length cells.now) }
+    requires { (at ≤ 2305843009213693952) × (row < most_rows) × (column < row_width) × (row_width * row + row_width ≤ length cells.now) }
     ensures { Put text.old at
-        (changeLine column (oldAt cells.now row column) (value_at cells.now row column))
+        (change_line column (old_at cells.now row column) (value_at cells.now row column))
         text.new result }
 {
     if unchanged(cells, row, column) {
@@ -39,8 +39,8 @@ fn put_change(text: &mut [u8], at: usize, cells: &[u64], row: usize, column: usi
 
 // The lines of a row's values that changed, in column order.
 fn put_changes(text: &mut [u8], at: usize, cells: &[u64], row: usize) -> usize
-    requires { (at ≤ 1152921504606846976) × (row < mostRows) × (rowWidth * row + rowWidth ≤ length cells.now) }
-    ensures { Put text.old at (changesTo cells.now row rowWidth) text.new result }
+    requires { (at ≤ 1152921504606846976) × (row < most_rows) × (row_width * row + row_width ≤ length cells.now) }
+    ensures { Put text.old at (changes_to cells.now row row_width) text.new result }
 {
     let mut end = at;
     let mut column = 0;
@@ -53,8 +53,8 @@ fn put_changes(text: &mut [u8], at: usize, cells: &[u64], row: usize) -> usize
 
 // The lines of all rows.
 pub(crate) fn put_rows(text: &mut [u8], at: usize, cells: &[u64]) -> usize
-    requires { (at ≤ 65536) × (length cells.now ≤ mostCells) }
-    ensures { Put text.old at (linesTo cells.now (length cells.now / rowWidth)) text.new result }
+    requires { (at ≤ 65536) × (length cells.now ≤ most_cells) }
+    ensures { Put text.old at (lines_to cells.now (length cells.now / row_width)) text.new result }
 {
     let rows = cells.len() / Row::WIDTH;
     let mut end = at;

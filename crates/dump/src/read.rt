@@ -1,9 +1,9 @@
 // Lines of a dump read from a place of a text on.
 ghost use Rattle.std.specs.Prelude.{◌≡◌, ◌≤◌, ◌<◌, length, drop};
-ghost use Rattle.groups.specs.Constants.{mostRows};
-ghost use Rattle.theory_dumps.specs.Dumps.{identifier, timeLine, valueLine};
+ghost use Rattle.groups.specs.Constants.{most_rows};
+ghost use Rattle.theory_dumps.specs.Dumps.{identifier, time_line, value_line};
 ghost use Rattle.theory_dumps.specs.ways.Undump.{behind};
-ghost use Rattle.dump.specs.ways.Scanning.{nextValue, digitsIn, LineOf, LineScanned};
+ghost use Rattle.dump.specs.ways.Scanning.{next_value, digits_in, LineOf, LineScanned};
 ghost use Rattle.dump.specs.ways.Reading.{Behind, NumberRead, ValueRead};
 
 use crate::scan::{Line, digits_at, plain_digits, stands_at};
@@ -33,7 +33,7 @@ pub(crate) fn after(text: &[u8], at: usize, line: &[u8]) -> LineEnd
 // Behind the line of a value, which was scanned.
 fn after_value(text: &[u8], at: usize, column: usize, line: Line) -> LineEnd
     requires { (at ≤ length text.now) × LineOf (drop at text.now) column line.value line.count }
-    ensures { Behind text.now (behind (valueLine column line.value) (drop at text.now)) result.good result.at }
+    ensures { Behind text.now (behind (value_line column line.value) (drop at text.now)) result.good result.at }
 {
     let count = line.count;
     if text.len() - at < 4 {
@@ -59,8 +59,8 @@ fn after_value(text: &[u8], at: usize, column: usize, line: Line) -> LineEnd
 
 // Behind the digits of a row's number.
 fn after_number(text: &[u8], at: usize, row: usize) -> LineEnd
-    requires { (at ≤ length text.now) × (row ≤ mostRows) }
-    ensures { NumberRead (digitsIn (drop at text.now)) row at result.good result.at }
+    requires { (at ≤ length text.now) × (row ≤ most_rows) }
+    ensures { NumberRead (digits_in (drop at text.now)) row at result.good result.at }
 {
     let digits = digits_at(text, at, row as u64);
     if digits.value != row as u64 {
@@ -80,8 +80,8 @@ fn after_number(text: &[u8], at: usize, row: usize) -> LineEnd
 
 // Behind the time line of a row.
 pub(crate) fn after_time(text: &[u8], at: usize, row: usize) -> LineEnd
-    requires { (at ≤ length text.now) × (row ≤ mostRows) }
-    ensures { Behind text.now (behind (timeLine row) (drop at text.now)) result.good result.at }
+    requires { (at ≤ length text.now) × (row ≤ most_rows) }
+    ensures { Behind text.now (behind (time_line row) (drop at text.now)) result.good result.at }
 {
     if at == text.len() {
         return LineEnd { good: false, at: 0 };
@@ -110,7 +110,7 @@ pub(crate) fn after_time(text: &[u8], at: usize, row: usize) -> LineEnd
 pub(crate) fn changed_at(text: &[u8], at: usize, column: usize, line: Line, old: u64) -> LineEnd
     requires at_in_bounds { (at ≤ length text.now) × (line.identifier ≡ identifier column) }
     requires line_scanned { LineScanned (drop at text.now) line.identifier line.value line.count }
-    ensures { ValueRead text.now (nextValue column old (drop at text.now)) result.good line.value result.at }
+    ensures { ValueRead text.now (next_value column old (drop at text.now)) result.good line.value result.at }
 {
     if Felt::MODULUS <= line.value {
         return LineEnd { good: false, at: 0 };

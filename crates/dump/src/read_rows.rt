@@ -1,10 +1,10 @@
 // Rows of a dump read from a place of a text on.
 ghost use Rattle.std.specs.Prelude.{◌≡◌, ◌++◌, ◌*◌, ◌≤◌, length, drop};
-ghost use Rattle.groups.specs.Constants.{rowWidth, mostRows};
-ghost use Rattle.theory_dumps.specs.ways.Undump.{readChanges, noValues, readRows, undump};
+ghost use Rattle.groups.specs.Constants.{row_width, most_rows};
+ghost use Rattle.theory_dumps.specs.ways.Undump.{read_changes, no_values, read_rows, undump};
 ghost use Rattle.rows.specs.records.Buffers.{flat};
-ghost use Rattle.dump.specs.ways.Undumping.{fewRows};
-ghost use Rattle.dump.specs.ways.Reading.{RowRead, timedRow, RowsCounted, theRows, Storable};
+ghost use Rattle.dump.specs.ways.Undumping.{few_rows};
+ghost use Rattle.dump.specs.ways.Reading.{RowRead, timed_row, RowsCounted, the_rows, Storable};
 
 use crate::read::{LineEnd, after_time, changed_at};
 use crate::scan::line_at;
@@ -21,8 +21,8 @@ fn index_of(identifier: u8) -> usize
 
 // The values of a row behind its time line, put over those before: by its next line's column at once, since the columns between have none.
 fn changes_at(text: &[u8], at: usize, row: &mut [u64; 49]) -> LineEnd
-    requires { (at ≤ length text.now) × (length row.old ≡ rowWidth) }
-    ensures { RowRead text.now (readChanges 0 row.old (drop at text.now)) result.good row.new result.at }
+    requires { (at ≤ length text.now) × (length row.old ≡ row_width) }
+    ensures { RowRead text.now (read_changes 0 row.old (drop at text.now)) result.good row.new result.at }
 {
     let mut place = at;
     let mut column = 0;
@@ -52,8 +52,8 @@ fn changes_at(text: &[u8], at: usize, row: &mut [u64; 49]) -> LineEnd
 
 // A row with its time line, put over the values before.
 pub(crate) fn row_at(text: &[u8], at: usize, number: usize, row: &mut [u64; 49]) -> LineEnd
-    requires { (at ≤ length text.now) × (number ≤ mostRows) × (length row.old ≡ rowWidth) }
-    ensures { RowRead text.now (timedRow number row.old (drop at text.now)) result.good row.new result.at }
+    requires { (at ≤ length text.now) × (number ≤ most_rows) × (length row.old ≡ row_width) }
+    ensures { RowRead text.now (timed_row number row.old (drop at text.now)) result.good row.new result.at }
 {
     let start = after_time(text, at, number);
     if start.good {
@@ -72,7 +72,7 @@ pub(crate) struct Counted {
 // Counts the rows from a place on.
 pub(crate) fn count_rows(text: &[u8], at: usize) -> Counted
     requires { at ≤ length text.now }
-    ensures { RowsCounted (fewRows (readRows (length (drop at text.now)) 0 noValues (drop at text.now))) result.good result.rows }
+    ensures { RowsCounted (few_rows (read_rows (length (drop at text.now)) 0 no_values (drop at text.now))) result.good result.rows }
 {
     let mut row = [Felt::MODULUS; 49];
     let mut place = at;
@@ -103,7 +103,7 @@ pub(crate) fn count_rows(text: &[u8], at: usize) -> Counted
 // Stores the rows of a good text.
 pub(crate) fn store_rows(text: &[u8], at: usize, rows: usize, cells: &mut [u64])
     requires { Storable text.now at rows (length cells.old) }
-    ensures { cells.new ≡ flat (theRows (undump text.now)) ++ drop (rowWidth * rows) cells.old }
+    ensures { cells.new ≡ flat (the_rows (undump text.now)) ++ drop (row_width * rows) cells.old }
 {
     let mut row = [Felt::MODULUS; 49];
     let mut place = at;

@@ -1,9 +1,9 @@
 // Reading a dump.
 ghost use Rattle.std.specs.Prelude.{◌≡◌, ◌≤◌, length, drop};
-ghost use Rattle.theory_dumps.specs.ways.Undump.{orNone, readRows, noValues, hasAll, fromFirst};
+ghost use Rattle.theory_dumps.specs.ways.Undump.{or_none, read_rows, no_values, has_all, from_first};
 ghost use Rattle.dump.specs.Dumping.{ReadsDump};
-ghost use Rattle.dump.specs.ways.Undumping.{fewRows};
-ghost use Rattle.dump.specs.ways.Reading.{timedRow, wholeFirst, RowsCounted};
+ghost use Rattle.dump.specs.ways.Undumping.{few_rows};
+ghost use Rattle.dump.specs.ways.Reading.{timed_row, whole_first, RowsCounted};
 
 use crate::header::after_header;
 use crate::read_rows::{Counted, count_rows, row_at, store_rows};
@@ -21,7 +21,7 @@ pub struct DumpRead {
 
 // Whether every column has a value.
 fn has_all(values: [u64; 49]) -> bool
-    ensures { result ≡ hasAll values }
+    ensures { result ≡ has_all values }
 {
     let mut i = 0;
     while i < Row::WIDTH {
@@ -36,7 +36,7 @@ fn has_all(values: [u64; 49]) -> bool
 // Whether there is a first row with all values.
 fn whole_first(text: &[u8], at: usize) -> bool
     requires { at ≤ length text.now }
-    ensures { result ≡ wholeFirst (timedRow 0 noValues (drop at text.now)) }
+    ensures { result ≡ whole_first (timed_row 0 no_values (drop at text.now)) }
 {
     let mut row = [Felt::MODULUS; 49];
     let first = row_at(text, at, 0, &mut row);
@@ -50,7 +50,7 @@ fn whole_first(text: &[u8], at: usize) -> bool
 fn good_rows(text: &[u8], at: usize) -> Counted
     requires { at ≤ length text.now }
     ensures { RowsCounted
-        (fewRows (orNone (readRows (length (drop at text.now)) 0 noValues (drop at text.now)) fromFirst))
+        (few_rows (or_none (read_rows (length (drop at text.now)) 0 no_values (drop at text.now)) from_first))
         result.good result.rows }
 {
     if !whole_first(text, at) {

@@ -2,10 +2,10 @@
 ghost use Rattle.std.specs.Prelude.{◌≡◌, ◌+◌, ◌≤◌, ◌<◌, ltb, length, drop, take, get_or};
 ghost use Rattle.field.specs.Modulus.{P};
 ghost use Rattle.groups.specs.Answer.{pick};
-ghost use Rattle.groups.specs.Constants.{mostRows};
+ghost use Rattle.groups.specs.Constants.{most_rows};
 ghost use Rattle.theory_dumps.specs.ways.Spelled.{plain};
 ghost use Rattle.dump.specs.ways.Reading.{DigitsRead};
-ghost use Rattle.dump.specs.ways.Scanning.{inFront, Scanned, AllScanned, FirstScanned, LineScanned, digitsIn};
+ghost use Rattle.dump.specs.ways.Scanning.{in_front, Scanned, AllScanned, FirstScanned, LineScanned, digits_in};
 
 use field::felt::Felt;
 
@@ -19,7 +19,7 @@ pub(crate) struct Digits {
 // Whether a line stands in a text from a place on.
 pub(crate) fn stands_at(text: &[u8], at: usize, line: &[u8]) -> bool
     requires { at ≤ length text.now }
-    ensures { result ≡ inFront line.now (drop at text.now) }
+    ensures { result ≡ in_front line.now (drop at text.now) }
 {
     if text.len() - at < line.len() {
         return false;
@@ -107,8 +107,8 @@ fn bits_at(text: &[u8], at: usize) -> Digits
 
 // The decimal digits from a place on: how many, and the number that they spell; or a number above `most` where they spell one above it.
 pub(crate) fn digits_at(text: &[u8], at: usize, most: u64) -> Digits
-    requires { (at ≤ length text.now) × (most ≤ mostRows) }
-    ensures { DigitsRead (digitsIn (drop at text.now)) most result.count result.value }
+    requires { (at ≤ length text.now) × (most ≤ most_rows) }
+    ensures { DigitsRead (digits_in (drop at text.now)) most result.count result.value }
 {
     let mut count = 0;
     let mut value = 0;

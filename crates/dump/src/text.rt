@@ -1,7 +1,7 @@
 // Lines put into a text. Where one does not fit, the place behind it is answered all the same, and nothing is said of the text.
 ghost use Rattle.std.specs.Prelude.{◌≤◌, ◌<◌, length};
-ghost use Rattle.groups.specs.Constants.{rowWidth};
-ghost use Rattle.theory_dumps.specs.Dumps.{timeLine, valueLine};
+ghost use Rattle.groups.specs.Constants.{row_width};
+ghost use Rattle.theory_dumps.specs.Dumps.{time_line, value_line};
 ghost use Rattle.dump.specs.ways.Putting.{Put};
 
 use crate::numeral::put_digits;
@@ -25,8 +25,8 @@ pub(crate) fn put_bytes(text: &mut [u8], at: usize, bytes: &[u8]) -> usize
 
 // The line of a value, as `b101 !`.
 pub(crate) fn put_value(text: &mut [u8], at: usize, column: usize, value: u64) -> usize
-    requires { (at ≤ 2305843009213693952) × (column < rowWidth) }
-    ensures { Put text.old at (valueLine column value) text.new result }
+    requires { (at ≤ 2305843009213693952) × (column < row_width) }
+    ensures { Put text.old at (value_line column value) text.new result }
 {
     let mut digits = [0u8; 64];
     let first = put_digits(2, value, &mut digits);
@@ -39,7 +39,7 @@ pub(crate) fn put_value(text: &mut [u8], at: usize, column: usize, value: u64) -
 // The time line of a row, as `#0`.
 pub(crate) fn put_time(text: &mut [u8], at: usize, row: usize) -> usize
     requires { at ≤ 2305843009213693952 }
-    ensures { Put text.old at (timeLine row) text.new result }
+    ensures { Put text.old at (time_line row) text.new result }
 {
     let mut digits = [0u8; 20];
     let first = put_digits(10, row as u64, &mut digits);

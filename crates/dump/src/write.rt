@@ -1,9 +1,9 @@
 // Writing a dump.
 ghost use Rattle.std.specs.Prelude.{◌≡◌, ◌≤◌, length};
 ghost use Rattle.groups.specs.Answer.{refusal, values};
-ghost use Rattle.groups.specs.Constants.{rowWidth, mostCells};
+ghost use Rattle.groups.specs.Constants.{row_width, most_cells};
 ghost use Rattle.theory_dumps.specs.Dumps.{dump};
-ghost use Rattle.dump.specs.Dumping.{rowsWrong, dumping, textAfter};
+ghost use Rattle.dump.specs.Dumping.{rows_wrong, dumping, text_after};
 ghost use Rattle.dump.specs.ways.Putting.{Put};
 
 use crate::header::put_header;
@@ -22,14 +22,14 @@ pub struct DumpWritten {
 
 // Refusal 11.
 fn rows_wrong(cells: usize) -> bool
-    ensures { result ≡ rowsWrong cells }
+    ensures { result ≡ rows_wrong cells }
 {
     buffer_wrong(cells) | (cells < Row::WIDTH)
 }
 
 // How many bytes the dump of a buffer takes; 1400 of them are its header.
 fn dump_bytes(cells: &[u64]) -> usize
-    requires { (rowWidth ≤ length cells.now) × (length cells.now ≤ mostCells) }
+    requires { (row_width ≤ length cells.now) × (length cells.now ≤ most_cells) }
     ensures { result ≡ length (dump cells.now) }
 {
     1400 + rows_bytes(cells)
@@ -37,7 +37,7 @@ fn dump_bytes(cells: &[u64]) -> usize
 
 // Puts the dump of a buffer at the start of a text and answers its bytes.
 fn put_dump(cells: &[u64], text: &mut [u8]) -> usize
-    requires { (rowWidth ≤ length cells.now) × (length cells.now ≤ mostCells) }
+    requires { (row_width ≤ length cells.now) × (length cells.now ≤ most_cells) }
     ensures { Put text.old 0 (dump cells.now) text.new result }
 {
     let at = put_header(text);
@@ -49,7 +49,7 @@ fn put_dump(cells: &[u64], text: &mut [u8]) -> usize
 pub fn write_dump(cells: &[u64], text: &mut [u8]) -> DumpWritten
     ensures refusal_value { (result.refusal ≡ refusal (dumping cells.now (length text.old)))
         × (result.bytes ≡ values 0 (dumping cells.now (length text.old))) }
-    ensures text_after { text.new ≡ textAfter cells.now (dumping cells.now (length text.old)) text.old }
+    ensures text_after { text.new ≡ text_after cells.now (dumping cells.now (length text.old)) text.old }
 {
     if rows_wrong(cells.len()) {
         return DumpWritten {

@@ -4,30 +4,30 @@
 use Rattle.std.proofs.Math.Option.{Option, none, some}
 use Rattle.std.specs.Prelude.{ℕ, ◌*◌}
 use Rattle.groups.specs.Answer.{Answer, accepted, refused, pick}
-use Rattle.groups.specs.Constants.{rowWidth}
+use Rattle.groups.specs.Constants.{row_width}
 use Rattle.groups.specs.declared.group.OpPlace.{OpPlace}
-use Rattle.reader.specs.Views.{viewRefused}
+use Rattle.reader.specs.Views.{view_refused}
 
 -- the first cell of the part
-unfoldable pub viewStart : (cells number : ℕ) → ℕ
-viewStart cells number = pick (viewRefused cells number) 0 (number * rowWidth)
+unfoldable pub view_start : (cells number : ℕ) → ℕ
+view_start cells number = pick (view_refused cells number) 0 (number * row_width)
 
 -- how many cells the part has
-unfoldable pub viewCells : (cells number : ℕ) → ℕ
-viewCells cells number = pick (viewRefused cells number) 0 rowWidth
+unfoldable pub view_cells : (cells number : ℕ) → ℕ
+view_cells cells number = pick (view_refused cells number) 0 row_width
 
 -- of a look-up in an index (N1): 1 where a block encloses the row, else 0
-unfoldable pub enclosingFound : Answer (Option ℕ) → ℕ
-enclosingFound (accepted (some place)) = 1
-enclosingFound (accepted none) = 0
-enclosingFound (refused n) = 0
+unfoldable pub enclosing_found : Answer (Option ℕ) → ℕ
+enclosing_found (accepted (some place)) = 1
+enclosing_found (accepted none) = 0
+enclosing_found (refused n) = 0
 
 -- its place, else 0
-unfoldable pub enclosingPlace : Answer (Option ℕ) → ℕ
-enclosingPlace (accepted (some place)) = place
-enclosingPlace (accepted none) = 0
-enclosingPlace (refused n) = 0
+unfoldable pub enclosing_place : Answer (Option ℕ) → ℕ
+enclosing_place (accepted (some place)) = place
+enclosing_place (accepted none) = 0
+enclosing_place (refused n) = 0
 
 -- of the place of an operation (N7): what is answered on a refusal
-abbrev pub noPlace : OpPlace
-noPlace = record { group = 0; index = 0; following = 0 }
+abbrev pub no_place : OpPlace
+no_place = record { group = 0; index = 0; following = 0 }

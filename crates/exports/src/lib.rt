@@ -2,17 +2,17 @@
 // as a pointer and a length, an array behind a reference as a pointer, a struct by value; instead of a part of a slice its place is answered.
 // Every call takes any numbers and answers 0 or the documents' number of the refusal; a refused place is empty.
 ghost use Rattle.std.specs.Prelude.{◌≡◌, ◌-◌, length};
-ghost use Rattle.rows.specs.records.Buffers.{onRows};
-ghost use Rattle.rows.specs.passes.Passes.{sum_of, builtOf, fixedUp, multiplied, inverted, halted, padded, refusal1, refusal2, refusal3, refusal4, refusal5, refusalAll, allPasses, unlessRefused};
-ghost use Rattle.rows.specs.replay.Calls.{lentScanned, replayed, replayedFragment};
+ghost use Rattle.rows.specs.records.Buffers.{on_rows};
+ghost use Rattle.rows.specs.passes.Passes.{sum_of, built_of, fixed_up, multiplied, inverted, halted, padded, refusal1, refusal2, refusal3, refusal4, refusal5, refusal_all, all_passes, unless_refused};
+ghost use Rattle.rows.specs.replay.Calls.{lent_scanned, replayed, replayed_fragment};
 ghost use Rattle.reader.specs.Reads.{ReadsTrace};
-ghost use Rattle.field.specs.Inverse.{inverseOf};
+ghost use Rattle.field.specs.Inverse.{inverse_of};
 ghost use Rattle.groups.specs.Answer.{refusal, values};
-ghost use Rattle.groups.specs.GroupOfOperation.{placeOfOp};
+ghost use Rattle.groups.specs.GroupOfOperation.{place_of_op};
 ghost use Rattle.theory_indexes.specs.Enclosing.{enclosing};
 ghost use Rattle.index.specs.Building.{BuildsIndex};
-ghost use Rattle.dump.specs.Dumping.{dumping, textAfter, ReadsDump};
-ghost use Rattle.exports.specs.Places.{viewStart, viewCells, enclosingFound, enclosingPlace, noPlace};
+ghost use Rattle.dump.specs.Dumping.{dumping, text_after, ReadsDump};
+ghost use Rattle.exports.specs.Places.{view_start, view_cells, enclosing_found, enclosing_place, no_place};
 
 use dump::read_text::{DumpRead, read_dump};
 use dump::write::{DumpWritten, write_dump};
@@ -43,7 +43,7 @@ pub struct Inverse {
 // The inverse modulo p of any number, 0 for 0 and for p.
 #[unsafe(no_mangle)]
 pub extern "C" fn core_inverse(x: u64) -> Inverse
-    ensures { (result.refusal ≡ 0) × (result.value ≡ inverseOf x) }
+    ensures { (result.refusal ≡ 0) × (result.value ≡ inverse_of x) }
 {
     Inverse {
         refusal: 0,
@@ -61,11 +61,11 @@ pub extern "C" fn core_fixup(
     first_stack_top: &[u64; 16],
 ) -> u32
     ensures value { result ≡ refusal1 buffer.old fragment_size counts.now built.now }
-    ensures buffer_after { buffer.new ≡ unlessRefused
+    ensures buffer_after { buffer.new ≡ unless_refused
         (refusal1 buffer.old fragment_size counts.now built.now)
         buffer.old
-        (onRows (sum_of counts.now)
-        (fixedUp fragment_size first_stack_top.now (builtOf (length counts.now - 1) built.now))
+        (on_rows (sum_of counts.now)
+        (fixed_up fragment_size first_stack_top.now (built_of (length counts.now - 1) built.now))
         buffer.old) }
 {
     fixup_stack_and_system_rows(buffer, fragment_size, counts, built, *first_stack_top)
@@ -75,8 +75,8 @@ pub extern "C" fn core_fixup(
 #[unsafe(no_mangle)]
 pub extern "C" fn core_multiplicities(profile: Profile, buffer: &mut [u64], rows: usize) -> u32
     ensures value { result ≡ refusal2 profile buffer.old rows }
-    ensures buffer_after { buffer.new ≡ unlessRefused (refusal2 profile buffer.old rows) buffer.old
-        (onRows rows (multiplied profile) buffer.old) }
+    ensures buffer_after { buffer.new ≡ unless_refused (refusal2 profile buffer.old rows) buffer.old
+        (on_rows rows (multiplied profile) buffer.old) }
 {
     set_loop_body_multiplicities(profile, buffer, rows)
 }
@@ -85,8 +85,8 @@ pub extern "C" fn core_multiplicities(profile: Profile, buffer: &mut [u64], rows
 #[unsafe(no_mangle)]
 pub extern "C" fn core_invert_helper_column(buffer: &mut [u64], rows: usize) -> u32
     ensures value { result ≡ refusal3 buffer.old rows }
-    ensures buffer_after { buffer.new ≡ unlessRefused (refusal3 buffer.old rows) buffer.old
-        (onRows rows inverted buffer.old) }
+    ensures buffer_after { buffer.new ≡ unless_refused (refusal3 buffer.old rows) buffer.old
+        (on_rows rows inverted buffer.old) }
 {
     invert_helper_column(buffer, rows)
 }
@@ -100,8 +100,8 @@ pub extern "C" fn core_push_halt(
     built: &[u64; 25],
 ) -> u32
     ensures value { result ≡ refusal4 profile buffer.old rows }
-    ensures buffer_after { buffer.new ≡ unlessRefused (refusal4 profile buffer.old rows) buffer.old
-        (onRows rows (halted profile built.now) buffer.old) }
+    ensures buffer_after { buffer.new ≡ unless_refused (refusal4 profile buffer.old rows) buffer.old
+        (on_rows rows (halted profile built.now) buffer.old) }
 {
     push_halt_opcode_row(profile, buffer, rows, *built)
 }
@@ -110,8 +110,8 @@ pub extern "C" fn core_push_halt(
 #[unsafe(no_mangle)]
 pub extern "C" fn core_pad(profile: Profile, buffer: &mut [u64], rows: usize, height: usize) -> u32
     ensures value { result ≡ refusal5 profile buffer.old rows height }
-    ensures buffer_after { buffer.new ≡ unlessRefused (refusal5 profile buffer.old rows height) buffer.old
-        (onRows rows (padded profile height) buffer.old) }
+    ensures buffer_after { buffer.new ≡ unless_refused (refusal5 profile buffer.old rows height) buffer.old
+        (on_rows rows (padded profile height) buffer.old) }
 {
     pad_core_row_major(profile, buffer, rows, height)
 }
@@ -127,11 +127,11 @@ pub extern "C" fn core_finish(
     first_stack_top: &[u64; 16],
     height: usize,
 ) -> u32
-    ensures value { result ≡ refusalAll profile buffer.old fragment_size counts.now built.now height }
-    ensures buffer_after { buffer.new ≡ unlessRefused
-        (refusalAll profile buffer.old fragment_size counts.now built.now height)
+    ensures value { result ≡ refusal_all profile buffer.old fragment_size counts.now built.now height }
+    ensures buffer_after { buffer.new ≡ unless_refused
+        (refusal_all profile buffer.old fragment_size counts.now built.now height)
         buffer.old
-        (allPasses profile fragment_size counts.now built.now first_stack_top.now height buffer.old) }
+        (all_passes profile fragment_size counts.now built.now first_stack_top.now height buffer.old) }
 {
     finish(
         profile,
@@ -162,10 +162,10 @@ pub extern "C" fn core_replay(
     records: &[u64],
     fragment: &mut [u64],
 ) -> Replayed
-    ensures value { result ≡ replayed (lentScanned profile nodes digests batches groups ops directory addresses parents ends fragment) state at
+    ensures value { result ≡ replayed (lent_scanned profile nodes digests batches groups ops directory addresses parents ends fragment) state at
         records.now }
-    ensures fragment_after { fragment.new ≡ replayedFragment
-        (lentScanned profile nodes digests batches groups ops directory addresses parents ends fragment) state at
+    ensures fragment_after { fragment.new ≡ replayed_fragment
+        (lent_scanned profile nodes digests batches groups ops directory addresses parents ends fragment) state at
         records.now fragment.old }
 {
     replay_calls(
@@ -193,7 +193,7 @@ pub struct RowBounds {
 // The place of the row's part of the lent cells, since a part cannot be handed back.
 #[unsafe(no_mangle)]
 pub extern "C" fn core_row(cells: &[u64], number: usize) -> RowBounds
-    ensures { (result.start ≡ viewStart (length cells.now) number) × (result.cells ≡ viewCells (length cells.now) number) }
+    ensures { (result.start ≡ view_start (length cells.now) number) × (result.cells ≡ view_cells (length cells.now) number) }
 {
     let part = row(cells, number);
     if part.len() == 0 {
@@ -225,8 +225,8 @@ pub struct EnclosingBlock {
 // The last block of an index that encloses a row.
 #[unsafe(no_mangle)]
 pub extern "C" fn core_enclosing_block(index: &[u32], row: usize) -> EnclosingBlock
-    ensures { (result.refusal ≡ refusal (enclosing index.now row)) × (result.found ≡ enclosingFound (enclosing index.now row))
-        × (result.place ≡ enclosingPlace (enclosing index.now row)) }
+    ensures { (result.refusal ≡ refusal (enclosing index.now row)) × (result.found ≡ enclosing_found (enclosing index.now row))
+        × (result.place ≡ enclosing_place (enclosing index.now row)) }
 {
     let block = enclosing_block(index, row);
     match block {
@@ -263,10 +263,10 @@ pub struct OperationPlace {
 // operation in the batch, or it lies in no group; 11: the record's group count is above 8.
 #[unsafe(no_mangle)]
 pub extern "C" fn core_op_place(batches: &[u32], record: usize, op: u32) -> OperationPlace
-    ensures { (result.refusal ≡ refusal (placeOfOp batches.now «record» op))
-        × (result.group ≡ (values noPlace (placeOfOp batches.now «record» op)).group)
-        × (result.index ≡ (values noPlace (placeOfOp batches.now «record» op)).index)
-        × (result.following ≡ (values noPlace (placeOfOp batches.now «record» op)).following) }
+    ensures { (result.refusal ≡ refusal (place_of_op batches.now «record» op))
+        × (result.group ≡ (values no_place (place_of_op batches.now «record» op)).group)
+        × (result.index ≡ (values no_place (place_of_op batches.now «record» op)).index)
+        × (result.following ≡ (values no_place (place_of_op batches.now «record» op)).following) }
 {
     let found = op_place(batches, record, op);
     match found {
@@ -290,7 +290,7 @@ pub extern "C" fn core_op_place(batches: &[u32], record: usize, op: u32) -> Oper
 pub extern "C" fn core_write_dump(cells: &[u64], text: &mut [u8]) -> DumpWritten
     ensures refusal_value { (result.refusal ≡ refusal (dumping cells.now (length text.old)))
         × (result.bytes ≡ values 0 (dumping cells.now (length text.old))) }
-    ensures text_after { text.new ≡ textAfter cells.now (dumping cells.now (length text.old)) text.old }
+    ensures text_after { text.new ≡ text_after cells.now (dumping cells.now (length text.old)) text.old }
 {
     write_dump(cells, text)
 }

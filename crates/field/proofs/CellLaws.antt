@@ -35,15 +35,15 @@ length-reduced [] = refl
 length-reduced (x ∷ xs) = rw (length-reduced xs)
 
 -- a cell of the reduced cells is the cell as it is read
-pub getD-reduced : (cells : List ℕ) (i : ℕ) → get_or (reduced cells) i 0 ≡ cell_at cells i
+pub get_or-reduced : (cells : List ℕ) (i : ℕ) → get_or (reduced cells) i 0 ≡ cell_at cells i
 unfolding reduced cell_at
-getD-reduced [] i = refl
-getD-reduced (x ∷ xs) zero = refl
-getD-reduced (x ∷ xs) (suc i) = getD-reduced xs i
+get_or-reduced [] i = refl
+get_or-reduced (x ∷ xs) zero = refl
+get_or-reduced (x ∷ xs) (suc i) = get_or-reduced xs i
 
 pub cell-reduced : (cells : List ℕ) (i : ℕ) → cell_at (reduced cells) i ≡ cell_at cells i
 unfolding cell_at
-cell-reduced cells i = rw (getD-reduced cells i) (read_twice (get_or cells i 0))
+cell-reduced cells i = rw (get_or-reduced cells i) (read_twice (get_or cells i 0))
 
 pub reduced-append : (l m : List ℕ) → reduced (l ++ m) ≡ reduced l ++ reduced m
 unfolding reduced

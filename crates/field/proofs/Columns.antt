@@ -10,51 +10,51 @@ use borrow.Author.Tests.{lt-ltb, le-ltb, eq-eqb, ne_eqb, ltb-true, ltb-false, eq
 use lib.Dec.{ltb, eqb}
 use lib.ListN.{length, get_or, set, length-set, get_or-eq_default}
 use lib.Seq.{ext_get_or, get_or-set_same, get_or-set_other}
-use Rattle.field.specs.Inverse.{inverseOf}
-use Rattle.field.specs.Column.{invertIf, inColumn, invertFrom, invertColumn}
+use Rattle.field.specs.Inverse.{inverse_of}
+use Rattle.field.specs.Column.{invert_if, in_column, invert_from, invert_column}
 use Rattle.field.proofs.InverseLaws.{inverse-zero}
 
-from-length : (l : List ℕ) (i n w c : ℕ) → length (invertFrom l i n w c) ≡ length l
-unfolding invertFrom
+from-length : (l : List ℕ) (i n w c : ℕ) → length (invert_from l i n w c) ≡ length l
+unfolding invert_from
 from-length [] i n w c = refl
 from-length (x ∷ xs) i n w c = ap suc (from-length xs (suc i) n w c)
 
-pub column-length : (l : List ℕ) (n w c : ℕ) → length (invertColumn l n w c) ≡ length l
-unfolding invertColumn
+pub column-length : (l : List ℕ) (n w c : ℕ) → length (invert_column l n w c) ≡ length l
+unfolding invert_column
 column-length l n w c = from-length l 0 n w c
 
-if-zero : (t : Bool) → 0 ≡ invertIf t 0
+if-zero : (t : Bool) → 0 ≡ invert_if t 0
 if-zero true = sym inverse-zero
 if-zero false = refl
 
-from_cell : (l : List ℕ) (i n w c k : ℕ) → get_or (invertFrom l i n w c) k 0 ≡ invertIf (inColumn n w c (i + k)) (get_or l k 0)
-unfolding invertFrom
-from_cell [] i n w c k = if-zero (inColumn n w c (i + k))
-from_cell (x ∷ xs) i n w c zero = ap (λ (m : ℕ). invertIf (inColumn n w c m) x) (sym (add-zero i))
+from_cell : (l : List ℕ) (i n w c k : ℕ) → get_or (invert_from l i n w c) k 0 ≡ invert_if (in_column n w c (i + k)) (get_or l k 0)
+unfolding invert_from
+from_cell [] i n w c k = if-zero (in_column n w c (i + k))
+from_cell (x ∷ xs) i n w c zero = ap (λ (m : ℕ). invert_if (in_column n w c m) x) (sym (add-zero i))
 from_cell (x ∷ xs) i n w c (suc k) =
-    from_cell xs (suc i) n w c k ∙ ap (λ (m : ℕ). invertIf (inColumn n w c m) (get_or xs k 0)) (suc-add i k ∙ sym (add-suc i k))
+    from_cell xs (suc i) n w c k ∙ ap (λ (m : ℕ). invert_if (in_column n w c m) (get_or xs k 0)) (suc-add i k ∙ sym (add-suc i k))
 
 -- each cell: its inverse in the column, else as it was (past the end both are 0)
-pub column-cell : (l : List ℕ) (n w c k : ℕ) → get_or (invertColumn l n w c) k 0 ≡ invertIf (inColumn n w c k) (get_or l k 0)
-unfolding invertColumn
-column-cell l n w c k = from_cell l 0 n w c k ∙ ap (λ (m : ℕ). invertIf (inColumn n w c m) (get_or l k 0)) (zero-add k)
+pub column-cell : (l : List ℕ) (n w c k : ℕ) → get_or (invert_column l n w c) k 0 ≡ invert_if (in_column n w c k) (get_or l k 0)
+unfolding invert_column
+column-cell l n w c k = from_cell l 0 n w c k ∙ ap (λ (m : ℕ). invert_if (in_column n w c m) (get_or l k 0)) (zero-add k)
 
 -- two inversions are equal where they agree on which cells stand in the column
-agree : (l m : List ℕ) (n w c : ℕ) → length m ≡ length l → ((i : ℕ) → i < length l → get_or m i 0 ≡ invertIf (inColumn n w c i) (get_or l i 0)) → m ≡ invertColumn l n w c
+agree : (l m : List ℕ) (n w c : ℕ) → length m ≡ length l → ((i : ℕ) → i < length l → get_or m i 0 ≡ invert_if (in_column n w c i) (get_or l i 0)) → m ≡ invert_column l n w c
 agree l m n w c e h =
-    ext_get_or 0 m (invertColumn l n w c) (e ∙ sym (column-length l n w c))
+    ext_get_or 0 m (invert_column l n w c) (e ∙ sym (column-length l n w c))
     (λ i b. h i (subst (λ (k : ℕ). i < k) e b) ∙ sym (column-cell l n w c i))
 
 -- where a row has no such column, nothing changes
-pub column-outside : (l : List ℕ) (n w c : ℕ) → w ≤ c → l ≡ invertColumn l n w c
-unfolding inColumn
+pub column-outside : (l : List ℕ) (n w c : ℕ) → w ≤ c → l ≡ invert_column l n w c
+unfolding in_column
 column-outside l n w c h = agree l l n w c refl (λ i b. let e : ltb c w ≡ false = le-ltb c w h in rw e)
 
-pub column-none : (l : List ℕ) (w c : ℕ) → l ≡ invertColumn l 0 w c
-unfolding inColumn
+pub column-none : (l : List ℕ) (w c : ℕ) → l ≡ invert_column l 0 w c
+unfolding in_column
 column-none l w c = agree l l 0 w c refl (λ i b. none i (ltb c w))
   where
-    none : (i : ℕ) (t : Bool) → get_or l i 0 ≡ invertIf (t && (ltb (i / w) 0 && eqb (i % w) c)) (get_or l i 0)
+    none : (i : ℕ) (t : Bool) → get_or l i 0 ≡ invert_if (t && (ltb (i / w) 0 && eqb (i % w) c)) (get_or l i 0)
     none i true = let e : ltb (i / w) 0 ≡ false = le-ltb (i / w) 0 (omega arith) in rw e
     none i false = refl
 
@@ -66,8 +66,8 @@ module _ (w c : ℕ) (h : c < w) where
   at-column : (r : ℕ) → (r * w + c) % w ≡ c
   at-column r = mul-add-mod_self_right r w c ∙ mod-eq_of_lt h
 
-  in-column : (n r : ℕ) → inColumn n w c (r * w + c) ≡ ltb r n
-  unfolding inColumn
+  in-column : (n r : ℕ) → in_column n w c (r * w + c) ≡ ltb r n
+  unfolding in_column
   in-column n r =
       let a : ltb c w ≡ true = lt-ltb c w h in
       let b : eqb ((r * w + c) % w) c ≡ true = eq-eqb ((r * w + c) % w) c (at-column r) in
@@ -78,8 +78,8 @@ module _ (w c : ℕ) (h : c < w) where
       and-true false = refl
 
   -- the first r and the first n rows have the same cells of the column where they agree on each cell at that place of its row
-  same_test : (n r i : ℕ) → (i ≡ i / w * w + c → ltb (i / w) n ≡ ltb (i / w) r) → inColumn n w c i ≡ inColumn r w c i
-  unfolding inColumn
+  same_test : (n r i : ℕ) → (i ≡ i / w * w + c → ltb (i / w) n ≡ ltb (i / w) r) → in_column n w c i ≡ in_column r w c i
+  unfolding in_column
   same_test n r i f = go (ℕ_discrete (i % w) c)
     where
       and-false : (t : Bool) → (t && false) ≡ false
@@ -93,18 +93,18 @@ module _ (w c : ℕ) (h : c < w) where
           rw b (ap (λ (t : Bool). ltb c w && t) (and-false (ltb (i / w) n) ∙ sym (and-false (ltb (i / w) r))))
 
   -- one row more
-  pub column-more : (l : List ℕ) (r : ℕ) → r * w + c < length l → set (invertColumn l r w c) (r * w + c) (inverseOf (get_or l (r * w + c) 0)) ≡ invertColumn l (r + 1) w c
+  pub column-more : (l : List ℕ) (r : ℕ) → r * w + c < length l → set (invert_column l r w c) (r * w + c) (inverse_of (get_or l (r * w + c) 0)) ≡ invert_column l (r + 1) w c
   column-more l r b =
       agree l (set m k v) (r + 1) w c (length-set m k v ∙ column-length l r w c) (λ i d. cell i (ℕ_discrete i k))
     where
       m : List ℕ
-      m = invertColumn l r w c
+      m = invert_column l r w c
 
       k : ℕ
       k = r * w + c
 
       v : ℕ
-      v = inverseOf (get_or l k 0)
+      v = inverse_of (get_or l k 0)
 
       next : (a : ℕ) → (a ≡ r → ⊥) → ltb a (r + 1) ≡ ltb a r
       next a n = go (dec_lt a r)
@@ -113,34 +113,34 @@ module _ (w c : ℕ) (h : c < w) where
           go (yes g) = lt-ltb a (r + 1) (omega arith) ∙ sym (lt-ltb a r g)
           go (no g) = let z : ¬ (a ≡ r) = n in le-ltb a (r + 1) (omega (arith, z)) ∙ sym (le-ltb a r (omega arith))
 
-      cell : (i : ℕ) → Dec (i ≡ k) → get_or (set m k v) i 0 ≡ invertIf (inColumn (r + 1) w c i) (get_or l i 0)
+      cell : (i : ℕ) → Dec (i ≡ k) → get_or (set m k v) i 0 ≡ invert_if (in_column (r + 1) w c i) (get_or l i 0)
       cell i (yes e) =
           ap (λ (j : ℕ). get_or (set m k v) j 0) e
           ∙ get_or-set_same m k v 0 (subst (λ (j : ℕ). k < j) (sym (column-length l r w c)) b)
-          ∙ ap (λ (t : Bool). invertIf t (get_or l k 0)) (sym (in-column (r + 1) r ∙ lt-ltb r (r + 1) (omega arith)))
-          ∙ ap (λ (j : ℕ). invertIf (inColumn (r + 1) w c j) (get_or l j 0)) (sym e)
+          ∙ ap (λ (t : Bool). invert_if t (get_or l k 0)) (sym (in-column (r + 1) r ∙ lt-ltb r (r + 1) (omega arith)))
+          ∙ ap (λ (j : ℕ). invert_if (in_column (r + 1) w c j) (get_or l j 0)) (sym e)
       cell i (no n) =
           get_or-set_other m k i v 0 n ∙ column-cell l r w c i
-          ∙ ap (λ (t : Bool). invertIf t (get_or l i 0))
+          ∙ ap (λ (t : Bool). invert_if t (get_or l i 0))
           (sym (same_test (r + 1) r i (λ e. next (i / w) (λ q. n (e ∙ ap (λ (j : ℕ). j * w + c) q)))))
 
   -- the cell of row r is not in the first r rows
-  pub column-here : (l : List ℕ) (r : ℕ) → get_or (invertColumn l r w c) (r * w + c) 0 ≡ get_or l (r * w + c) 0
+  pub column-here : (l : List ℕ) (r : ℕ) → get_or (invert_column l r w c) (r * w + c) 0 ≡ get_or l (r * w + c) 0
   column-here l r =
       column-cell l r w c (r * w + c)
-      ∙ ap (λ (t : Bool). invertIf t (get_or l (r * w + c) 0)) (in-column r r ∙ le-ltb r r (omega arith))
+      ∙ ap (λ (t : Bool). invert_if t (get_or l (r * w + c) 0)) (in-column r r ∙ le-ltb r r (omega arith))
 
   -- rows that the buffer does not hold add nothing
-  pub column-past : (l : List ℕ) (r n : ℕ) → r ≤ n → length l ≤ r * w + c → invertColumn l r w c ≡ invertColumn l n w c
-  column-past l r n g b = agree l (invertColumn l r w c) n w c (column-length l r w c) cell
+  pub column-past : (l : List ℕ) (r n : ℕ) → r ≤ n → length l ≤ r * w + c → invert_column l r w c ≡ invert_column l n w c
+  column-past l r n g b = agree l (invert_column l r w c) n w c (column-length l r w c) cell
     where
       below : (a : ℕ) → a * w + c < r * w + c → a < r
       below a d = let z : ¬ (r ≤ a) = λ q. (let m : r * w ≤ a * w = mul-le-mul_right w q in omega (arith, m, d)) in omega (arith, z)
 
-      cell : (i : ℕ) → i < length l → get_or (invertColumn l r w c) i 0 ≡ invertIf (inColumn n w c i) (get_or l i 0)
+      cell : (i : ℕ) → i < length l → get_or (invert_column l r w c) i 0 ≡ invert_if (in_column n w c i) (get_or l i 0)
       cell i d =
           column-cell l r w c i
-          ∙ ap (λ (t : Bool). invertIf t (get_or l i 0))
+          ∙ ap (λ (t : Bool). invert_if t (get_or l i 0))
           (sym (same_test n r i (λ e. both i (below (i / w) (subst (λ (j : ℕ). j < r * w + c) e (omega arith))))))
         where
           both : (i : ℕ) → i / w < r → ltb (i / w) n ≡ ltb (i / w) r

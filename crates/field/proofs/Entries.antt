@@ -8,7 +8,7 @@ use native.Mathlib.Omega.{arith}
 use lib.Dec.{T, eqb, ltb, leb, eqb→eq, ltb→lt, leb→le}
 use lib.ListN.{get_or, length}
 use Rattle.field.specs.Modulus.{P}
-use Rattle.field.specs.Inverse.{inverseOf}
+use Rattle.field.specs.Inverse.{inverse_of}
 use Rattle.field.specs.Table.{TableRule}
 use Rattle.field.proofs.Every.{at, both, both_left, both_right, every}
 use Rattle.field.proofs.InverseLaws.{inverse-is, inverse-zero}
@@ -29,15 +29,15 @@ pub table-rule : (table : List ℕ) → T (leb 128 (length table)) → T (every 
 table-rule table l t =
     record {
       of_zero = eqb→eq (get_or table 0 0) 0 (at good table t 0 (le_trans (omega arith) long));
-      of-index = λ k h b. good-entry k (get_or table k 0) (at good table t k (le_trans b long)) h;
+      of_index = λ k h b. good-entry k (get_or table k 0) (at good table t k (le_trans b long)) h;
     }
   where
     long : 128 ≤ length table
     long = leb→le 128 (length table) l
 
 -- every entry is the inverse of its index
-pub entry-inverse : (table : List ℕ) → TableRule table → (k : ℕ) → k < 128 → get_or table k 0 ≡ inverseOf k
+pub entry-inverse : (table : List ℕ) → TableRule table → (k : ℕ) → k < 128 → get_or table k 0 ≡ inverse_of k
 entry-inverse table rule zero h = rule.of_zero ∙ sym inverse-zero
 entry-inverse table rule (suc k) h =
-    let w = rule.of-index (suc k) (omega arith) h in
+    let w = rule.of_index (suc k) (omega arith) h in
     inverse-is (suc k) (get_or table (suc k) 0) (omega arith) (omega arith) w.1 w.0

@@ -6,7 +6,7 @@ use native.Mathlib.Nat.{mod-lt, mod-mod, mod-eq_of_lt, mul_assoc, mul_comm, one-
 use native.Mathlib.Decide.{ℕ_discrete, dec_le}
 use native.Mathlib.Omega.{arith}
 use Rattle.field.specs.Modulus.{P}
-use Rattle.field.specs.Inverse.{IsInverse, euclid, inverseOf}
+use Rattle.field.specs.Inverse.{IsInverse, euclid, inverse_of}
 use Rattle.field.proofs.Remainders.{mul-cong, add_cong, add-cancel, mod_below}
 use Rattle.field.proofs.Bezout.{coprime}
 
@@ -94,67 +94,67 @@ run (suc n) x a (suc b) s t h l f k =
 nonzero : (x : ℕ) → 0 < x → x < P → (euclid x P x 0 1 < P) × ((x * euclid x P x 0 1) % P ≡ 1)
 nonzero x h l = run x x P x 0 1 h l (omega arith) (start x)
 
--- Existence: what `inverseOf` computes is the inverse.
-pub inverse-law : (x : ℕ) → IsInverse x (inverseOf x)
-unfolding inverseOf euclid
-inverse-law x = record { of_zero = λ e. ap (λ (n : ℕ). euclid n P n 0 1) e; of-nonzero = of-nonzero }
+-- Existence: what `inverse_of` computes is the inverse.
+pub inverse-law : (x : ℕ) → IsInverse x (inverse_of x)
+unfolding inverse_of euclid
+inverse-law x = record { of_zero = λ e. ap (λ (n : ℕ). euclid n P n 0 1) e; of_nonzero = of_nonzero }
   where
-    of-nonzero : (x % P ≡ 0 → ⊥) → (inverseOf x < P) × ((x * inverseOf x) % P ≡ 1)
-    of-nonzero n =
+    of_nonzero : (x % P ≡ 0 → ⊥) → (inverse_of x < P) × ((x * inverse_of x) % P ≡ 1)
+    of_nonzero n =
         let z : ¬ (x % P ≡ 0) = n in
         let w = nonzero (x % P) (omega (arith, z)) (mod_below x) in
-        (w.0, mul-cong x (x % P) (inverseOf x) (inverseOf x) P (sym (mod-mod x P)) refl ∙ w.1)
+        (w.0, mul-cong x (x % P) (inverse_of x) (inverse_of x) P (sym (mod-mod x P)) refl ∙ w.1)
 
-pub inverse-below : (x : ℕ) → inverseOf x < P
+pub inverse-below : (x : ℕ) → inverse_of x < P
 inverse-below x = go (ℕ_discrete (x % P) 0)
   where
-    go : Dec (x % P ≡ 0) → inverseOf x < P
+    go : Dec (x % P ≡ 0) → inverse_of x < P
     go (yes e) = subst (λ (n : ℕ). n < P) (sym ((inverse-law x).of_zero e)) (omega arith)
-    go (no n) = ((inverse-law x).of-nonzero n).0
+    go (no n) = ((inverse-law x).of_nonzero n).0
 
 -- what has an inverse cancels
 pub mul-cancel : (x a b : ℕ) → (x % P ≡ 0 → ⊥) → (x * a) % P ≡ (x * b) % P → a % P ≡ b % P
 mul-cancel x a b n e = sym (back a) ∙ mul-cong y y (x * a) (x * b) P refl e ∙ back b
   where
     y : ℕ
-    y = inverseOf x
+    y = inverse_of x
 
     back : (z : ℕ) → (y * (x * z)) % P ≡ z % P
     back z =
         ap (λ (m : ℕ). m % P) (sym (mul_assoc y x z) ∙ ap (λ (m : ℕ). m * z) (mul_comm y x))
-        ∙ mul-cong (x * y) 1 z z P ((inverse-law x).of-nonzero n).1 refl
+        ∙ mul-cong (x * y) 1 z z P ((inverse-law x).of_nonzero n).1 refl
         ∙ ap (λ (m : ℕ). m % P) (one-mul z)
 
 -- Uniqueness: the law leaves one number.
-pub inverse-unique : (x y : ℕ) → IsInverse x y → y ≡ inverseOf x
+pub inverse-unique : (x y : ℕ) → IsInverse x y → y ≡ inverse_of x
 inverse-unique x y k = go (ℕ_discrete (x % P) 0)
   where
-    go : Dec (x % P ≡ 0) → y ≡ inverseOf x
+    go : Dec (x % P ≡ 0) → y ≡ inverse_of x
     go (yes e) = k.of_zero e ∙ sym ((inverse-law x).of_zero e)
     go (no n) =
-        let w = (inverse-law x).of-nonzero n in
-        let v = k.of-nonzero n in
-        sym (mod-eq_of_lt v.0) ∙ mul-cancel x y (inverseOf x) n (v.1 ∙ sym w.1) ∙ mod-eq_of_lt w.0
+        let w = (inverse-law x).of_nonzero n in
+        let v = k.of_nonzero n in
+        sym (mod-eq_of_lt v.0) ∙ mul-cancel x y (inverse_of x) n (v.1 ∙ sym w.1) ∙ mod-eq_of_lt w.0
 
 -- for a number from 1 to p - 1 the product alone decides
-pub inverse-is : (x y : ℕ) → 0 < x → x < P → y < P → (x * y) % P ≡ 1 → y ≡ inverseOf x
+pub inverse-is : (x y : ℕ) → 0 < x → x < P → y < P → (x * y) % P ≡ 1 → y ≡ inverse_of x
 inverse-is x y h l b e =
     inverse-unique x y
-    (record { of_zero = λ z. absurd (positive z); of-nonzero = λ n. (b, e) })
+    (record { of_zero = λ z. absurd (positive z); of_nonzero = λ n. (b, e) })
   where
     positive : x % P ≡ 0 → ⊥
     positive z = let q : x % P ≡ x = mod-eq_of_lt l in omega (arith, q)
 
 -- the inverse goes by the number modulo p
-pub inverse-mod : (x : ℕ) → inverseOf (x % P) ≡ inverseOf x
-unfolding inverseOf
+pub inverse-mod : (x : ℕ) → inverse_of (x % P) ≡ inverse_of x
+unfolding inverse_of
 inverse-mod x = ap (λ (n : ℕ). euclid n P n 0 1) (mod-mod x P)
 
-pub inverse-reduced : (x y : ℕ) → y ≡ x % P → inverseOf y ≡ inverseOf x
-inverse-reduced x y e = ap inverseOf e ∙ inverse-mod x
+pub inverse-reduced : (x y : ℕ) → y ≡ x % P → inverse_of y ≡ inverse_of x
+inverse-reduced x y e = ap inverse_of e ∙ inverse-mod x
 
-pub inverse-zero : inverseOf 0 ≡ 0
-unfolding inverseOf euclid
+pub inverse-zero : inverse_of 0 ≡ 0
+unfolding inverse_of euclid
 inverse-zero = refl
 
 -- a product is 0 modulo p only where a factor is

@@ -5,4 +5,4 @@ use Rattle.field.specs.Modulus.{P}
 
 pub record TableRule (table : List ℕ) : Type 0 where
   pub of_zero : get_or table 0 0 ≡ 0
-  pub of-index : (k : ℕ) → 0 < k → k < 128 → ((k * get_or table k 0) % P ≡ 1) × (get_or table k 0 < P)
+  pub of_index : (k : ℕ) → 0 < k → k < 128 → ((k * get_or table k 0) % P ≡ 1) × (get_or table k 0 < P)

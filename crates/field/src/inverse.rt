@@ -2,10 +2,10 @@
 // those of numbers below 1,024 that it has computed.
 ghost use Rattle.std.specs.Prelude.{◌≡◌, ◌<◌};
 ghost use Rattle.field.specs.Modulus.{P};
-ghost use Rattle.field.specs.Inverse.{inverseOf};
+ghost use Rattle.field.specs.Inverse.{inverse_of};
 ghost use Rattle.field.specs.Table.{TableRule};
 ghost use Rattle.field.specs.ways.KeptInverses.{KeptInverses};
-ghost use Rattle.field.specs.Column.{invertColumn};
+ghost use Rattle.field.specs.Column.{invert_column};
 
 use crate::felt::{Felt, reduce};
 use crate::table::INVERSES;
@@ -13,7 +13,7 @@ use crate::table::INVERSES;
 // The inverse of a number from 1 to p - 1, by Euclid's algorithm without signs: x·s is -u and x·t is v modulo p.
 fn euclid_inverse(x: u64) -> u64
     requires { (0 < x) × (x < P) }
-    ensures { result ≡ inverseOf x }
+    ensures { result ≡ inverse_of x }
 {
     let mut u = Felt::MODULUS;
     let mut v = x;
@@ -40,7 +40,7 @@ fn inverses() -> [u64; 128]
 
 // The inverse of any number: 0 for a multiple of p.
 pub fn inverse(x: u64) -> u64
-    ensures { result ≡ inverseOf x }
+    ensures { result ≡ inverse_of x }
 {
     let y = reduce(x);
     if y < 128 {
@@ -53,7 +53,7 @@ pub fn inverse(x: u64) -> u64
 // The inverse of any number in a column: looked up below 128; below 1,024 computed once and kept; else computed.
 fn inverse_kept(table: &[u64; 128], kept: &mut [u64; 1024], x: u64) -> u64
     requires { TableRule table.now × KeptInverses kept.old }
-    ensures value { result ≡ inverseOf x }
+    ensures value { result ≡ inverse_of x }
     ensures kept_inverses { KeptInverses kept.new }
 {
     let y = reduce(x);
@@ -75,7 +75,7 @@ fn inverse_kept(table: &[u64; 128], kept: &mut [u64; 1024], x: u64) -> u64
 // Replaces by its inverse each cell in the given column of the first `rows` rows of `width` cells. Rows that the buffer does not
 // hold, and a column that a row does not have, are left out.
 pub fn invert_column(cells: &mut [u64], rows: usize, width: usize, column: usize)
-    ensures { cells.new ≡ invertColumn cells.old rows width column }
+    ensures { cells.new ≡ invert_column cells.old rows width column }
 {
     if width <= column {
         return;

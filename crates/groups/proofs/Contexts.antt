@@ -7,12 +7,12 @@ use native.Mathlib.Omega.{arith}
 use lib.Dec.{ltb}
 use Rattle.field.specs.Cells.{cell_at}
 use Rattle.groups.specs.Answer.{Answer, accepted, refused, and_then, pick}
-use Rattle.groups.specs.Batches.{startsAt}
-use Rattle.groups.specs.GroupsLeft.{counts, groupSum, pushes}
-use Rattle.groups.specs.GroupOfOperation.{group_of, toldGroup}
-use Rattle.groups.specs.Constants.{overTotal, badLength}
-use Rattle.groups.specs.Contexts.{sumBefore, groupCell, consumed, contextInGroup, opContext, tooLarge}
-use Rattle.groups.specs.ways.ContextsByCount.{largeBy, contextIn}
+use Rattle.groups.specs.Batches.{starts_at}
+use Rattle.groups.specs.GroupsLeft.{counts, group_sum, pushes}
+use Rattle.groups.specs.GroupOfOperation.{group_of, told_group}
+use Rattle.groups.specs.Constants.{over_total, bad_length}
+use Rattle.groups.specs.Contexts.{sum_before, group_cell, consumed, context_in_group, op_context, too_large}
+use Rattle.groups.specs.ways.ContextsByCount.{large_by, context_in}
 use Rattle.groups.specs.declared.context.BasicBlockContext.{BasicBlockContext}
 use Rattle.groups.specs.declared.batch.OpBatch.{OpBatch}
 use Rattle.groups.specs.declared.batch.BasicBlockNode.{BasicBlockNode}
@@ -30,7 +30,7 @@ counts-first batches first n =
 
 -- the three parts of what is consumed
 pub consumed-is : (push : ℕ) (batches groups : List ℕ) (block : BasicBlockNode) (index : ℕ) (place : OpPlace) (sum : GroupSum) (group count : ℕ)
-    → sum ≡ groupSum true (counts batches (block.first_batch + 0) (index - 0))
+    → sum ≡ group_sum true (counts batches (block.first_batch + 0) (index - 0))
     → group ≡ cell_at groups (8 * (block.first_batch + index) + place.group)
     → count ≡ pushes push place.index group
     → consumed push block batches groups index place ≡ sum.groups + count + place.group + 1
@@ -39,13 +39,13 @@ consumed-is push batches groups block index place sum group count s g e = rw (e,
 
 -- a batch has eight groups, of nine operations at most
 pub in-batch : (batches : List ℕ) (block : BasicBlockNode) (index ops op : ℕ) (starts : List ℕ) (found : GroupFound) (place : OpPlace)
-    → starts ≡ startsAt batches block index → toldGroup found ≡ group_of starts ops op → found ≡ GroupFound.In place
+    → starts ≡ starts_at batches block index → told_group found ≡ group_of starts ops op → found ≡ GroupFound.In place
     → (place.group ≤ 7) × (place.index ≤ 8)
-unfolding startsAt
+unfolding starts_at
 in-batch batches block index ops op starts found place s t e =
-    let h = lies (startsAt batches block index) ops op place (rw (e, s) at t) in
-    let g = h.a-group in
-    (omega arith, h.up-to-8)
+    let h = lies (starts_at batches block index) ops op place (rw (e, s) at t) in
+    let g = h.a_group in
+    (omega arith, h.up_to_8)
 
 two-picks : {A B : Type 0} (b c : Bool) (m n : ℕ) (x : A) (f : A → Answer B) →
     pick b (refused m) (pick c (refused n) (f x)) ≡ and_then (pick b (refused m) (pick c (refused n) (accepted x))) f
@@ -55,17 +55,17 @@ two-picks false false m n x f = refl
 
 -- the context at an operation, by what its row shows
 pub in-group-is : (push : ℕ) (block : BasicBlockNode) (batches groups : List ℕ) (index : ℕ) (batch : OpBatch) (place : OpPlace) →
-    contextInGroup push block batches groups index batch place
-    ≡ and_then (contextIn push block batches groups index batch.group_count place) (λ context. accepted (record { context = context; batch = batch; place = place }))
-unfolding contextInGroup contextIn opContext tooLarge
+    context_in_group push block batches groups index batch place
+    ≡ and_then (context_in push block batches groups index batch.group_count place) (λ context. accepted (record { context = context; batch = batch; place = place }))
+unfolding context_in_group context_in op_context too_large
 in-group-is push block batches groups index batch place =
     two-picks {A = BasicBlockContext}
     (ltb block.total (consumed push block batches groups index place))
-    (largeBy block batch.group_count (sumBefore batches block index).above8)
-    overTotal
-    badLength
+    (large_by block batch.group_count (sum_before batches block index).above8)
+    over_total
+    bad_length
     (record {
-      current_op_group = groupCell groups block index place / 2 ^ (7 * (place.index + 1));
+      current_op_group = group_cell groups block index place / 2 ^ (7 * (place.index + 1));
       group_count_in_block = block.total - consumed push block batches groups index place;
     })
     (λ context. accepted (record { context = context; batch = batch; place = place }))

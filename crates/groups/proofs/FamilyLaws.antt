@@ -2,16 +2,16 @@
 use mathlib.Core.Path.{◌≡◌, refl}
 use Prim.Native.Nat.{ℕ}
 use native.Mathlib.Omega.{arith}
-use Rattle.field.specs.Inverse.{inverseOf}
+use Rattle.field.specs.Inverse.{inverse_of}
 use Rattle.field.proofs.InverseLaws.{inverse-reduced}
 use Rattle.groups.specs.declared.helpers.OperationHelperRegisters.{OperationHelperRegisters}
 use Rattle.groups.specs.declared.helpers.OperationHelperRegisters.TheVariants.{Eq, U32Split, Eqz, Expacc, FriExt2Fold4, U32Add, U32Add3, U32Sub, U32Mul, U32Madd, U32Div, U32Assert2, HPerm, MerklePath, HornerEvalBase, HornerEvalExt, LogDeferred, Empty}
-use Rattle.groups.specs.Helpers.{all_below, readRegisters, u32Values, minus, helpersOf, helpersOfCells}
-use Rattle.groups.specs.ways.Families.{familyOf, readFamily, foundOf}
+use Rattle.groups.specs.Helpers.{all_below, read_registers, u32_values, minus, helpers_of, helpers_of_cells}
+use Rattle.groups.specs.ways.Families.{family_of, read_family, found_of}
 
 -- reading a family's numbers is reading its case's
-pub read-law : (r : OperationHelperRegisters) → readFamily (familyOf r) ≡ familyOf (readRegisters r)
-unfolding readRegisters
+pub read-law : (r : OperationHelperRegisters) → read_family (family_of r) ≡ family_of (read_registers r)
+unfolding read_registers
 read-law (Eq second first) = refl
 read-law (U32Split lo hi) = refl
 read-law (Eqz top) = refl
@@ -32,11 +32,11 @@ read-law (LogDeferred addr root) = refl
 read-law Empty = refl
 
 -- the inverse of x − 0 is that of x
-minus-zero : (x : ℕ) → inverseOf (minus x 0) ≡ inverseOf x
+minus-zero : (x : ℕ) → inverse_of (minus x 0) ≡ inverse_of x
 minus-zero x = inverse-reduced x (minus x 0) (omega arith)
 
-pub found-law : (r : OperationHelperRegisters) → foundOf (familyOf r) ≡ helpersOfCells r
-unfolding foundOf all_below u32Values helpersOf helpersOfCells
+pub found-law : (r : OperationHelperRegisters) → found_of (family_of r) ≡ helpers_of_cells r
+unfolding found_of all_below u32_values helpers_of helpers_of_cells
 found-law (Eq second first) = refl
 found-law (U32Split lo hi) = refl
 found-law (Eqz top) = rw minus-zero

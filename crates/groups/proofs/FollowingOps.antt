@@ -9,9 +9,9 @@ use borrow.Author.Tests.{leb-false}
 use lib.Dec.{leb, ltb}
 use lib.ListN.{length, get_or}
 use Rattle.groups.specs.Answer.{Answer, accepted, refused, and_then, pick}
-use Rattle.groups.specs.Batches.{startsOf}
+use Rattle.groups.specs.Batches.{starts_of}
 use Rattle.groups.specs.declared.group.OpPlace.{OpPlace}
-use Rattle.groups.specs.GroupOfOperation.{falling, followingOps, groupFrom, group_of, placeOfOp, LiesAt}
+use Rattle.groups.specs.GroupOfOperation.{falling, following_ops, group_from, group_of, place_of_op, LiesAt}
 use Rattle.groups.proofs.Answers.{never}
 use Rattle.groups.proofs.OneGroup.{by-test, neither, rising, lies}
 
@@ -28,7 +28,7 @@ not-smaller (x ∷ y ∷ ys) (suc j) (suc k) f h l = not-smaller (y ∷ ys) j k 
 in-batch : (s : List ℕ) (ops op : ℕ) (p : OpPlace) → group_of s ops op ≡ accepted p → (op < ops) × (falling s ≡ false)
 unfolding group_of
 in-batch s ops op p e =
-    by-test (leb ops op || falling s) (refused 6) (groupFrom s ops op 0) (accepted p) e
+    by-test (leb ops op || falling s) (refused 6) (group_from s ops op 0) (accepted p) e
     (λ t f. never 6 p f)
     (λ t f. let (a, b) = neither (leb ops op) (falling s) t in (leb-false ops op a, b))
 
@@ -37,8 +37,8 @@ pub fold_end : (s : List ℕ) (ops op : ℕ) (p : OpPlace) → group_of s ops op
 fold_end s ops op p e j h =
     let at = lies s ops op p (sym e) in
     let l = (in-batch s ops op p e).0 in (
-      λ w. omega (arith, at.followed-by, at.before-next, l, w.0, w.1),
-      λ w. (omega (arith, at.followed-by, at.before-next, l, w), omega (arith, at.followed-by, at.before-next, l, w)),
+      λ w. omega (arith, at.followed_by, at.before_next, l, w.0, w.1),
+      λ w. (omega (arith, at.followed_by, at.before_next, l, w), omega (arith, at.followed_by, at.before_next, l, w)),
     )
 
 module _ (s : List ℕ) (ops i : ℕ) (p q : OpPlace) (found : group_of s ops i ≡ accepted p) (found' : group_of s ops (i + 1) ≡ accepted q) where
@@ -58,22 +58,22 @@ module _ (s : List ℕ) (ops i : ℕ) (p q : OpPlace) (found : group_of s ops i 
   not-before : p.group ≤ q.group
   not-before =
       let l : ¬ (q.group < p.group) = λ h.
-      let m = not-smaller s (q.group + 1) p.group not-falling (omega (arith, h)) (omega (arith, here.a-group)) in
-      omega (arith, m, here.from_start, there.before-next) in
+      let m = not-smaller s (q.group + 1) p.group not-falling (omega (arith, h)) (omega (arith, here.a_group)) in
+      omega (arith, m, here.from_start, there.before_next) in
       omega (arith, l)
 
   -- in the same group one fewer follow
   same : q.group ≡ p.group → p.following ≡ q.following + 1
   same e =
-      let n : q.following ≡ followingOps (get_or s (p.group + 1) 0) ops (i + 1) = there.followed-by ∙ ap (λ (g : ℕ). followingOps (get_or s (g + 1) 0) ops (i + 1)) e in
-      let b : i + 1 < get_or s (p.group + 1) 0 = rw e at there.before-next in
-      omega (arith, here.followed-by, n, b, inside)
+      let n : q.following ≡ following_ops (get_or s (p.group + 1) 0) ops (i + 1) = there.followed_by ∙ ap (λ (g : ℕ). following_ops (get_or s (g + 1) 0) ops (i + 1)) e in
+      let b : i + 1 < get_or s (p.group + 1) 0 = rw e at there.before_next in
+      omega (arith, here.followed_by, n, b, inside)
 
   -- before a later group none does
   later : p.group < q.group → p.following ≡ 0
   later l =
-      let m = not-smaller s (p.group + 1) q.group not-falling (omega arith) (omega (arith, there.a-group)) in
-      omega (arith, here.followed-by, here.before-next, m, there.from_start, inside)
+      let m = not-smaller s (p.group + 1) q.group not-falling (omega arith) (omega (arith, there.a_group)) in
+      omega (arith, here.followed_by, here.before_next, m, there.from_start, inside)
 
   -- "if operations i and i + 1 of a batch are both found, i's number is n + 1 exactly where i + 1 lies in the same group with the number n,
   -- and 0 exactly where i + 1 lies in a later group"
@@ -98,10 +98,10 @@ unless-found (accepted q) t p e = by-test t (refused 11) (accepted q) (accepted 
 unless-found (refused n) t p e = never n p e
 
 -- what the batch records alone tell of an operation is its place by the record's own starts: the laws above are laws of `op_place` too
-pub told-found : (batches : List ℕ) (r op : ℕ) (p : OpPlace) → placeOfOp batches r op ≡ accepted p → group_of (startsOf batches r) (get_or batches (12 * r + 10) 0) op ≡ accepted p
-unfolding placeOfOp
+pub told-found : (batches : List ℕ) (r op : ℕ) (p : OpPlace) → place_of_op batches r op ≡ accepted p → group_of (starts_of batches r) (get_or batches (12 * r + 10) 0) op ≡ accepted p
+unfolding place_of_op
 told-found batches r op p e =
-    let found = group_of (startsOf batches r) (get_or batches (12 * r + 10) 0) op in
+    let found = group_of (starts_of batches r) (get_or batches (12 * r + 10) 0) op in
     let few = ltb 8 (get_or batches (12 * r) 0) in
     by-test (leb (12 * r + 12) (length batches)) (and_then found (λ place. pick few (refused 11) (accepted place))) (refused 5) (accepted p) e
     (λ h f. unless-found found few p f)

@@ -10,7 +10,7 @@ use lib.Dec.{leb, ltb}
 use lib.ListN.{length, get_or}
 use Rattle.groups.specs.Answer.{accepted, refused, pick}
 use Rattle.groups.specs.declared.group.OpPlace.{OpPlace}
-use Rattle.groups.specs.GroupOfOperation.{falling, followingOps, place_in, groupFrom, group_of, LiesAt}
+use Rattle.groups.specs.GroupOfOperation.{falling, following_ops, place_in, group_from, group_of, LiesAt}
 use Rattle.groups.proofs.Answers.{never}
 
 -- an answer that is picked is one of the two, by the test
@@ -34,66 +34,66 @@ and-false false = refl
 record LiesFrom (starts : List ℕ) (ops op g : ℕ) (place : OpPlace) : Type 0 where
   pub k : ℕ
   pub group : place.group ≡ g + k
-  pub a-group : suc k < length starts
+  pub a_group : suc k < length starts
   pub from_start : get_or starts k 0 + place.index ≡ op
-  pub before-next : op < get_or starts (suc k) 0
-  pub up-to-8 : place.index ≤ 8
-  pub followed-by : place.following ≡ followingOps (get_or starts (suc k) 0) ops op
+  pub before_next : op < get_or starts (suc k) 0
+  pub up_to_8 : place.index ≤ 8
+  pub followed_by : place.following ≡ following_ops (get_or starts (suc k) 0) ops op
 
-here : (x y : ℕ) (ys : List ℕ) (ops op g : ℕ) (p : OpPlace) → (leb x op && ltb op y) ≡ true → place_in g (op - x) (followingOps y ops op) ≡ accepted p → LiesFrom (x ∷ y ∷ ys) ops op g p
+here : (x y : ℕ) (ys : List ℕ) (ops op g : ℕ) (p : OpPlace) → (leb x op && ltb op y) ≡ true → place_in g (op - x) (following_ops y ops op) ≡ accepted p → LiesFrom (x ∷ y ∷ ys) ops op g p
 unfolding place_in
 here x y ys ops op g p t e =
     let u = both (leb x op) (ltb op y) t in
-    by-test (leb (op - x) 8) (accepted (record { group = g; index = op - x; following = followingOps y ops op })) (refused 6) (accepted p) e
+    by-test (leb (op - x) 8) (accepted (record { group = g; index = op - x; following = following_ops y ops op })) (refused 6) (accepted p) e
     (λ l f.
     let i : p.index ≡ op - x = cc in
     let j : p.group ≡ g = cc in
-    let n : p.following ≡ followingOps y ops op = cc in
+    let n : p.following ≡ following_ops y ops op = cc in
     record {
       k = 0;
       group = omega arith;
-      a-group = omega arith;
+      a_group = omega arith;
       from_start = omega (arith, leb-true x op u.0);
-      before-next = ltb-true op y u.1;
-      up-to-8 = omega (arith, leb-true (op - x) 8 l);
-      followed-by = n;
+      before_next = ltb-true op y u.1;
+      up_to_8 = omega (arith, leb-true (op - x) 8 l);
+      followed_by = n;
     })
     (λ l f. never 6 p f)
 
-lies-from : (s : List ℕ) (ops op g : ℕ) (p : OpPlace) → groupFrom s ops op g ≡ accepted p → LiesFrom s ops op g p
-unfolding groupFrom
+lies-from : (s : List ℕ) (ops op g : ℕ) (p : OpPlace) → group_from s ops op g ≡ accepted p → LiesFrom s ops op g p
+unfolding group_from
 lies-from [] ops op g p e = never 6 p e
 lies-from (x ∷ []) ops op g p e = never 6 p e
 lies-from (x ∷ y ∷ ys) ops op g p e =
-    by-test (leb x op && ltb op y) (place_in g (op - x) (followingOps y ops op)) (groupFrom (y ∷ ys) ops op (g + 1)) (accepted p) e
+    by-test (leb x op && ltb op y) (place_in g (op - x) (following_ops y ops op)) (group_from (y ∷ ys) ops op (g + 1)) (accepted p) e
     (λ t f. here x y ys ops op g p t f)
     (λ t f.
     let h = lies-from (y ∷ ys) ops op (g + 1) p f in
     record {
       k = suc h.k;
       group = omega arith;
-      a-group = omega arith;
+      a_group = omega arith;
       from_start = h.from_start;
-      before-next = h.before-next;
-      up-to-8 = h.up-to-8;
-      followed-by = h.followed-by;
+      before_next = h.before_next;
+      up_to_8 = h.up_to_8;
+      followed_by = h.followed_by;
     })
 
 -- an operation that is accepted lies where it is said to
 pub lies : (s : List ℕ) (ops op : ℕ) (p : OpPlace) → accepted p ≡ group_of s ops op → LiesAt s ops op p
 unfolding group_of
 lies s ops op p e =
-    by-test (leb ops op || falling s) (refused 6) (groupFrom s ops op 0) (accepted p) (sym e)
+    by-test (leb ops op || falling s) (refused 6) (group_from s ops op 0) (accepted p) (sym e)
     (λ t f. never 6 p f)
     (λ t f.
     let h = lies-from s ops op 0 p f in
     let k : p.group ≡ h.k = omega arith in
     record {
-      a-group = omega arith;
+      a_group = omega arith;
       from_start = rw k h.from_start;
-      before-next = rw (k, add-one) h.before-next;
-      up-to-8 = h.up-to-8;
-      followed-by = rw (k, add-one) h.followed-by;
+      before_next = rw (k, add-one) h.before_next;
+      up_to_8 = h.up_to_8;
+      followed_by = rw (k, add-one) h.followed_by;
     })
 
 -- where no start falls, each is at least the first
@@ -107,8 +107,8 @@ rising x (y ∷ ys) (suc k) f h =
 
 -- and what lies in group k is found there
 found_from : (s : List ℕ) (k ops op g i : ℕ) → falling s ≡ false → suc k < length s → get_or s k 0 + i ≡ op → op < get_or s (suc k) 0 → i ≤ 8
-    → groupFrom s ops op g ≡ accepted (record { group = g + k; index = i; following = followingOps (get_or s (suc k) 0) ops op })
-unfolding falling groupFrom place_in
+    → group_from s ops op g ≡ accepted (record { group = g + k; index = i; following = following_ops (get_or s (suc k) 0) ops op })
+unfolding falling group_from place_in
 found_from [] k ops op g i f h a b l = absurd (omega arith)
 found_from (x ∷ []) k ops op g i f h a b l = absurd (omega arith)
 found_from (x ∷ y ∷ ys) zero ops op g i f h a b l =
@@ -121,11 +121,11 @@ found_from (x ∷ y ∷ ys) (suc k) ops op g i f h a b l =
     let e : g + suc k ≡ g + 1 + k = omega arith in
     rw (le-ltb op y (omega arith), and-false, e) (found_from (y ∷ ys) k ops op (g + 1) i u.1 (omega arith) a b l)
 
-found_at : (s : List ℕ) (ops op : ℕ) (p : OpPlace) → falling s ≡ false → LiesAt s ops op p → groupFrom s ops op 0 ≡ accepted p
+found_at : (s : List ℕ) (ops op : ℕ) (p : OpPlace) → falling s ≡ false → LiesAt s ops op p → group_from s ops op 0 ≡ accepted p
 found_at s ops op p f a =
     let z : 0 + p.group ≡ p.group = omega arith in
-    let l = found_from s p.group ops op 0 p.index f (omega (arith, a.a-group)) a.from_start (rw add-one at a.before-next) a.up-to-8 in
-    let n : followingOps (get_or s (suc p.group) 0) ops op ≡ p.following = sym (rw add-one at a.followed-by) in
+    let l = found_from s p.group ops op 0 p.index f (omega (arith, a.a_group)) a.from_start (rw add-one at a.before_next) a.up_to_8 in
+    let n : following_ops (get_or s (suc p.group) 0) ops op ≡ p.following = sym (rw add-one at a.followed_by) in
     rw (z, n) at l
 
 -- an operation of the batch that lies somewhere is accepted there

@@ -8,7 +8,7 @@ use borrow.Author.Tests.{le-leb, lt-leb, le-ltb, lt-ltb, eq-eqb, ne_eqb}
 use lib.Dec.{leb}
 use lib.ListN.{get_or}
 use Rattle.groups.specs.Answer.{pick}
-use Rattle.groups.specs.GroupsLeft.{counts, doubled, round_up, groupsOf, sumGroups, anyAbove8, pushes}
+use Rattle.groups.specs.GroupsLeft.{counts, doubled, round_up, groups_of, sum_groups, any_above8, pushes}
 
 -- the steps do not matter where they are enough
 enough : (j i p n : ℕ) → 1 ≤ p → n ≤ p + j → n ≤ p + i → doubled j p n ≡ doubled i p n
@@ -55,8 +55,8 @@ doubled-within (suc j) zero p n m h l = rw (le-leb n p (omega arith)) (omega ari
 doubled-within (suc j) (suc k) p n m h l =
     pick-within (leb n p) p (doubled j (p + p) n) m (omega (arith, times_above (suc k) p)) (doubled-within j k (p + p) n m h l)
 
-pub groups-within : (rounded : Bool) (n : ℕ) → n ≤ 4294967296 → groupsOf rounded n ≤ 4294967296
-unfolding groupsOf round_up
+pub groups-within : (rounded : Bool) (n : ℕ) → n ≤ 4294967296 → groups_of rounded n ≤ 4294967296
+unfolding groups_of round_up
 groups-within true n h = doubled-within n 32 1 n 4294967296 refl h
 groups-within false n h = h
 
@@ -93,12 +93,12 @@ pushes-last push n k g h =
     rw e
 
 pub sum-turn : (rounded : Bool) (batches : List ℕ) (first k to : ℕ) → k < to
-    → sumGroups rounded (counts batches (first + k) (to - k)) ≡ groupsOf rounded (get_or batches (12 * (first + k)) 0) + sumGroups rounded (counts batches (first + (k + 1)) (to - (k + 1)))
-unfolding sumGroups
+    → sum_groups rounded (counts batches (first + k) (to - k)) ≡ groups_of rounded (get_or batches (12 * (first + k)) 0) + sum_groups rounded (counts batches (first + (k + 1)) (to - (k + 1)))
+unfolding sum_groups
 sum-turn rounded batches first k to h = rw (counts-turn batches first k to h)
 
-pub sum-last : (rounded : Bool) (batches : List ℕ) (r k to : ℕ) → to ≤ k → sumGroups rounded (counts batches r (to - k)) ≡ 0
-unfolding sumGroups
+pub sum-last : (rounded : Bool) (batches : List ℕ) (r k to : ℕ) → to ≤ k → sum_groups rounded (counts batches r (to - k)) ≡ 0
+unfolding sum_groups
 sum-last rounded batches r k to h = rw (counts-last batches r k to h)
 
 or-true : (b : Bool) → (b || true) ≡ true
@@ -111,15 +111,15 @@ or-false false = refl
 
 -- one more count is above 8, or is not
 pub above-turn : (b : Bool) (batches : List ℕ) (first k to : ℕ) → k < to → 8 < get_or batches (12 * (first + k)) 0
-    → (b || anyAbove8 (counts batches (first + k) (to - k))) ≡ true
-unfolding anyAbove8
+    → (b || any_above8 (counts batches (first + k) (to - k))) ≡ true
+unfolding any_above8
 above-turn b batches first k to h t = rw (counts-turn batches first k to h, lt-ltb _ _ t) (or-true b)
 
 pub below-turn : (b : Bool) (batches : List ℕ) (first k to : ℕ) → k < to → get_or batches (12 * (first + k)) 0 ≤ 8
-    → (b || anyAbove8 (counts batches (first + k) (to - k))) ≡ (b || anyAbove8 (counts batches (first + (k + 1)) (to - (k + 1))))
-unfolding anyAbove8
+    → (b || any_above8 (counts batches (first + k) (to - k))) ≡ (b || any_above8 (counts batches (first + (k + 1)) (to - (k + 1))))
+unfolding any_above8
 below-turn b batches first k to h t = rw (counts-turn batches first k to h, le-ltb _ _ t)
 
-pub above-last : (b : Bool) (batches : List ℕ) (r k to : ℕ) → to ≤ k → (b || anyAbove8 (counts batches r (to - k))) ≡ b
-unfolding anyAbove8
+pub above-last : (b : Bool) (batches : List ℕ) (r k to : ℕ) → to ≤ k → (b || any_above8 (counts batches r (to - k))) ≡ b
+unfolding any_above8
 above-last b batches r k to h = rw (counts-last batches r k to h) (or-false b)

@@ -28,23 +28,23 @@ pub record IsRoundUp (count r : ℕ) : Type 0 where
   pub least : (k : ℕ) → count ≤ 2 ^ k → r ≤ 2 ^ k
 
 -- a batch's groups, rounded up or as they are
-unfoldable pub groupsOf : (rounded : Bool) → ℕ → ℕ
-groupsOf true count = round_up count
-groupsOf false count = count
+unfoldable pub groups_of : (rounded : Bool) → ℕ → ℕ
+groups_of true count = round_up count
+groups_of false count = count
 
 -- the sum over some batches
-unfoldable pub sumGroups : (rounded : Bool) → List ℕ → ℕ
-sumGroups rounded [] = 0
-sumGroups rounded (count ∷ counts) = groupsOf rounded count + sumGroups rounded counts
+unfoldable pub sum_groups : (rounded : Bool) → List ℕ → ℕ
+sum_groups rounded [] = 0
+sum_groups rounded (count ∷ counts) = groups_of rounded count + sum_groups rounded counts
 
 -- one of the batches has more than 8 groups
-unfoldable pub anyAbove8 : List ℕ → Bool
-anyAbove8 [] = false
-anyAbove8 (count ∷ counts) = ltb 8 count || anyAbove8 counts
+unfoldable pub any_above8 : List ℕ → Bool
+any_above8 [] = false
+any_above8 (count ∷ counts) = ltb 8 count || any_above8 counts
 
 -- what some batches add up to
-unfoldable pub groupSum : (rounded : Bool) → List ℕ → GroupSum
-groupSum rounded counts = record { groups = sumGroups rounded counts; above8 = anyAbove8 counts }
+unfoldable pub group_sum : (rounded : Bool) → List ℕ → GroupSum
+group_sum rounded counts = record { groups = sum_groups rounded counts; above8 = any_above8 counts }
 
 -- how many of the lowest n digits of 7 bits of a group are PUSH
 unfoldable pub pushes : (push n group : ℕ) → ℕ

@@ -6,12 +6,12 @@ use Rattle.groups.specs.declared.word.Word.{Word}
 use Rattle.groups.specs.declared.word.QuadFelt.{QuadFelt}
 
 -- the four cells from cell i on, 0 past the end
-unfoldable pub wordAt : List ℕ → ℕ → Word
-wordAt cells i = (cell_at cells i, cell_at cells (i + 1), cell_at cells (i + 2), cell_at cells (i + 3))
+unfoldable pub word_at : List ℕ → ℕ → Word
+word_at cells i = (cell_at cells i, cell_at cells (i + 1), cell_at cells (i + 2), cell_at cells (i + 3))
 
 -- a word whose four numbers are read as cells
-abbrev pub readWord : Word → Word
-readWord w = (w.0 % P, w.1 % P, w.2 % P, w.3 % P)
+abbrev pub read_word : Word → Word
+read_word w = (w.0 % P, w.1 % P, w.2 % P, w.3 % P)
 
-abbrev pub readQuad : QuadFelt → QuadFelt
-readQuad q = (q.0 % P, q.1 % P)
+abbrev pub read_quad : QuadFelt → QuadFelt
+read_quad q = (q.0 % P, q.1 % P)

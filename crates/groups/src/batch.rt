@@ -1,7 +1,7 @@
 // The batches of a block, as lent: twelve numbers a batch in `batches` (group count, nine group starts, number of operations,
 // first operation) and eight cells a batch in `groups`. Batch `index` of a block is record first_batch + index of both.
 ghost use Rattle.std.specs.Prelude.{◌≡◌, ◌^◌, ◌<◌};
-ghost use Rattle.groups.specs.Batches.{isBatch, batchAt, toldBatch, startsOf, startsAt, lentBatches};
+ghost use Rattle.groups.specs.Batches.{is_batch, batch_at, told_batch, starts_of, starts_at, lent_batches};
 
 use crate::number::number;
 use crate::word::{Word, word_at};
@@ -33,7 +33,7 @@ pub enum BatchFound {
 
 // Whether the block has a batch `index` whose records lie whole in the slices.
 pub(crate) fn is_batch(batches: &[u32], groups: &[u64], block: BasicBlockNode, index: u32) -> bool
-    ensures { result ≡ isBatch batches.now groups.now block index }
+    ensures { result ≡ is_batch batches.now groups.now block index }
 {
     if block.batches <= index {
         return false;
@@ -44,7 +44,7 @@ pub(crate) fn is_batch(batches: &[u32], groups: &[u64], block: BasicBlockNode, i
 
 // Batch `index` of the block, or 5: the block has no such batch, or its records do not lie whole in the slices.
 pub fn batch_at(batches: &[u32], groups: &[u64], block: BasicBlockNode, index: u32) -> BatchFound
-    ensures { toldBatch result ≡ batchAt batches.now groups.now block index }
+    ensures { told_batch result ≡ batch_at batches.now groups.now block index }
 {
     if !is_batch(batches, groups, block, index) {
         return BatchFound::Missing;
@@ -63,7 +63,7 @@ pub fn batch_at(batches: &[u32], groups: &[u64], block: BasicBlockNode, index: u
 // The nine group starts of a record.
 pub(crate) fn starts_of(batches: &[u32], record: usize) -> [u32; 9]
     requires { «record» < 2 ^ 60 }
-    ensures { result ≡ startsOf batches.now «record» }
+    ensures { result ≡ starts_of batches.now «record» }
 {
     let at = 12 * record;
     [
@@ -81,14 +81,14 @@ pub(crate) fn starts_of(batches: &[u32], record: usize) -> [u32; 9]
 
 // The nine group starts of batch `index`.
 pub fn starts_at(batches: &[u32], block: BasicBlockNode, index: u32) -> [u32; 9]
-    ensures { result ≡ startsAt batches.now block index }
+    ensures { result ≡ starts_at batches.now block index }
 {
     starts_of(batches, block.first_batch as usize + index as usize)
 }
 
 // How many of the block's batches have their twelve numbers in the slice.
 pub fn lent_batches(batches: &[u32], block: BasicBlockNode) -> u32
-    ensures { result ≡ lentBatches batches.now block }
+    ensures { result ≡ lent_batches batches.now block }
 {
     let records = batches.len() / 12;
     let first = block.first_batch as usize;

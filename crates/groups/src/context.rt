@@ -1,8 +1,8 @@
 // What a row in a basic block says of the block's groups.
 ghost use Rattle.std.specs.Prelude.{◌≡◌, ◌+◌, ◌*◌, ◌/◌, ◌^◌, ◌≤◌};
 ghost use Rattle.groups.specs.Answer.{refusal};
-ghost use Rattle.groups.specs.Contexts.{contextAtOp, toldOp, cellsAtOp, toldCells, contextAtBatchStart, toldBatchStart};
-ghost use Rattle.groups.specs.ways.ContextsByCount.{largeBy, contextIn, toldContext};
+ghost use Rattle.groups.specs.Contexts.{context_at_op, told_op, cells_at_op, told_cells, context_at_batch_start, told_batch_start};
+ghost use Rattle.groups.specs.ways.ContextsByCount.{large_by, context_in, told_context};
 
 use crate::batch::{
     BasicBlockNode, BatchFound, OpBatch, batch_at, is_batch, lent_batches, starts_at,
@@ -78,7 +78,7 @@ fn after_op(group: u64, index: u64) -> u64
 
 // Whether the block has too many batches, or the batch or one of the others added up has too many groups.
 fn is_too_large(block: BasicBlockNode, group_count: u32, above8: bool) -> bool
-    ensures { result ≡ largeBy block group_count above8 }
+    ensures { result ≡ large_by block group_count above8 }
 {
     if 4096 < block.batches {
         return true;
@@ -100,7 +100,7 @@ fn in_group(
     place: OpPlace,
 ) -> ContextFound
     requires { (place.group ≤ 7) × (place.index ≤ 8) }
-    ensures { toldContext result ≡ contextIn push block batches.now groups.now index group_count place }
+    ensures { told_context result ≡ context_in push block batches.now groups.now index group_count place }
 {
     let sum = sum_groups(batches, block.first_batch, 0, index, true);
     let record = block.first_batch as usize + index as usize;
@@ -121,7 +121,7 @@ fn in_group(
 
 // The number that a context is refused with, or 0.
 fn context_refusal(found: ContextFound) -> u32
-    ensures { result ≡ refusal (toldContext found) }
+    ensures { result ≡ refusal (told_context found) }
 {
     match found {
         ContextFound::Refused(n) => n,
@@ -139,7 +139,7 @@ impl BasicBlockContext {
         index: u32,
         op: u32,
     ) -> OpContextFound
-        ensures { toldOp result ≡ contextAtOp push block batches.now groups.now index op }
+        ensures { told_op result ≡ context_at_op push block batches.now groups.now index op }
     {
         let BatchFound::At(batch) = batch_at(batches, groups, block, index) else {
             return OpContextFound::Refused(Refusal::NO_SUCH_BATCH);
@@ -176,7 +176,7 @@ impl BasicBlockContext {
         index: u32,
         op: u32,
     ) -> OpCellsFound
-        ensures { toldCells result ≡ cellsAtOp push block batches.now groups.now index op }
+        ensures { told_cells result ≡ cells_at_op push block batches.now groups.now index op }
     {
         if !is_batch(batches, groups, block, index) {
             return OpCellsFound::Refused(Refusal::NO_SUCH_BATCH);
@@ -212,7 +212,7 @@ impl BasicBlockContext {
         groups: &[u64],
         index: u32,
     ) -> BatchContextFound
-        ensures { toldBatchStart result ≡ contextAtBatchStart block batches.now groups.now index }
+        ensures { told_batch_start result ≡ context_at_batch_start block batches.now groups.now index }
     {
         let BatchFound::At(batch) = batch_at(batches, groups, block, index) else {
             return BatchContextFound::Refused(Refusal::NO_SUCH_BATCH);

@@ -1,6 +1,6 @@
 // Batch flags.
 ghost use Rattle.std.specs.Prelude.{◌≡◌};
-ghost use Rattle.groups.specs.Flags.{batchFlags, toldFlags};
+ghost use Rattle.groups.specs.Flags.{batch_flags, told_flags};
 
 use field::felt::Felt;
 
@@ -16,7 +16,7 @@ pub enum FlagsFound {
 
 // The flags by the group count capped at 8, or 7: there are none for this count.
 pub fn get_op_batch_flags(count: u64) -> FlagsFound
-    ensures { toldFlags result ≡ batchFlags count }
+    ensures { told_flags result ≡ batch_flags count }
 {
     if 8 <= count {
         return FlagsFound::Are(BatchFlags(Felt::ONE, Felt::ZERO, Felt::ZERO));

@@ -1,6 +1,6 @@
 // The group of a batch that an operation lies in, by the batch's nine group starts.
 ghost use Rattle.std.specs.Prelude.{◌≡◌, ◌<◌};
-ghost use Rattle.groups.specs.GroupOfOperation.{group_of, toldGroup, falling, place_in, followingOps, placeOfOp, toldPlace};
+ghost use Rattle.groups.specs.GroupOfOperation.{group_of, told_group, falling, place_in, following_ops, place_of_op, told_place};
 
 use crate::batch::starts_of;
 use crate::constants::Refusal;
@@ -43,7 +43,7 @@ fn falls(starts: [u32; 9]) -> bool
 // How many operations follow operation `op` in its group: up to the next group's start, or to the end of the batch's operations.
 fn following_ops(next: u32, num_ops: u32, op: u32) -> u32
     requires { (op < next) × (op < num_ops) }
-    ensures { result ≡ followingOps next num_ops op }
+    ensures { result ≡ following_ops next num_ops op }
 {
     if next < num_ops {
         return next - op - 1;
@@ -53,7 +53,7 @@ fn following_ops(next: u32, num_ops: u32, op: u32) -> u32
 
 // The place at index op - start of a group, or 6: the index is above 8.
 fn place_in(group: usize, index: u32, following: u32) -> GroupFound
-    ensures { toldGroup result ≡ place_in group index following }
+    ensures { told_group result ≡ place_in group index following }
 {
     if 8 < index {
         return GroupFound::Refused;
@@ -68,7 +68,7 @@ fn place_in(group: usize, index: u32, following: u32) -> GroupFound
 // The group with start ≤ op < next start, the index in it, and how many operations follow it there. 6: the operation is past the batch's,
 // a start falls, no group holds the operation, or its index is above 8.
 pub fn op_idx_in_batch_to_group(starts: [u32; 9], num_ops: u32, op: u32) -> GroupFound
-    ensures { toldGroup result ≡ group_of starts num_ops op }
+    ensures { told_group result ≡ group_of starts num_ops op }
 {
     if num_ops <= op {
         return GroupFound::Refused;
@@ -92,7 +92,7 @@ pub fn op_idx_in_batch_to_group(starts: [u32; 9], num_ops: u32, op: u32) -> Grou
 
 // The place of an operation of the batch in a record, by the batch records alone, or the lowest number of 5, 6 and 11 that holds.
 pub fn op_place(batches: &[u32], record: usize, op: u32) -> PlaceFound
-    ensures { toldPlace result ≡ placeOfOp batches.now «record» op }
+    ensures { told_place result ≡ place_of_op batches.now «record» op }
 {
     if batches.len() / 12 <= record {
         return PlaceFound::Refused(Refusal::NO_SUCH_BATCH);

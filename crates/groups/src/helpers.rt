@@ -1,7 +1,7 @@
 // The helper registers of an operation: what a cycle captures of it, and the six cells h2 to h7 that its row shows.
 ghost use Rattle.std.specs.Prelude.{◌≡◌, [], ◌∷◌};
-ghost use Rattle.groups.specs.Helpers.{all_below, six, helpersAnswer, toldHelpers};
-ghost use Rattle.groups.specs.ways.Families.{familyOf, readFamily, foundOf};
+ghost use Rattle.groups.specs.Helpers.{all_below, six, helpers_answer, told_helpers};
+ghost use Rattle.groups.specs.ways.Families.{family_of, read_family, found_of};
 
 use crate::constants::Refusal;
 use crate::word::{QuadFelt, Word};
@@ -181,7 +181,7 @@ fn are(h2: u64, h3: u64, h4: u64, h5: u64, h6: u64, h7: u64) -> HelpersFound
 
 // The helpers of three values of 32 bits, or 9.
 fn limbs(a: u64, b: u64, c: u64) -> HelpersFound
-    ensures { toldHelpers result ≡ foundOf (Family.Limbs a b c) }
+    ensures { told_helpers result ≡ found_of (Family.Limbs a b c) }
 {
     if !all_below(0x1_0000_0000, a, b, c, 0, 0, 0) {
         return HelpersFound::Refused(Refusal::BIG_HELPER_VALUE);
@@ -198,7 +198,7 @@ fn limbs(a: u64, b: u64, c: u64) -> HelpersFound
 
 // The helpers of two values of 32 bits and the inverse, or 9.
 fn limbs_and_inverse(lo: u64, hi: u64) -> HelpersFound
-    ensures { toldHelpers result ≡ foundOf (Family.LimbsAndInverse lo hi) }
+    ensures { told_helpers result ≡ found_of (Family.LimbsAndInverse lo hi) }
 {
     if !all_below(0x1_0000_0000, lo, hi, 0, 0, 0, 0) {
         return HelpersFound::Refused(Refusal::BIG_HELPER_VALUE);
@@ -217,7 +217,7 @@ fn limbs_and_inverse(lo: u64, hi: u64) -> HelpersFound
 impl Family {
     // Each of its numbers read modulo p.
     fn read(self) -> Self
-        ensures { result ≡ readFamily self }
+        ensures { result ≡ read_family self }
     {
         match self {
             Self::Cells(a, b, c, d, e, f) => Self::Cells(
@@ -236,7 +236,7 @@ impl Family {
 
     // Its helpers, or 9.
     fn helpers(self) -> HelpersFound
-        ensures { toldHelpers result ≡ foundOf self }
+        ensures { told_helpers result ≡ found_of self }
     {
         match self {
             Self::Cells(a, b, c, d, e, f) => are(a, b, c, d, e, f),
@@ -257,7 +257,7 @@ impl Family {
 impl OperationHelperRegisters {
     // The register set by the way in which its helpers are made.
     fn family(self) -> Family
-        ensures { result ≡ familyOf self }
+        ensures { result ≡ family_of self }
     {
         match self {
             Self::Eq {
@@ -294,7 +294,7 @@ impl OperationHelperRegisters {
 
     // The cells h2 to h7, its numbers read modulo p, or 9 for a 32-bit value from 2^32 on.
     pub fn to_user_op_helpers(self) -> HelpersFound
-        ensures { toldHelpers result ≡ helpersAnswer self }
+        ensures { told_helpers result ≡ helpers_answer self }
     {
         self.family().read().helpers()
     }

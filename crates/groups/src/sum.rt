@@ -1,6 +1,6 @@
 // What the groups of a block's batches add up to, and the PUSH operations in a group.
 ghost use Rattle.std.specs.Prelude.{◌≡◌, ◌+◌, ◌-◌, ◌*◌, ◌≤◌};
-ghost use Rattle.groups.specs.GroupsLeft.{round_up, groupsOf, counts, groupSum, pushes};
+ghost use Rattle.groups.specs.GroupsLeft.{round_up, groups_of, counts, group_sum, pushes};
 
 use crate::number::number;
 
@@ -18,7 +18,7 @@ fn next_power_of_two(n: u32) -> u64
 
 // The groups of a batch, rounded up to a power of two or as they are.
 fn groups_of(count: u32, rounded: bool) -> u64
-    ensures value { result ≡ groupsOf rounded count }
+    ensures value { result ≡ groups_of rounded count }
     ensures upper_bound { result ≤ 4294967296 }
 {
     if rounded {
@@ -38,7 +38,7 @@ pub struct GroupSum {
 // The groups of batches `from` to `to` (not included) of the block whose first batch is record `first`, each batch's rounded up to a
 // power of two or as they are.
 pub fn sum_groups(batches: &[u32], first: u32, from: u32, to: u32, rounded: bool) -> GroupSum
-    ensures value { result ≡ groupSum rounded (counts batches.now (first + from) (to - from)) }
+    ensures value { result ≡ group_sum rounded (counts batches.now (first + from) (to - from)) }
     ensures groups_bound { result.groups ≤ 4294967296 * (to - from) }
 {
     let mut groups: u64 = 0;

@@ -1,6 +1,6 @@
 // Four cells that stand together. An enum can hold a Word, which it could not an array.
 ghost use Rattle.std.specs.Prelude.{◌≡◌};
-ghost use Rattle.groups.specs.Words.{wordAt, readWord};
+ghost use Rattle.groups.specs.Words.{word_at, read_word};
 
 use field::cell::cell;
 use field::felt::reduce;
@@ -10,7 +10,7 @@ pub struct Word(pub u64, pub u64, pub u64, pub u64);
 
 // The four cells from cell `at` on, each read modulo p, 0 past the end of the slice.
 pub fn word_at(cells: &[u64], at: usize) -> Word
-    ensures { result ≡ wordAt cells.now at }
+    ensures { result ≡ word_at cells.now at }
 {
     if cells.len() <= at {
         return Word(0, 0, 0, 0);
@@ -25,7 +25,7 @@ pub fn word_at(cells: &[u64], at: usize) -> Word
 
 // The word with each number read modulo p.
 pub fn read_word(word: Word) -> Word
-    ensures { result ≡ readWord word }
+    ensures { result ≡ read_word word }
 {
     Word(
         reduce(word.0),

@@ -7,16 +7,16 @@ use borrow.Author.Tests.{lt-ltb, le-ltb}
 use lib.ListN.{length, drop}
 use Rattle.rows.specs.declared.records.profile.Profile.{Profile}
 use Rattle.theory_readings.specs.Readings.{Block, WordOf, depth_of, Reading, Trace}
-use Rattle.theory_readings.specs.Answers.{ReaderAnswer, accepted, refused, refusalOf, row_of}
+use Rattle.theory_readings.specs.Answers.{ReaderAnswer, accepted, refused, refusal_of, row_of}
 use Rattle.reader.specs.Rows.{word_in}
 use Rattle.reader.specs.ways.FromRow.{rows_from}
 use Rattle.reader.specs.Reads.{TellsTrace}
 use Rattle.reader.specs.declared.trace.TraceRead.{TraceRead}
-use Rattle.reader.proofs.ReadLaws.{number_of, row-of, is-accepted, is-trace, few-rows}
-use Rattle.theory_indexes.specs.Indexes.{blocksIn, index}
-use Rattle.theory_indexes.specs.ways.IndexScan.{indexScan, starts, Fits}
+use Rattle.reader.proofs.ReadLaws.{number_of, row-of, is-accepted, is_trace, few-rows}
+use Rattle.theory_indexes.specs.Indexes.{blocks_in, index}
+use Rattle.theory_indexes.specs.ways.IndexScan.{index_scan, starts, Fits}
 use Rattle.theory_indexes.proofs.Scanned.{scanned, blocks-starts, fits}
-use Rattle.index.specs.Building.{unlessShort, blocksOf, indexBuilt, index_after, BuildsIndex}
+use Rattle.index.specs.Building.{unless_short, blocks_of, index_built, index_after, BuildsIndex}
 use Rattle.index.specs.declared.build.IndexBuilt.{IndexBuilt}
 
 -- the numbers of an answer
@@ -25,22 +25,22 @@ built number row blocks = record { refusal = number; row = row; blocks = blocks 
 
 -- A REFUSAL
 
-pub unless-refused : (lent : ℕ) (a : ReaderAnswer) → (refusalOf a ≡ 0 → ⊥) → unlessShort lent a ≡ refused (refusalOf a) (row_of a)
-unfolding unlessShort refusalOf row_of
+pub unless-refused : (lent : ℕ) (a : ReaderAnswer) → (refusal_of a ≡ 0 → ⊥) → unless_short lent a ≡ refused (refusal_of a) (row_of a)
+unfolding unless_short refusal_of row_of
 unless-refused lent (accepted b) h = absurd (h refl)
 unless-refused lent (refused number row) h = refl
 
 module _ (p : Profile) (cells lent : List ℕ) (read : TraceRead) (v : TellsTrace p cells (length cells / 49) read) where
   -- by what is answered
-  builds-by : (a : ReaderAnswer) (r : IndexBuilt) (after : List ℕ) → unlessShort (length lent) v.answered ≡ a → r ≡ indexBuilt a → after ≡ index_after a lent → BuildsIndex p cells lent r after
-  builds-by a r after e f g = record { read = v.answered; is_right = v.is_right; built-is = rw e f; left_is = rw e g }
+  builds-by : (a : ReaderAnswer) (r : IndexBuilt) (after : List ℕ) → unless_short (length lent) v.answered ≡ a → r ≡ index_built a → after ≡ index_after a lent → BuildsIndex p cells lent r after
+  builds-by a r after e f g = record { read = v.answered; is_right = v.is_right; built_is = rw e f; left_is = rw e g }
 
-  refusing : (number row : ℕ) (r : IndexBuilt) → unlessShort (length lent) v.answered ≡ refused number row → r ≡ indexBuilt (refused number row) → BuildsIndex p cells lent r lent
+  refusing : (number row : ℕ) (r : IndexBuilt) → unless_short (length lent) v.answered ≡ refused number row → r ≡ index_built (refused number row) → BuildsIndex p cells lent r lent
   unfolding index_after
   refusing number row r e f = builds-by (refused number row) r lent e f refl
 
   -- 2, 11, 12, 13 and 15
-  pub no-trace : (r : IndexBuilt) → (read.refusal ≡ 0 → ⊥) → r ≡ indexBuilt (refused read.refusal read.row) → BuildsIndex p cells lent r lent
+  pub no-trace : (r : IndexBuilt) → (read.refusal ≡ 0 → ⊥) → r ≡ index_built (refused read.refusal read.row) → BuildsIndex p cells lent r lent
   no-trace r h f =
       let n = number_of p cells (length cells / 49) read v in
       let u = unless-refused (length lent) v.answered (λ q. h (n ∙ q)) in
@@ -62,10 +62,10 @@ module _ (p : Profile) (cells lent : List ℕ) (read : TraceRead) (v : TellsTrac
     unfolding Trace Reading word_in
     reading =
         let (b, e) = is-accepted p cells (length cells / 49) read v h in
-        let t = is-trace p cells (length cells / 49) read v h in
+        let t = is_trace p cells (length cells / 49) read v h in
         record { tree = b; answered = e; word = t.1.0; deep = t.1.1 }
 
-    blocks : starts (rows_from (word_in p cells) 0) ≡ blocksIn reading.tree
+    blocks : starts (rows_from (word_in p cells) 0) ≡ blocks_in reading.tree
     unfolding rows_from
     blocks = blocks-starts (word_in p cells) reading.tree reading.word
 
@@ -74,23 +74,23 @@ module _ (p : Profile) (cells lent : List ℕ) (read : TraceRead) (v : TellsTrac
     fitting = fits (word_in p cells) reading.tree reading.word reading.deep
 
     -- 27
-    pub short : (r : IndexBuilt) → length lent / 3 < starts (rows_from (word_in p cells) 0) → r ≡ indexBuilt (refused 27 0) → BuildsIndex p cells lent r lent
-    unfolding unlessShort
+    pub short : (r : IndexBuilt) → length lent / 3 < starts (rows_from (word_in p cells) 0) → r ≡ index_built (refused 27 0) → BuildsIndex p cells lent r lent
+    unfolding unless_short
     short r l f =
-        let u = lt-ltb (length lent) (3 * blocksIn reading.tree) (omega (arith, blocks)) in
+        let u = lt-ltb (length lent) (3 * blocks_in reading.tree) (omega (arith, blocks)) in
         refusing 27 0 r (rw (reading.answered, u) refl) f
 
     module _ (l : starts (rows_from (word_in p cells) 0) ≤ length lent / 3) where
-      room : unlessShort (length lent) v.answered ≡ accepted reading.tree
-      unfolding unlessShort
+      room : unless_short (length lent) v.answered ≡ accepted reading.tree
+      unfolding unless_short
       room =
-          let u = le-ltb (length lent) (3 * blocksIn reading.tree) (omega (arith, blocks)) in
-          ap (unlessShort (length lent)) reading.answered ∙ rw u refl
+          let u = le-ltb (length lent) (3 * blocks_in reading.tree) (omega (arith, blocks)) in
+          ap (unless_short (length lent)) reading.answered ∙ rw u refl
 
       pub whole : (after : List ℕ) (count : ℕ) → count ≡ starts (rows_from (word_in p cells) 0)
-          → after ≡ indexScan (rows_from (word_in p cells) 0) [] [] ++ drop (3 * starts (rows_from (word_in p cells) 0)) lent
+          → after ≡ index_scan (rows_from (word_in p cells) 0) [] [] ++ drop (3 * starts (rows_from (word_in p cells) 0)) lent
           → BuildsIndex p cells lent (built 0 0 count) after
-      unfolding indexBuilt index_after refusalOf row_of blocksOf rows_from
+      unfolding index_built index_after refusal_of row_of blocks_of rows_from
       whole after count f g =
-          let s : indexScan (rows_from (word_in p cells) 0) [] [] ≡ index reading.tree = scanned (word_in p cells) reading.tree reading.word in
+          let s : index_scan (rows_from (word_in p cells) 0) [] [] ≡ index reading.tree = scanned (word_in p cells) reading.tree reading.word in
           builds-by (accepted reading.tree) (built 0 0 count) after room (rw (f, blocks) refl) (rw (s, blocks) at g)

@@ -11,8 +11,8 @@ use lib.ListN.{length, get_or, take, drop, set, length-set, take-append-drop}
 use lib.Seq.{length-take-le, get_or-set_same, get_or-set_other, drop-set-lt, take-set-lt, get_or-take}
 use Rattle.theory_readings.specs.Tokens.{Token}
 use Rattle.theory_readings.specs.Readings.{Row}
-use Rattle.theory_indexes.specs.ways.IndexScan.{Change, begins, ends, stays, changeOf, around, ended, closed, madeBehind, openBehind, indexScan, oneIfBegins, starts, FitsRow, openCount, Fits}
-use Rattle.index.specs.ways.Steps.{aroundIn, indexBehind, stackBehind, progressBehind, Room}
+use Rattle.theory_indexes.specs.ways.IndexScan.{Change, begins, ends, stays, change_of, around, ended, closed, made_behind, open_behind, index_scan, one_if_begins, starts, FitsRow, open_count, Fits}
+use Rattle.index.specs.ways.Steps.{around_in, index_behind, stack_behind, progress_behind, Room}
 use Rattle.index.specs.declared.fill.Progress.{Progress}
 
 -- LISTS
@@ -47,8 +47,8 @@ unfolding Below
 below_more [] n m h f = tt
 below_more (p ∷ stack) n m h f = (omega arith, below_more stack n m h f.1)
 
-around-in : (stack array index : List ℕ) (row opened next : ℕ) → Holds stack array opened → Below stack next → aroundIn row opened array index ≡ around (take next index) stack row
-unfolding Holds Below aroundIn around
+around-in : (stack array index : List ℕ) (row opened next : ℕ) → Holds stack array opened → Below stack next → around_in row opened array index ≡ around (take next index) stack row
+unfolding Holds Below around_in around
 around-in [] array index row opened next e b = rw e refl
 around-in (p ∷ stack) array index row opened next (d, e, f, g) b =
     let z : eqb opened 0 ≡ false = ne_eqb opened 0 (λ q. absurd (omega arith)) in
@@ -95,7 +95,7 @@ pub record Building (goal : List ℕ) (total : ℕ) (past : List ℕ) (size : �
   pub below : Below stack s.next
   pub fits : Fits s.opened rows
   pub counted : s.next + 3 * starts rows ≡ 3 * total
-  pub made : indexScan rows (take s.next index) stack ≡ goal
+  pub made : index_scan rows (take s.next index) stack ≡ goal
   pub rest : drop (3 * total) index ≡ past
   pub sized : length index ≡ size
   pub long : length array ≡ 64
@@ -107,44 +107,44 @@ module _ (goal : List ℕ) (total : ℕ) (past : List ℕ) (size : ℕ) (enough 
     pub most : s.opened ≤ 64
     pub holds : Holds stack array s.opened
     pub below : Below stack s.next
-    pub fits : FitsRow s.opened c × Fits (openCount s.opened c) rows
-    pub counted : s.next + 3 * (oneIfBegins c + starts rows) ≡ 3 * total
-    pub made : indexScan rows (madeBehind n c (take s.next index) stack) (openBehind c (take s.next index) stack) ≡ goal
+    pub fits : FitsRow s.opened c × Fits (open_count s.opened c) rows
+    pub counted : s.next + 3 * (one_if_begins c + starts rows) ≡ 3 * total
+    pub made : index_scan rows (made_behind n c (take s.next index) stack) (open_behind c (take s.next index) stack) ≡ goal
     pub rest : drop (3 * total) index ≡ past
     pub sized : length index ≡ size
     pub long : length array ≡ 64
 
   module _ (b : Before begins) where
     wide : s.next + 2 < length index
-    unfolding oneIfBegins
+    unfolding one_if_begins
     wide = omega (arith, b.counted, b.sized)
 
     length-made : length (take s.next index) ≡ s.next
     length-made = length-take-le s.next index (omega (arith, wide))
 
-    added : take (s.next + 3) (indexBehind begins n s array index) ≡ madeBehind n begins (take s.next index) b.stack
-    unfolding indexBehind madeBehind
+    added : take (s.next + 3) (index_behind begins n s array index) ≡ made_behind n begins (take s.next index) b.stack
+    unfolding index_behind made_behind
     added =
         let x : s.next + 1 ≡ suc s.next = omega arith in
         let y : s.next + 2 ≡ suc (suc s.next) = omega arith in
         let z : s.next + 3 ≡ suc (suc (suc s.next)) = omega arith in
         rw (x, y, z, ← (around-in b.stack array index n s.opened s.next b.holds b.below))
-        (three-set index s.next n 0 (aroundIn n s.opened array index) (omega (arith, wide)))
+        (three-set index s.next n 0 (around_in n s.opened array index) (omega (arith, wide)))
 
-    begun-rest : drop (3 * total) (indexBehind begins n s array index) ≡ past
-    unfolding indexBehind oneIfBegins
+    begun-rest : drop (3 * total) (index_behind begins n s array index) ≡ past
+    unfolding index_behind one_if_begins
     begun-rest =
         drop-set-lt (3 * total) _ (s.next + 2) _ (omega (arith, b.counted))
         ∙ drop-set-lt (3 * total) _ (s.next + 1) _ (omega (arith, b.counted))
         ∙ drop-set-lt (3 * total) index s.next n (omega (arith, b.counted))
         ∙ b.rest
 
-    begun-size : length (indexBehind begins n s array index) ≡ size
-    unfolding indexBehind
+    begun-size : length (index_behind begins n s array index) ≡ size
+    unfolding index_behind
     begun-size = rw (length-set, length-set, length-set) b.sized
 
-    begun : Building goal total past size rows (progressBehind begins s) (stackBehind begins s array) (indexBehind begins n s array index)
-    unfolding progressBehind stackBehind Holds Below FitsRow openCount oneIfBegins openBehind
+    begun : Building goal total past size rows (progress_behind begins s) (stack_behind begins s array) (index_behind begins n s array index)
+    unfolding progress_behind stack_behind Holds Below FitsRow open_count one_if_begins open_behind
     begun = record {
       stack = s.next ∷ b.stack;
       most = omega (arith, b.fits.0);
@@ -168,25 +168,25 @@ module _ (goal : List ℕ) (total : ℕ) (past : List ℕ) (size : ℕ) (enough 
     end-top = top-before b.stack array s.opened s.next b.fits.0 b.holds b.below
 
     next_le : s.next ≤ length index
-    unfolding oneIfBegins
+    unfolding one_if_begins
     next_le = omega (arith, b.counted, b.sized)
 
-    ended-made : ended (take s.next index) b.stack n ≡ take s.next (indexBehind ends n s array index)
-    unfolding indexBehind FitsRow
+    ended-made : ended (take s.next index) b.stack n ≡ take s.next (index_behind ends n s array index)
+    unfolding index_behind FitsRow
     ended-made =
         ended-top b.stack array s.opened (take s.next index) n b.fits.0 b.holds
         ∙ sym (take-set-lt s.next index (get_or array (s.opened - 1) 0 + 1) n (omega (arith, end-top)))
 
-    finished-rest : drop (3 * total) (indexBehind ends n s array index) ≡ past
-    unfolding indexBehind oneIfBegins
+    finished-rest : drop (3 * total) (index_behind ends n s array index) ≡ past
+    unfolding index_behind one_if_begins
     finished-rest = drop-set-lt (3 * total) index (get_or array (s.opened - 1) 0 + 1) n (omega (arith, b.counted, end-top)) ∙ b.rest
 
-    finished-size : length (indexBehind ends n s array index) ≡ size
-    unfolding indexBehind
+    finished-size : length (index_behind ends n s array index) ≡ size
+    unfolding index_behind
     finished-size = rw length-set b.sized
 
-    finished : Building goal total past size rows (progressBehind ends s) (stackBehind ends s array) (indexBehind ends n s array index)
-    unfolding progressBehind stackBehind FitsRow openCount oneIfBegins openBehind madeBehind
+    finished : Building goal total past size rows (progress_behind ends s) (stack_behind ends s array) (index_behind ends n s array index)
+    unfolding progress_behind stack_behind FitsRow open_count one_if_begins open_behind made_behind
     finished =
         let e : pred s.opened ≡ s.opened - 1 = omega arith in
         record {
@@ -206,8 +206,8 @@ module _ (goal : List ℕ) (total : ℕ) (past : List ℕ) (size : ℕ) (enough 
     unfolding Room FitsRow
     end-room = (b.fits.0, b.most, omega (arith, end-top, next_le))
 
-  unchanged : Before stays → Building goal total past size rows (progressBehind stays s) (stackBehind stays s array) (indexBehind stays n s array index)
-  unfolding progressBehind stackBehind indexBehind FitsRow openCount oneIfBegins openBehind madeBehind
+  unchanged : Before stays → Building goal total past size rows (progress_behind stays s) (stack_behind stays s array) (index_behind stays n s array index)
+  unfolding progress_behind stack_behind index_behind FitsRow open_count one_if_begins open_behind made_behind
   unchanged b = record {
     stack = b.stack;
     most = b.most;
@@ -221,7 +221,7 @@ module _ (goal : List ℕ) (total : ℕ) (past : List ℕ) (size : ℕ) (enough 
     long = b.long;
   }
 
-  pub next_row : (c : Change) → Before c → Building goal total past size rows (progressBehind c s) (stackBehind c s array) (indexBehind c n s array index)
+  pub next_row : (c : Change) → Before c → Building goal total past size rows (progress_behind c s) (stack_behind c s array) (index_behind c n s array index)
   next_row begins b = begun b
   next_row ends b = finished b
   next_row stays b = unchanged b
@@ -233,8 +233,8 @@ module _ (goal : List ℕ) (total : ℕ) (past : List ℕ) (size : ℕ) (enough 
   room stays b = tt
 
   -- the first of the rows that are left
-  pub at_row : (t : Token) (c : Change) → c ≡ changeOf t → Building goal total past size ((n, t) ∷ rows) s array index → Before c
-  unfolding Fits starts indexScan
+  pub at_row : (t : Token) (c : Change) → c ≡ change_of t → Building goal total past size ((n, t) ∷ rows) s array index → Before c
+  unfolding Fits starts index_scan
   at_row t c e b = record {
     stack = b.stack;
     most = b.most;
@@ -250,14 +250,14 @@ module _ (goal : List ℕ) (total : ℕ) (past : List ℕ) (size : ℕ) (enough 
 
 -- behind the last row
 pub all-built : (goal : List ℕ) (total : ℕ) (past : List ℕ) (size : ℕ) (s : Progress) (array index : List ℕ) → Building goal total past size [] s array index → index ≡ goal ++ past
-unfolding starts indexScan
+unfolding starts index_scan
 all-built goal total past size s array index b =
     let e : s.next ≡ 3 * total = omega (arith, b.counted) in
     rw (← b.made, ← b.rest, e) (sym (take-append-drop (3 * total) index))
 
 -- before the first
 pub none-built : (total : ℕ) (size : ℕ) (rows : List Row) (s : Progress) (array index : List ℕ) → s.opened ≡ 0 → s.next ≡ 0 → total ≡ starts rows → size ≡ length index → length array ≡ 64 → Fits 0 rows
-    → Building (indexScan rows [] []) total (drop (3 * total) index) size rows s array index
+    → Building (index_scan rows [] []) total (drop (3 * total) index) size rows s array index
 unfolding Holds Below
 none-built total size rows s array index o z e f g h = record {
   stack = [];

@@ -4,7 +4,7 @@ use Rattle.std.specs.Prelude.{ℕ}
 use Rattle.groups.specs.Answer.{Answer, accepted, refused}
 use Rattle.index.specs.declared.enclosing.Enclosing.{Enclosing}
 
-abbrev pub toldEnclosing : Enclosing → Answer (Option ℕ)
-toldEnclosing (Enclosing.At place) = accepted (some place)
-toldEnclosing Enclosing.None = accepted none
-toldEnclosing (Enclosing.Refused number) = refused number
+abbrev pub told_enclosing : Enclosing → Answer (Option ℕ)
+told_enclosing (Enclosing.At place) = accepted (some place)
+told_enclosing Enclosing.None = accepted none
+told_enclosing (Enclosing.Refused number) = refused number

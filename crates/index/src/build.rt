@@ -1,7 +1,7 @@
 // Building the index of a finished trace.
 ghost use Rattle.std.specs.Prelude.{◌≡◌};
 ghost use Rattle.theory_readings.specs.Answers.{refused};
-ghost use Rattle.index.specs.Building.{indexBuilt, BuildsIndex};
+ghost use Rattle.index.specs.Building.{index_built, BuildsIndex};
 
 use crate::change::count_starts;
 use crate::fill::fill;
@@ -21,7 +21,7 @@ pub struct IndexBuilt {
 
 // A refusal.
 fn no_index(number: u32, row: usize) -> IndexBuilt
-    ensures { result ≡ indexBuilt (refused number row) }
+    ensures { result ≡ index_built (refused number row) }
 {
     IndexBuilt {
         refusal: number,

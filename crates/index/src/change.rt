@@ -1,10 +1,10 @@
 // What a row does to the open blocks.
 ghost use Rattle.std.specs.Prelude.{◌≡◌};
-ghost use Rattle.theory_indexes.specs.ways.IndexScan.{changeOf, oneIfBegins, starts};
-ghost use Rattle.reader.specs.Rows.{tokenAt, word_in};
+ghost use Rattle.theory_indexes.specs.ways.IndexScan.{change_of, one_if_begins, starts};
+ghost use Rattle.reader.specs.Rows.{token_at, word_in};
 ghost use Rattle.reader.specs.ways.FromRow.{rows_from};
 ghost use Rattle.reader.specs.KeptKinds.{KeptKinds};
-ghost use Rattle.index.specs.ways.Steps.{toldChange};
+ghost use Rattle.index.specs.ways.Steps.{told_change};
 
 use groups::constants::Row;
 use reader::kept::kept_kind;
@@ -28,7 +28,7 @@ pub(crate) fn change_at(
     kinds: &[u8],
 ) -> Change
     requires { KeptKinds profile cells.now table.now kinds.now }
-    ensures { toldChange result ≡ changeOf (tokenAt profile cells.now row) }
+    ensures { told_change result ≡ change_of (token_at profile cells.now row) }
 {
     let kind = kept_kind(profile, cells, row, table, kinds);
     match kind {
@@ -42,7 +42,7 @@ pub(crate) fn change_at(
 
 // 1 where a block begins.
 fn begun(change: Change) -> usize
-    ensures { result ≡ oneIfBegins (toldChange change) }
+    ensures { result ≡ one_if_begins (told_change change) }
 {
     match change {
         Change::Begins => 1,

@@ -1,7 +1,7 @@
 // The block that a row belongs to, by the numbers of an index, whoever made them.
 ghost use Rattle.std.specs.Prelude.{◌≡◌};
 ghost use Rattle.theory_indexes.specs.Enclosing.{enclosing};
-ghost use Rattle.index.specs.Lookups.{toldEnclosing};
+ghost use Rattle.index.specs.Lookups.{told_enclosing};
 
 use groups::constants::Refusal;
 
@@ -15,7 +15,7 @@ pub enum Enclosing {
 
 // The last block whose start and END rows enclose the row, both included; 11 where the numbers are no multiple of three.
 pub fn enclosing_block(index: &[u32], row: usize) -> Enclosing
-    ensures { toldEnclosing result ≡ enclosing index.now row }
+    ensures { told_enclosing result ≡ enclosing index.now row }
 {
     if index.len() % 3 != 0 {
         return Enclosing::Refused(Refusal::BAD_LENGTH);

@@ -1,11 +1,11 @@
 // The numbers of the index, by one scan of the rows with the places of the open blocks.
 ghost use Rattle.std.specs.Prelude.{◌≡◌, [], ◌++◌, ◌+◌, ◌*◌, ◌-◌, ◌/◌, ◌<◌, ◌≤◌, length, get_or, drop};
-ghost use Rattle.groups.specs.Constants.{rowWidth, mostRows};
-ghost use Rattle.theory_indexes.specs.ways.IndexScan.{begins, ends, indexScan, starts, Fits};
+ghost use Rattle.groups.specs.Constants.{row_width, most_rows};
+ghost use Rattle.theory_indexes.specs.ways.IndexScan.{begins, ends, index_scan, starts, Fits};
 ghost use Rattle.reader.specs.Rows.{word_in};
 ghost use Rattle.reader.specs.ways.FromRow.{rows_from};
 ghost use Rattle.reader.specs.KeptKinds.{KeptKinds};
-ghost use Rattle.index.specs.ways.Steps.{toldChange, aroundIn, indexBehind, stackBehind, progressBehind, Room};
+ghost use Rattle.index.specs.ways.Steps.{told_change, around_in, index_behind, stack_behind, progress_behind, Room};
 
 use crate::change::{Change, change_at};
 use groups::constants::Row;
@@ -21,7 +21,7 @@ struct Progress {
 // The start row of the enclosing block; the root names itself. `stack` has where the numbers of each open block begin.
 fn around(row: u32, opened: usize, stack: &[usize; 64], index: &[u32]) -> u32
     requires { (opened ≤ 64) × (0 < opened → get_or stack.now (opened - 1) 0 < length index.now) }
-    ensures { result ≡ aroundIn row opened stack.now index.now }
+    ensures { result ≡ around_in row opened stack.now index.now }
 {
     if opened == 0 {
         return row;
@@ -33,9 +33,9 @@ fn around(row: u32, opened: usize, stack: &[usize; 64], index: &[u32]) -> u32
 // A start row: its block's numbers, the END row still 0.
 fn start_row(row: u32, s: Progress, stack: &mut [usize; 64], index: &mut [u32]) -> Progress
     requires { Room begins s stack.old index.old }
-    ensures value { result ≡ progressBehind begins s }
-    ensures stack_after { stack.new ≡ stackBehind begins s stack.old }
-    ensures index_after { index.new ≡ indexBehind begins row s stack.old index.old }
+    ensures value { result ≡ progress_behind begins s }
+    ensures stack_after { stack.new ≡ stack_behind begins s stack.old }
+    ensures index_after { index.new ≡ index_behind begins row s stack.old index.old }
 {
     let opened = s.opened;
     let next = s.next;
@@ -53,8 +53,8 @@ fn start_row(row: u32, s: Progress, stack: &mut [usize; 64], index: &mut [u32]) 
 // An END row: the END of the innermost open block.
 fn end_row(row: u32, s: Progress, stack: &[usize; 64], index: &mut [u32]) -> Progress
     requires { Room ends s stack.now index.old }
-    ensures value { result ≡ progressBehind ends s }
-    ensures index_after { index.new ≡ indexBehind ends row s stack.now index.old }
+    ensures value { result ≡ progress_behind ends s }
+    ensures index_after { index.new ≡ index_behind ends row s stack.now index.old }
 {
     let opened = s.opened - 1;
     let place = stack[opened];
@@ -73,10 +73,10 @@ fn step(
     stack: &mut [usize; 64],
     index: &mut [u32],
 ) -> Progress
-    requires { Room (toldChange change) s stack.old index.old }
-    ensures value { result ≡ progressBehind (toldChange change) s }
-    ensures stack_after { stack.new ≡ stackBehind (toldChange change) s stack.old }
-    ensures index_after { index.new ≡ indexBehind (toldChange change) row s stack.old index.old }
+    requires { Room (told_change change) s stack.old index.old }
+    ensures value { result ≡ progress_behind (told_change change) s }
+    ensures stack_after { stack.new ≡ stack_behind (told_change change) s stack.old }
+    ensures index_after { index.new ≡ index_behind (told_change change) row s stack.old index.old }
 {
     match change {
         Change::Begins => start_row(row, s, stack, index),
@@ -93,9 +93,9 @@ pub(crate) fn fill(
     table: &[u8; 256],
     kinds: &[u8],
 )
-    requires { (length cells.now / rowWidth ≤ mostRows) × (3 * starts (rows_from (word_in profile cells.now) 0) ≤ length index.old)
+    requires { (length cells.now / row_width ≤ most_rows) × (3 * starts (rows_from (word_in profile cells.now) 0) ≤ length index.old)
         × Fits 0 (rows_from (word_in profile cells.now) 0) × KeptKinds profile cells.now table.now kinds.now }
-    ensures { index.new ≡ indexScan (rows_from (word_in profile cells.now) 0) [] []
+    ensures { index.new ≡ index_scan (rows_from (word_in profile cells.now) 0) [] []
         ++ drop (3 * starts (rows_from (word_in profile cells.now) 0)) index.old }
 {
     let mut stack = [0usize; 64];

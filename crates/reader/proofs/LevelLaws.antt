@@ -9,14 +9,14 @@ use lib.ListN.{length, take, drop, set, drop_of_length-le}
 use lib.Seq.{take-suc-set}
 use Rattle.theory_readings.specs.Tokens.{Kind, Token, start, repeat, end, halt, nothing}
 use Rattle.theory_readings.specs.ways.Parser.{levels}
-use Rattle.reader.specs.Rows.{tokenIn, rowKindOf}
-use Rattle.reader.specs.ways.Levels.{levelAt, levelBehind}
+use Rattle.reader.specs.Rows.{token_in, row_kind_of}
+use Rattle.reader.specs.ways.Levels.{level_at, level_behind}
 use Rattle.reader.specs.declared.token.RowKind.{RowKind}
 use Rattle.reader.specs.declared.token.RowKind.TheVariants.{Span, Join, One, Loop, Op, Respan, Repeat, End, Halt, Nothing}
 use Rattle.reader.proofs.RowTokens.{tag, among}
 
-pub level-start : (k : RowKind) (c : ℕ) → OneOf (0 ∷ 1 ∷ 2 ∷ 3 ∷ []) (tag k) → c + 1 ≡ levelAt k c
-unfolding levelAt
+pub level-start : (k : RowKind) (c : ℕ) → OneOf (0 ∷ 1 ∷ 2 ∷ 3 ∷ []) (tag k) → c + 1 ≡ level_at k c
+unfolding level_at
 level-start Span c h = refl
 level-start Join c h = refl
 level-start One c h = refl
@@ -28,8 +28,8 @@ level-start End c h = absurd (among 0 (1 ∷ 2 ∷ 3 ∷ []) 7 h)
 level-start Halt c h = absurd (among 0 (1 ∷ 2 ∷ 3 ∷ []) 8 h)
 level-start Nothing c h = absurd (among 0 (1 ∷ 2 ∷ 3 ∷ []) 9 h)
 
-pub level-same : (k : RowKind) (c : ℕ) → OneOf (4 ∷ 5 ∷ 6 ∷ 7 ∷ 8 ∷ 9 ∷ []) (tag k) → c ≡ levelAt k c
-unfolding levelAt
+pub level-same : (k : RowKind) (c : ℕ) → OneOf (4 ∷ 5 ∷ 6 ∷ 7 ∷ 8 ∷ 9 ∷ []) (tag k) → c ≡ level_at k c
+unfolding level_at
 level-same Span c h = absurd (among 4 (5 ∷ 6 ∷ 7 ∷ 8 ∷ 9 ∷ []) 0 h)
 level-same Join c h = absurd (among 4 (5 ∷ 6 ∷ 7 ∷ 8 ∷ 9 ∷ []) 1 h)
 level-same One c h = absurd (among 4 (5 ∷ 6 ∷ 7 ∷ 8 ∷ 9 ∷ []) 2 h)
@@ -41,8 +41,8 @@ level-same End c h = refl
 level-same Halt c h = refl
 level-same Nothing c h = refl
 
-pub behind-same : (k : RowKind) (c : ℕ) → OneOf (0 ∷ 1 ∷ 2 ∷ 3 ∷ 4 ∷ 5 ∷ 6 ∷ 8 ∷ 9 ∷ []) (tag k) → c ≡ levelBehind k c
-unfolding levelBehind
+pub behind-same : (k : RowKind) (c : ℕ) → OneOf (0 ∷ 1 ∷ 2 ∷ 3 ∷ 4 ∷ 5 ∷ 6 ∷ 8 ∷ 9 ∷ []) (tag k) → c ≡ level_behind k c
+unfolding level_behind
 behind-same Span c h = refl
 behind-same Join c h = refl
 behind-same One c h = refl
@@ -54,8 +54,8 @@ behind-same End c h = absurd (among 0 (1 ∷ 2 ∷ 3 ∷ 4 ∷ 5 ∷ 6 ∷ 8 ∷
 behind-same Halt c h = refl
 behind-same Nothing c h = refl
 
-pub level-le : (k : RowKind) (c : ℕ) → levelAt k c ≤ c + 1
-unfolding levelAt
+pub level-le : (k : RowKind) (c : ℕ) → level_at k c ≤ c + 1
+unfolding level_at
 level-le Span c = omega arith
 level-le Join c = omega arith
 level-le One c = omega arith
@@ -67,8 +67,8 @@ level-le End c = omega arith
 level-le Halt c = omega arith
 level-le Nothing c = omega arith
 
-pub behind-le : (k : RowKind) (c : ℕ) → levelBehind k c ≤ c
-unfolding levelBehind
+pub behind-le : (k : RowKind) (c : ℕ) → level_behind k c ≤ c
+unfolding level_behind
 behind-le Span c = omega arith
 behind-le Join c = omega arith
 behind-le One c = omega arith
@@ -80,8 +80,8 @@ behind-le End c = omega arith
 behind-le Halt c = omega arith
 behind-le Nothing c = omega arith
 
-levels-cons : (t : Token) (w : List Token) (c : ℕ) → levels c (t ∷ w) ≡ levelAt (rowKindOf t) c ∷ levels (levelBehind (rowKindOf t) (levelAt (rowKindOf t) c)) w
-unfolding levels levelAt levelBehind rowKindOf
+levels-cons : (t : Token) (w : List Token) (c : ℕ) → levels c (t ∷ w) ≡ level_at (row_kind_of t) c ∷ levels (level_behind (row_kind_of t) (level_at (row_kind_of t) c)) w
+unfolding levels level_at level_behind row_kind_of
 levels-cons (start Kind.span) w c = rw (add-one c)
 levels-cons (start Kind.join) w c = rw (add-one c)
 levels-cons (start Kind.loop) w c = rw (add-one c)
@@ -93,18 +93,18 @@ levels-cons end w c = let e : pred c ≡ c - 1 = omega arith in rw e
 levels-cons halt w c = refl
 levels-cons nothing w c = refl
 
-drop_token : (w : List Token) (i : ℕ) → i < length w → drop i w ≡ tokenIn w i ∷ drop (suc i) w
-unfolding tokenIn
+drop_token : (w : List Token) (i : ℕ) → i < length w → drop i w ≡ token_in w i ∷ drop (suc i) w
+unfolding token_in
 drop_token [] i h = absurd (omega arith)
 drop_token (t ∷ w) zero h = refl
 drop_token (t ∷ w) (suc i) h = drop_token w i (omega arith)
 
 module _ (w : List Token) (G : List ℕ) where
   pub scan_step : (at c : ℕ) (D : List ℕ) → at < length w → at < length D → take at D ++ levels c (drop at w) ≡ G
-      → take (at + 1) (set D at (levelAt (rowKindOf (tokenIn w at)) c)) ++ levels (levelBehind (rowKindOf (tokenIn w at)) (levelAt (rowKindOf (tokenIn w at)) c)) (drop (at + 1) w) ≡ G
+      → take (at + 1) (set D at (level_at (row_kind_of (token_in w at)) c)) ++ levels (level_behind (row_kind_of (token_in w at)) (level_at (row_kind_of (token_in w at)) c)) (drop (at + 1) w) ≡ G
   scan_step at c D i l h =
-      let k : RowKind = rowKindOf (tokenIn w at) in
-      rw (add-one at, take-suc-set D at (levelAt k c) l, append_assoc) (rw (drop_token w at i, levels-cons (tokenIn w at) (drop (suc at) w) c) at h)
+      let k : RowKind = row_kind_of (token_in w at) in
+      rw (add-one at, take-suc-set D at (level_at k c) l, append_assoc) (rw (drop_token w at i, levels-cons (token_in w at) (drop (suc at) w) c) at h)
 
   pub scan-done : (at c : ℕ) (D : List ℕ) → length w ≤ at → take at D ++ levels c (drop at w) ≡ G → take at D ≡ G
   unfolding levels

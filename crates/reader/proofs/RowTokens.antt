@@ -17,44 +17,44 @@ use Rattle.rows.specs.declared.records.profile.Profile.{Profile}
 use Rattle.rows.specs.records.Buffers.{rows_of}
 use Rattle.rows.specs.records.Buffers as buffer
 use Rattle.rows.proofs.passes.RowLists.{length-rows, drop-rows}
-use Rattle.theory_readings.specs.Tokens.{OneChild, Kind, Token, start, repeat, end, halt, nothing, tokenOf, tokensOf}
+use Rattle.theory_readings.specs.Tokens.{OneChild, Kind, Token, start, repeat, end, halt, nothing, token_of, tokens_of}
 use Rattle.theory_readings.specs.Readings.{numbered, row_at, all_rows}
-use Rattle.theory_readings.proofs.SpelledRows.{tokensOf-length}
-use Rattle.reader.specs.Rows.{word_in, tokenIn, rowKindOf}
+use Rattle.theory_readings.proofs.SpelledRows.{tokens_of-length}
+use Rattle.reader.specs.Rows.{word_in, token_in, row_kind_of}
 use Rattle.reader.specs.ways.FromRow.{rows_from}
 use Rattle.reader.specs.declared.token.RowKind.{RowKind}
 use Rattle.reader.specs.declared.token.RowKind.TheVariants.{Span, Join, One, Loop, Op, Respan, Repeat, End, Halt, Nothing}
-use Rattle.reader.specs.contracts.token.RowKind as declaredKind
+use Rattle.reader.specs.contracts.token.RowKind as declared_kind
 
 -- ROWS AND TOKENS BY THEIR PLACE
 
 pub rows_in : (p : Profile) (cells : List ℕ) → length (word_in p cells) ≡ length cells / 49
 unfolding word_in all_rows
-rows_in p cells = tokensOf-length p (all_rows cells) ∙ length-rows (length cells / 49) cells
+rows_in p cells = tokens_of-length p (all_rows cells) ∙ length-rows (length cells / 49) cells
 
-row_in : (n i : ℕ) (cells : List ℕ) → i < n → get_or (rows_of n cells) i [] ≡ buffer.bufferRow i cells
-unfolding rows_of buffer.bufferRow
+row_in : (n i : ℕ) (cells : List ℕ) → i < n → get_or (rows_of n cells) i [] ≡ buffer.buffer_row i cells
+unfolding rows_of buffer.buffer_row
 row_in zero i cells h = absurd (omega arith)
 row_in (suc n) zero cells h = refl
 row_in (suc n) (suc i) cells h = row_in n i (drop 49 cells) (omega arith) ∙ ap (take 49) (drop-rows i cells)
 
 -- a row of the buffer
-pub row-of : (cells : List ℕ) (i : ℕ) → i < length cells / 49 → row_at (all_rows cells) i ≡ buffer.bufferRow i cells
+pub row-of : (cells : List ℕ) (i : ℕ) → i < length cells / 49 → row_at (all_rows cells) i ≡ buffer.buffer_row i cells
 unfolding all_rows
 row-of cells i h = row_in (length cells / 49) i cells h
 
-tokens-at : (p : Profile) (rows : List (List ℕ)) (i : ℕ) → i < length rows → get_or (tokensOf p rows) i nothing ≡ tokenOf p (row_at rows i)
-unfolding tokensOf
+tokens-at : (p : Profile) (rows : List (List ℕ)) (i : ℕ) → i < length rows → get_or (tokens_of p rows) i nothing ≡ token_of p (row_at rows i)
+unfolding tokens_of
 tokens-at p [] i h = absurd (omega arith)
 tokens-at p (row ∷ rows) zero h = refl
 tokens-at p (row ∷ rows) (suc i) h = tokens-at p rows i (omega arith)
 
-pub token-of : (p : Profile) (cells : List ℕ) (i : ℕ) → i < length cells / 49 → tokenIn (word_in p cells) i ≡ tokenOf p (row_at (all_rows cells) i)
-unfolding tokenIn word_in all_rows
+pub token-of : (p : Profile) (cells : List ℕ) (i : ℕ) → i < length cells / 49 → token_in (word_in p cells) i ≡ token_of p (row_at (all_rows cells) i)
+unfolding token_in word_in all_rows
 token-of p cells i h = tokens-at p (all_rows cells) i (omega (arith, length-rows (length cells / 49) cells))
 
-pub token-past : (w : List Token) (i : ℕ) → length w ≤ i → tokenIn w i ≡ nothing
-unfolding tokenIn
+pub token-past : (w : List Token) (i : ℕ) → length w ≤ i → token_in w i ≡ nothing
+unfolding token_in
 token-past [] i h = refl
 token-past (t ∷ w) zero h = absurd (omega arith)
 token-past (t ∷ w) (suc i) h = token-past w i (omega arith)
@@ -73,11 +73,11 @@ numbered-none (t ∷ w) n zero h = absurd (omega arith)
 numbered-none (t ∷ w) n (suc i) h = numbered-none w (suc n) i (omega arith)
 
 -- the rows from a row on are the row and those behind it
-pub rows-cons : (w : List Token) (i : ℕ) → i < length w → rows_from w i ≡ (i, tokenIn w i) ∷ rows_from w (i + 1)
-unfolding rows_from tokenIn
+pub rows-cons : (w : List Token) (i : ℕ) → i < length w → rows_from w i ≡ (i, token_in w i) ∷ rows_from w (i + 1)
+unfolding rows_from token_in
 rows-cons w i h = rw (add-one i) (rw (zero-add i) at (numbered-cons w 0 i h))
 
-pub rows_at : (w : List Token) (i : ℕ) (t : Token) → tokenIn w i ≡ t → i < length w → rows_from w i ≡ (i, t) ∷ rows_from w (i + 1)
+pub rows_at : (w : List Token) (i : ℕ) (t : Token) → token_in w i ≡ t → i < length w → rows_from w i ≡ (i, t) ∷ rows_from w (i + 1)
 rows_at w i t e h = rows-cons w i h ∙ ap (λ (y : Token). (i, y) ∷ rows_from w (i + 1)) e
 
 pub rows_none : (w : List Token) (i : ℕ) → length w ≤ i → rows_from w i ≡ []
@@ -99,8 +99,8 @@ Is End t = t ≡ end
 Is Halt t = t ≡ halt
 Is Nothing t = t ≡ nothing
 
-is-kind : (t : Token) → Is (rowKindOf t) t
-unfolding rowKindOf
+is-kind : (t : Token) → Is (row_kind_of t) t
+unfolding row_kind_of
 is-kind (start Kind.span) = refl
 is-kind (start Kind.join) = refl
 is-kind (start Kind.loop) = refl
@@ -113,7 +113,7 @@ is-kind halt = refl
 is-kind nothing = refl
 
 -- what the code found is the token
-pub found : (t : Token) (k x : RowKind) → k ≡ rowKindOf t → k ≡ x → Is x t
+pub found : (t : Token) (k x : RowKind) → k ≡ row_kind_of t → k ≡ x → Is x t
 found t k x e f = rw (sym e ∙ f) at (is-kind t)
 
 -- a row that is something lies in the buffer
@@ -129,33 +129,33 @@ Something End = Unit {0}
 Something Halt = Unit {0}
 Something Nothing = ⊥
 
-pub row_inside : (w : List Token) (i : ℕ) (k : RowKind) → k ≡ rowKindOf (tokenIn w i) → Something k → i < length w
-unfolding rowKindOf
+pub row_inside : (w : List Token) (i : ℕ) (k : RowKind) → k ≡ row_kind_of (token_in w i) → Something k → i < length w
+unfolding row_kind_of
 row_inside w i k e h = at (dec_lt i (length w))
   where
     at : Dec (i < length w) → i < length w
     at (yes l) = l
-    at (no n) = absurd (rw (e ∙ ap rowKindOf (token-past w i (omega (arith, n)))) at h)
+    at (no n) = absurd (rw (e ∙ ap row_kind_of (token-past w i (omega (arith, n)))) at h)
 
-pub token-inside : (w : List Token) (i : ℕ) (t : Token) → tokenIn w i ≡ t → Something (rowKindOf t) → i < length w
-token-inside w i t e h = row_inside w i (rowKindOf t) (ap rowKindOf (sym e)) h
+pub token-inside : (w : List Token) (i : ℕ) (t : Token) → token_in w i ≡ t → Something (row_kind_of t) → i < length w
+token-inside w i t e h = row_inside w i (row_kind_of t) (ap row_kind_of (sym e)) h
 
 -- a row of the buffer at which something stands
 pub record Stands (p : Profile) (cells : List ℕ) (row : ℕ) (x : RowKind) : Type 0 where
-  pub token : Is x (tokenIn (word_in p cells) row)
+  pub token : Is x (token_in (word_in p cells) row)
   pub below : row < length (word_in p cells)
   pub inside : row < length cells / 49
 
-pub stands : (p : Profile) (cells : List ℕ) (row : ℕ) (k x : RowKind) → k ≡ rowKindOf (tokenIn (word_in p cells) row) → k ≡ x → Something x → Stands p cells row x
+pub stands : (p : Profile) (cells : List ℕ) (row : ℕ) (k x : RowKind) → k ≡ row_kind_of (token_in (word_in p cells) row) → k ≡ x → Something x → Stands p cells row x
 stands p cells row k x e f h =
     let l : row < length (word_in p cells) = row_inside (word_in p cells) row x (sym f ∙ e) h in
-    record { token = found (tokenIn (word_in p cells) row) k x e f; below = l; inside = omega (arith, rows_in p cells) }
+    record { token = found (token_in (word_in p cells) row) k x e f; below = l; inside = omega (arith, rows_in p cells) }
 
 -- ARMS OF SEVERAL KINDS
 
 -- the number of a kind's variant
 abbrev pub tag : RowKind → ℕ
-tag k = tag_of (declared declaredKind.enum) k
+tag k = tag_of (declared declared_kind.enum) k
 
 abbrev or : Bool → Bool → Bool
 or true b = true

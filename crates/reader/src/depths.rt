@@ -1,10 +1,10 @@
 // The depth of each row of a trace, by one scan that counts the open blocks.
 ghost use Rattle.std.specs.Prelude.{◌≡◌, ◌++◌, ◌/◌, ◌≤◌, ◌<◌, length, drop};
-ghost use Rattle.groups.specs.Constants.{rowWidth, mostRows};
+ghost use Rattle.groups.specs.Constants.{row_width, most_rows};
 ghost use Rattle.theory_readings.specs.ways.Parser.{levels};
 ghost use Rattle.reader.specs.Rows.{word_in};
 ghost use Rattle.reader.specs.KeptKinds.{KeptKinds};
-ghost use Rattle.reader.specs.ways.Levels.{levelAt, levelBehind};
+ghost use Rattle.reader.specs.ways.Levels.{level_at, level_behind};
 
 use crate::kept::kept_kind;
 use crate::token::RowKind;
@@ -14,7 +14,7 @@ use rows::records::profile::Profile;
 // The depth of a row, where so many blocks are open before it.
 fn depth_at(kind: RowKind, opened: u32) -> u32
     requires { opened < 4294967295 }
-    ensures { result ≡ levelAt kind opened }
+    ensures { result ≡ level_at kind opened }
 {
     match kind {
         RowKind::Span | RowKind::Join | RowKind::One | RowKind::Loop => opened + 1,
@@ -29,7 +29,7 @@ fn depth_at(kind: RowKind, opened: u32) -> u32
 
 // The open blocks behind a row of this depth.
 fn open_behind(kind: RowKind, depth: u32) -> u32
-    ensures { result ≡ levelBehind kind depth }
+    ensures { result ≡ level_behind kind depth }
 {
     let RowKind::End = kind else {
         return depth;
@@ -45,10 +45,10 @@ pub(crate) fn fill(
     table: &[u8; 256],
     kinds: &[u8],
 )
-    requires { (length cells.now / rowWidth ≤ mostRows) × (length cells.now / rowWidth ≤ length depths.old)
+    requires { (length cells.now / row_width ≤ most_rows) × (length cells.now / row_width ≤ length depths.old)
         × KeptKinds profile cells.now table.now kinds.now }
     ensures { depths.new ≡ levels 0 (word_in profile cells.now)
-        ++ drop (length cells.now / rowWidth) depths.old }
+        ++ drop (length cells.now / row_width) depths.old }
 {
     let mut at = 0;
     let mut opened: u32 = 0;

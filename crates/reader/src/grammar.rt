@@ -1,12 +1,12 @@
 // Block and Passes, from a row on. Each way through reads every row once.
 ghost use Rattle.std.specs.Prelude.{◌≡◌, ◌/◌, ◌<◌, ◌≤◌, eqb, length};
 ghost use Rattle.field.specs.Cells.{cell_at};
-ghost use Rattle.groups.specs.Constants.{rowWidth};
+ghost use Rattle.groups.specs.Constants.{row_width};
 ghost use Rattle.theory_readings.specs.Readings.{row_at, all_rows};
 ghost use Rattle.theory_readings.specs.ways.Parser.{or_else};
 ghost use Rattle.reader.specs.Rows.{word_in};
 ghost use Rattle.reader.specs.KeptKinds.{KeptKinds};
-ghost use Rattle.reader.specs.ways.Parts.{toldWrong, toldPart, wrongUnless, tooDeep, closedAt, OpsRead, BlockRead, PassesRead};
+ghost use Rattle.reader.specs.ways.Parts.{told_wrong, told_part, wrong_unless, too_deep, closed_at, OpsRead, BlockRead, PassesRead};
 
 use crate::kept::note_kind;
 use crate::token::RowKind;
@@ -30,7 +30,7 @@ pub(crate) enum Part {
 
 // The lower of two wrong rows, the first one's rows being before the second one's.
 fn first(a: Wrong, b: Wrong) -> Wrong
-    ensures { toldWrong result ≡ or_else (toldWrong a) (toldWrong b) }
+    ensures { told_wrong result ≡ or_else (told_wrong a) (told_wrong b) }
 {
     match a {
         Wrong::Nowhere => b,
@@ -40,8 +40,8 @@ fn first(a: Wrong, b: Wrong) -> Wrong
 
 // Whether cell k of a row is as asked.
 fn ask(cells: &[u64], row: usize, k: usize, value: u64) -> Wrong
-    requires { (row < length cells.now / rowWidth) × (k < rowWidth) }
-    ensures { toldWrong result ≡ wrongUnless (eqb (cell_at (row_at (all_rows cells.now) row) k) value) row }
+    requires { (row < length cells.now / row_width) × (k < row_width) }
+    ensures { told_wrong result ≡ wrong_unless (eqb (cell_at (row_at (all_rows cells.now) row) k) value) row }
 {
     if cell(cells, Row::WIDTH * row + k) == value {
         Wrong::Nowhere
@@ -52,7 +52,7 @@ fn ask(cells: &[u64], row: usize, k: usize, value: u64) -> Wrong
 
 // The refusal of a row where no more block may start: 15 if it starts one, else 12.
 fn too_deep(kind: RowKind, row: usize) -> Part
-    ensures { toldPart result ≡ tooDeep kind row }
+    ensures { told_part result ≡ too_deep kind row }
 {
     match kind {
         RowKind::Span | RowKind::Join | RowKind::One | RowKind::Loop => Part::Refused(
@@ -79,7 +79,7 @@ fn close(
     kinds: &mut [u8],
 ) -> Part
     requires { KeptKinds profile cells.now table.now kinds.old }
-    ensures result_value { toldPart result ≡ closedAt profile cells.now row flag (toldWrong wrong) }
+    ensures result_value { told_part result ≡ closed_at profile cells.now row flag (told_wrong wrong) }
     ensures kept_kinds { KeptKinds profile cells.now table.now kinds.new }
 {
     let kind = note_kind(profile, cells, row, table, kinds);
@@ -100,8 +100,8 @@ fn ops(
     table: &[u8; 256],
     kinds: &mut [u8],
 ) -> Part
-    requires { (row ≤ length cells.now / rowWidth) × KeptKinds profile cells.now table.now kinds.old }
-    ensures ops_read { OpsRead (all_rows cells.now) (word_in profile cells.now) row flag (toldPart result) }
+    requires { (row ≤ length cells.now / row_width) × KeptKinds profile cells.now table.now kinds.old }
+    ensures ops_read { OpsRead (all_rows cells.now) (word_in profile cells.now) row flag (told_part result) }
     ensures kept_kinds { KeptKinds profile cells.now table.now kinds.new }
 {
     let mut at = row;
@@ -139,8 +139,8 @@ pub(crate) fn block(
     table: &[u8; 256],
     kinds: &mut [u8],
 ) -> Part
-    requires { (row ≤ length cells.now / rowWidth) × KeptKinds profile cells.now table.now kinds.old }
-    ensures block_read { BlockRead (all_rows cells.now) (word_in profile cells.now) row left flag (toldPart result) }
+    requires { (row ≤ length cells.now / row_width) × KeptKinds profile cells.now table.now kinds.old }
+    ensures block_read { BlockRead (all_rows cells.now) (word_in profile cells.now) row left flag (told_part result) }
     ensures kept_kinds { KeptKinds profile cells.now table.now kinds.new }
 {
     let kind = note_kind(profile, cells, row, table, kinds);
@@ -189,8 +189,8 @@ fn passes(
     table: &[u8; 256],
     kinds: &mut [u8],
 ) -> Part
-    requires { (row < length cells.now / rowWidth) × KeptKinds profile cells.now table.now kinds.old }
-    ensures passes_read { PassesRead (all_rows cells.now) (word_in profile cells.now) row left flag (toldPart result) }
+    requires { (row < length cells.now / row_width) × KeptKinds profile cells.now table.now kinds.old }
+    ensures passes_read { PassesRead (all_rows cells.now) (word_in profile cells.now) row left flag (told_part result) }
     ensures kept_kinds { KeptKinds profile cells.now table.now kinds.new }
 {
     let mut at = row + 1;

@@ -1,7 +1,7 @@
 // The kind of a row by a table, and kinds that are kept in a list, one number a row: UNKNOWN and more where none is known.
 ghost use Rattle.std.specs.Prelude.{◌≡◌};
-ghost use Rattle.reader.specs.Rows.{rowKindOf, tokenAt};
-ghost use Rattle.reader.specs.KeptKinds.{kindNumbered, kindOfCode, KindTable, TellsKind, KeptKinds};
+ghost use Rattle.reader.specs.Rows.{row_kind_of, token_at};
+ghost use Rattle.reader.specs.KeptKinds.{kind_numbered, kind_of_code, KindTable, TellsKind, KeptKinds};
 ghost use Rattle.reader.specs.ways.TellsKinds.{TellsByTable, KeepsNothing, TellsKept};
 
 use crate::token::{RowKind, control, op, row_kind};
@@ -21,7 +21,7 @@ pub const LONG_LIST: usize = 65536;
 
 // The number of a kind.
 fn kind_number(kind: RowKind) -> u8
-    ensures { kindNumbered result ≡ kind }
+    ensures { kind_numbered result ≡ kind }
 {
     match kind {
         RowKind::Span => 0,
@@ -39,7 +39,7 @@ fn kind_number(kind: RowKind) -> u8
 
 // The kind of a number.
 fn kind_numbered(number: u8) -> RowKind
-    ensures { result ≡ kindNumbered number }
+    ensures { result ≡ kind_numbered number }
 {
     match number {
         0 => RowKind::Span,
@@ -57,7 +57,7 @@ fn kind_numbered(number: u8) -> RowKind
 
 // The kind of a row by its opcode, with 128 more where in_span is 1.
 fn kind_of_code(profile: Profile, code: u8) -> RowKind
-    ensures { result ≡ kindOfCode profile code }
+    ensures { result ≡ kind_of_code profile code }
 {
     if code < 128 {
         return control(profile, code);
@@ -114,7 +114,7 @@ fn number_by(cells: &[u64], row: usize, table: &[u8; 256]) -> u8
 
 // What a row is, by a number that tells it or nothing.
 fn kind_told(profile: Profile, cells: &[u64], row: usize, number: u8) -> RowKind
-    ensures { TellsKind profile cells.now row number → result ≡ rowKindOf (tokenAt profile cells.now row) }
+    ensures { TellsKind profile cells.now row number → result ≡ row_kind_of (token_at profile cells.now row) }
 {
     if number < UNKNOWN {
         return kind_numbered(number);
@@ -142,7 +142,7 @@ pub(crate) fn note_kind(
     kinds: &mut [u8],
 ) -> RowKind
     requires { KeptKinds profile cells.now table.now kinds.old }
-    ensures value { result ≡ rowKindOf (tokenAt profile cells.now row) }
+    ensures value { result ≡ row_kind_of (token_at profile cells.now row) }
     ensures kept_kinds { KeptKinds profile cells.now table.now kinds.new }
 {
     let number = number_by(cells, row, table);
@@ -174,7 +174,7 @@ pub fn kept_kind(
     kinds: &[u8],
 ) -> RowKind
     ensures { KeptKinds profile cells.now table.now kinds.now
-        → result ≡ rowKindOf (tokenAt profile cells.now row) }
+        → result ≡ row_kind_of (token_at profile cells.now row) }
 {
     let number = kept_number(cells, row, table, kinds);
     if UNKNOWN <= number {

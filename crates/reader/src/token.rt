@@ -1,10 +1,10 @@
 // What a row is to the grammar.
 ghost use Rattle.std.specs.Prelude.{◌≡◌, ◌∷◌, ◌/◌, ◌<◌, length, drop};
-ghost use Rattle.groups.specs.Constants.{rowWidth};
+ghost use Rattle.groups.specs.Constants.{row_width};
 ghost use Rattle.rows.specs.records.Buffers.{opcode_of};
-ghost use Rattle.theory_readings.specs.Tokens.{nothing, controls, tokenBeside, controlToken, inSpanOf, opBitsOf, allBits};
+ghost use Rattle.theory_readings.specs.Tokens.{nothing, controls, token_beside, control_token, in_span_of, op_bits_of, all_bits};
 ghost use Rattle.theory_readings.specs.Readings.{row_at, all_rows};
-ghost use Rattle.reader.specs.Rows.{rowKindOf, tokenAt, opKind};
+ghost use Rattle.reader.specs.Rows.{row_kind_of, token_at, op_kind};
 
 use field::cell::cell;
 use groups::constants::{Column, Row};
@@ -28,7 +28,7 @@ pub enum RowKind {
 
 // The control row of an opcode, of the last six of the profile's other than PUSH.
 fn later_control(profile: Profile, opcode: u8) -> RowKind
-    ensures { result ≡ rowKindOf (tokenBeside opcode (drop 6 (controls profile)) nothing) }
+    ensures { result ≡ row_kind_of (token_beside opcode (drop 6 (controls profile)) nothing) }
 {
     if opcode == profile.call {
         return RowKind::One;
@@ -53,7 +53,7 @@ fn later_control(profile: Profile, opcode: u8) -> RowKind
 
 // The control row of an opcode.
 pub(crate) fn control(profile: Profile, opcode: u8) -> RowKind
-    ensures { result ≡ rowKindOf (controlToken profile opcode) }
+    ensures { result ≡ row_kind_of (control_token profile opcode) }
 {
     if opcode == profile.span {
         return RowKind::Span;
@@ -78,7 +78,7 @@ pub(crate) fn control(profile: Profile, opcode: u8) -> RowKind
 
 // An op, where its opcode is no control row's.
 pub(crate) fn op(control: RowKind) -> RowKind
-    ensures { result ≡ opKind control }
+    ensures { result ≡ op_kind control }
 {
     match control {
         RowKind::Nothing => RowKind::Op,
@@ -96,8 +96,8 @@ pub(crate) fn op(control: RowKind) -> RowKind
 
 // Whether in_span and the op bits of a row are 0 or 1.
 fn are_bits(cells: &[u64], row: usize) -> bool
-    requires { row < length cells.now / rowWidth }
-    ensures { result ≡ allBits (inSpanOf (row_at (all_rows cells.now) row) ∷ opBitsOf (row_at (all_rows cells.now) row)) }
+    requires { row < length cells.now / row_width }
+    ensures { result ≡ all_bits (in_span_of (row_at (all_rows cells.now) row) ∷ op_bits_of (row_at (all_rows cells.now) row)) }
 {
     let at = Row::WIDTH * row;
     (cell(cells, at + Column::IN_SPAN) < 2)
@@ -111,7 +111,7 @@ fn are_bits(cells: &[u64], row: usize) -> bool
 
 // The opcode that the op bits of a row spell.
 fn opcode(cells: &[u64], row: usize) -> u8
-    requires { row < length cells.now / rowWidth }
+    requires { row < length cells.now / row_width }
     ensures { result ≡ opcode_of (row_at (all_rows cells.now) row) }
 {
     decode_opcode(cells, row) as u8
@@ -119,7 +119,7 @@ fn opcode(cells: &[u64], row: usize) -> u8
 
 // What a row is; past the end, nothing.
 pub fn row_kind(profile: Profile, cells: &[u64], row: usize) -> RowKind
-    ensures { result ≡ rowKindOf (tokenAt profile cells.now row) }
+    ensures { result ≡ row_kind_of (token_at profile cells.now row) }
 {
     if cells.len() / Row::WIDTH <= row {
         return RowKind::Nothing;

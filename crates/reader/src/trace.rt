@@ -1,12 +1,12 @@
 // Reading a trace: its answer, and the depth of each row.
 ghost use Rattle.std.specs.Prelude.{◌≡◌, ◌/◌, ◌≤◌, length};
-ghost use Rattle.groups.specs.Constants.{rowWidth};
+ghost use Rattle.groups.specs.Constants.{row_width};
 ghost use Rattle.theory_readings.specs.Readings.{all_rows};
 ghost use Rattle.reader.specs.Rows.{word_in};
-ghost use Rattle.reader.specs.Reads.{traceRead, TellsTrace, ReadsTrace};
+ghost use Rattle.reader.specs.Reads.{trace_read, TellsTrace, ReadsTrace};
 ghost use Rattle.reader.specs.KeptKinds.{KeptKinds};
-ghost use Rattle.reader.specs.ways.Parts.{toldWrong};
-ghost use Rattle.reader.specs.ways.WholeWord.{HaltsRead, BehindRead, cellsAnswer};
+ghost use Rattle.reader.specs.ways.Parts.{told_wrong};
+ghost use Rattle.reader.specs.ways.WholeWord.{HaltsRead, BehindRead, cells_answer};
 
 use crate::depths::fill;
 use crate::grammar::{Part, Wrong, block};
@@ -27,7 +27,7 @@ pub struct TraceRead {
 
 // The first row from `from` on that is no HALT, or the end.
 fn halts(profile: Profile, cells: &[u64], from: usize, table: &[u8; 256], kinds: &mut [u8]) -> usize
-    requires { (from ≤ length cells.now / rowWidth) × KeptKinds profile cells.now table.now kinds.old }
+    requires { (from ≤ length cells.now / row_width) × KeptKinds profile cells.now table.now kinds.old }
     ensures halts_read { HaltsRead (word_in profile cells.now) from result }
     ensures kept_kinds { KeptKinds profile cells.now table.now kinds.new }
 {
@@ -51,8 +51,8 @@ fn behind_block(
     table: &[u8; 256],
     kinds: &mut [u8],
 ) -> TraceRead
-    requires { (next ≤ length cells.now / rowWidth) × KeptKinds profile cells.now table.now kinds.old }
-    ensures behind_read { BehindRead (all_rows cells.now) (word_in profile cells.now) next (toldWrong wrong) result }
+    requires { (next ≤ length cells.now / row_width) × KeptKinds profile cells.now table.now kinds.old }
+    ensures behind_read { BehindRead (all_rows cells.now) (word_in profile cells.now) next (told_wrong wrong) result }
     ensures kept_kinds { KeptKinds profile cells.now table.now kinds.new }
 {
     let end = halts(profile, cells, next, table, kinds);
@@ -81,7 +81,7 @@ fn behind_block(
 // The answer of a buffer that 2 and 11 pass.
 fn read_cells(profile: Profile, cells: &[u64], table: &[u8; 256], kinds: &mut [u8]) -> TraceRead
     requires { KeptKinds profile cells.now table.now kinds.old }
-    ensures value { result ≡ traceRead (cellsAnswer profile cells.now) }
+    ensures value { result ≡ trace_read (cells_answer profile cells.now) }
     ensures kept_kinds { KeptKinds profile cells.now table.now kinds.new }
 {
     let root = block(profile, cells, 0, 64, 0, table, kinds);

@@ -29,31 +29,31 @@ use Rattle.rows.specs.declared.records.continuation.ContextInfo.{ContextInfo}
 use Rattle.rows.specs.declared.records.continuation.Captured.{Captured}
 use Rattle.rows.specs.declared.records.continuation.StoredValues.{StoredValues}
 use Rattle.rows.specs.records.Forests.{Forest}
-use Rattle.rows.specs.records.Addresses.{Queues, readState}
-use Rattle.rows.specs.records.Captured.{readCallee, readInfo, readCaptured}
-use Rattle.rows.specs.records.Built.{noSystem, noStack, readSystem, readStack, cells16, systemCells, stackCells}
+use Rattle.rows.specs.records.Addresses.{Queues, read_state}
+use Rattle.rows.specs.records.Captured.{read_callee, read_info, read_captured}
+use Rattle.rows.specs.records.Built.{no_system, no_stack, read_system, read_stack, cells16, system_cells, stack_cells}
 use Rattle.rows.specs.records.CallRecords.{finishes}
 use Rattle.rows.proofs.records.Windows.{all-16}
 use Rattle.rows.specs.declared.cycles.made.MadeRow.{MadeRow}
 use Rattle.rows.specs.declared.cycles.scan.Scan.{Scan}
 use Rattle.rows.specs.declared.cycles.tracer.StoredContinuation.{StoredContinuation}
 use Rattle.rows.specs.declared.cycles.tracer.CoreTraceGenerationTracer.{CoreTraceGenerationTracer}
-use Rattle.rows.specs.cycles.Scans.{anyBigOpcode, anyLongBlock, anyLargeBatch, forestTooLarge, scanOf}
-use Rattle.rows.specs.cycles.Cycles.{fresh, storingOf, continuationOf, cycleWith, cycle, tracerAfter, lastSystem, lastStack, fragmentAfter, finalState}
-use Rattle.rows.specs.replay.Calls.{Setting, setting, forestOf, callDone, callWritten, scanned}
-use Rattle.rows.specs.replay.SingleCalls.{singleDone, singleWritten}
+use Rattle.rows.specs.cycles.Scans.{any_big_opcode, any_long_block, any_large_batch, forest_too_large, scan_of}
+use Rattle.rows.specs.cycles.Cycles.{fresh, storing_of, continuation_of, cycle_with, cycle, tracer_after, last_system, last_stack, fragment_after, final_state}
+use Rattle.rows.specs.replay.Calls.{Setting, setting, forest_of, call_done, call_written, scanned}
+use Rattle.rows.specs.replay.SingleCalls.{single_done, single_written}
 use Rattle.rows.proofs.passes.Checks.{neither}
 use Rattle.theory_reductions.specs.Below.{Below}
-use Rattle.theory_before_n2.specs.BeforeN2.{LentBelow, lentBig, calleeCells, infoCells, cycleCells, cycleBig, scanOfBefore, cycleWithBefore, cycleBefore}
+use Rattle.theory_before_n2.specs.BeforeN2.{LentBelow, lent_big, callee_cells, info_cells, cycle_cells, cycle_big, scan_of_before, cycle_with_before, cycle_before}
 use Rattle.theory_reductions.proofs.Accepted.{unrefused}
 use Rattle.theory_reductions.proofs.CyclesReduced.{last-system, last-stack}
-use Rattle.theory_before_n2.proofs.SameCells.{below_both, below_of, of-below, same-readWord, same-read16}
+use Rattle.theory_before_n2.proofs.SameCells.{below_both, below_of, of-below, same-read_word, same-read16}
 
 -- REFUSAL 1
 
 -- for cells below p the test of what is lent comes to that of the opcodes
-big-is : (f : Forest) (q : Queues) → LentBelow f q → lentBig f q ≡ anyBigOpcode f.ops
-unfolding lentBig anyBigOpcode
+big-is : (f : Forest) (q : Queues) → LentBelow f q → lent_big f q ≡ any_big_opcode f.ops
+unfolding lent_big any_big_opcode
 big-is f q h =
     rw (
       of-below f.digests h.digests,
@@ -65,11 +65,11 @@ big-is f q h =
     )
 
 -- the test of what is lent: cells below p, and opcodes, which refusal 1 is still asked of
-pub tested-lentBig : (f : Forest) (q : Queues) → (lentBig f q ≡ false) ↔ (LentBelow f q × (anyBigOpcode f.ops ≡ false))
-unfolding lentBig anyBigOpcode
-tested-lentBig f q = (there, back)
+pub tested-lent_big : (f : Forest) (q : Queues) → (lent_big f q ≡ false) ↔ (LentBelow f q × (any_big_opcode f.ops ≡ false))
+unfolding lent_big any_big_opcode
+tested-lent_big f q = (there, back)
   where
-    there : lentBig f q ≡ false → LentBelow f q × (anyBigOpcode f.ops ≡ false)
+    there : lent_big f q ≡ false → LentBelow f q × (any_big_opcode f.ops ≡ false)
     there e =
         let ends = any_from P q.parents || any_from P q.ends in
         let queues = any_from P q.addresses || ends in
@@ -88,27 +88,27 @@ tested-lentBig f q = (there, back)
           c,
         )
 
-    back : LentBelow f q × (anyBigOpcode f.ops ≡ false) → lentBig f q ≡ false
+    back : LentBelow f q × (any_big_opcode f.ops ≡ false) → lent_big f q ≡ false
     back h = big-is f q h.0 ∙ h.1
 
 -- the test of what a cycle is handed
-pub tested-cycleBig : (system : SystemState) (stack : StackState) (registers : OperationHelperRegisters) (t : CoreTraceGenerationTracer)
-    → (cycleBig system stack registers t ≡ false) ↔ Below (cycleCells system stack registers t)
-unfolding cycleBig
-tested-cycleBig system stack registers t = (below_of (cycleCells system stack registers t), of-below (cycleCells system stack registers t))
+pub tested-cycle_big : (system : SystemState) (stack : StackState) (registers : OperationHelperRegisters) (t : CoreTraceGenerationTracer)
+    → (cycle_big system stack registers t ≡ false) ↔ Below (cycle_cells system stack registers t)
+unfolding cycle_big
+tested-cycle_big system stack registers t = (below_of (cycle_cells system stack registers t), of-below (cycle_cells system stack registers t))
 
 -- THE SCAN
 
 -- too large a forest: now of two of its slices
-pub same-forestTooLarge : (f : Forest)
-    → forestTooLarge f.nodes f.batches ≡ (anyLongBlock f.nodes (length f.nodes / 6) || anyLargeBatch f.batches (length f.batches / 12))
-unfolding forestTooLarge
-same-forestTooLarge f = refl
+pub same-forest_too_large : (f : Forest)
+    → forest_too_large f.nodes f.batches ≡ (any_long_block f.nodes (length f.nodes / 6) || any_large_batch f.batches (length f.batches / 12))
+unfolding forest_too_large
+same-forest_too_large f = refl
 
 -- what a scan finds
-pub same-scanOf : (p : Profile) (f : Forest) (q : Queues) → LentBelow f q → scanOf p f.nodes f.batches f.ops ≡ scanOfBefore p f q
-unfolding scanOf scanOfBefore
-same-scanOf p f q h = rw (big-is f q h)
+pub same-scan_of : (p : Profile) (f : Forest) (q : Queues) → LentBelow f q → scan_of p f.nodes f.batches f.ops ≡ scan_of_before p f q
+unfolding scan_of scan_of_before
+same-scan_of p f q h = rw (big-is f q h)
 
 -- A CYCLE
 
@@ -121,32 +121,32 @@ pub same-fresh : (state : DecoderState) (at : Positions) → state.current_addr 
   captured = record { finish_loop_condition = LoopCondition.Absent; dyn_callee_hash = CalleeWord.Absent; ctx_info = ContextInfo.Absent };
   decoder_state = state;
   at = at;
-  system_cols = noSystem;
-  stack_cols = noStack;
+  system_cols = no_system;
+  stack_cols = no_stack;
 }
-unfolding fresh readState
+unfolding fresh read_state
 same-fresh state at h k = rw (read_small state.current_addr h, read_small state.parent_addr k)
 
 -- a callee word and an info of cells below p are read as themselves
-same-readCallee : (callee : CalleeWord) → Below (calleeCells callee) → readCallee callee ≡ callee
-same-readCallee CalleeWord.Absent h = refl
-same-readCallee (CalleeWord.Is word) h = rw (same-readWord word h)
+same-read_callee : (callee : CalleeWord) → Below (callee_cells callee) → read_callee callee ≡ callee
+same-read_callee CalleeWord.Absent h = refl
+same-read_callee (CalleeWord.Is word) h = rw (same-read_word word h)
 
-same-readInfo : (info : ContextInfo) → Below (infoCells info) → readInfo info ≡ info
+same-read_info : (info : ContextInfo) → Below (info_cells info) → read_info info ≡ info
 unfolding Below
-same-readInfo ContextInfo.Absent h = refl
-same-readInfo (ContextInfo.Is info) h = rw (read_small info.next_overflow_addr h.0)
+same-read_info ContextInfo.Absent h = refl
+same-read_info (ContextInfo.Is info) h = rw (read_small info.next_overflow_addr h.0)
 
 -- and so are captured values
-pub same-readCaptured : (c : Captured) → Below (calleeCells c.dyn_callee_hash ++ infoCells c.ctx_info) → readCaptured c ≡ c
-unfolding readCaptured
-same-readCaptured c h =
-    let (a, b) = below_both (calleeCells c.dyn_callee_hash) (infoCells c.ctx_info) h in
-    rw (same-readCallee c.dyn_callee_hash a, same-readInfo c.ctx_info b)
+pub same-read_captured : (c : Captured) → Below (callee_cells c.dyn_callee_hash ++ info_cells c.ctx_info) → read_captured c ≡ c
+unfolding read_captured
+same-read_captured c h =
+    let (a, b) = below_both (callee_cells c.dyn_callee_hash) (info_cells c.ctx_info) h in
+    rw (same-read_callee c.dyn_callee_hash a, same-read_info c.ctx_info b)
 
 -- a storing
 pub same-storing : (t : CoreTraceGenerationTracer) (values : StoredValues)
-    → Below (calleeCells values.captured.dyn_callee_hash ++ infoCells values.captured.ctx_info) → storingOf t values ≡ record {
+    → Below (callee_cells values.captured.dyn_callee_hash ++ info_cells values.captured.ctx_info) → storing_of t values ≡ record {
       refusal = t.refusal;
       row_write_index = t.row_write_index;
       continuation = StoredContinuation.Is values.continuation;
@@ -157,127 +157,127 @@ pub same-storing : (t : CoreTraceGenerationTracer) (values : StoredValues)
       system_cols = t.system_cols;
       stack_cols = t.stack_cols;
     }
-same-storing t values h = rw (same-readCaptured values.captured h)
+same-storing t values h = rw (same-read_captured values.captured h)
 
 -- a finish, what the scan found being given: refusal 1 of what it is handed is not answered
-pub same-cycleWith : (scan : Scan) (p : Profile) (f : Forest) (q : Queues)
+pub same-cycle_with : (scan : Scan) (p : Profile) (f : Forest) (q : Queues)
     (system : SystemState) (stack : StackState) (registers : OperationHelperRegisters) (cells : ℕ) (t : CoreTraceGenerationTracer)
-    → Below (cycleCells system stack registers t)
-    → cycleWith scan p f q stack registers cells t ≡ cycleWithBefore scan p f q system stack registers cells t
-unfolding cycleWith cycleWithBefore
-same-cycleWith scan p f q system stack registers cells t h =
-    rw ((tested-cycleBig system stack registers t).1 h, or-false)
+    → Below (cycle_cells system stack registers t)
+    → cycle_with scan p f q stack registers cells t ≡ cycle_with_before scan p f q system stack registers cells t
+unfolding cycle_with cycle_with_before
+same-cycle_with scan p f q system stack registers cells t h =
+    rw ((tested-cycle_big system stack registers t).1 h, or-false)
 
 -- a finish: nor is refusal 1 of what is lent
 pub same-cycle : (p : Profile) (f : Forest) (q : Queues)
     (system : SystemState) (stack : StackState) (registers : OperationHelperRegisters) (cells : ℕ) (t : CoreTraceGenerationTracer)
-    → LentBelow f q → Below (cycleCells system stack registers t)
-    → cycle p f q stack registers cells t ≡ cycleBefore p f q system stack registers cells t
-unfolding cycle cycleBefore
+    → LentBelow f q → Below (cycle_cells system stack registers t)
+    → cycle p f q stack registers cells t ≡ cycle_before p f q system stack registers cells t
+unfolding cycle cycle_before
 same-cycle p f q system stack registers cells t lent h =
-    ap (λ (scan : Scan). cycleWith scan p f q stack registers cells t) (same-scanOf p f q lent)
-    ∙ same-cycleWith (scanOfBefore p f q) p f q system stack registers cells t h
+    ap (λ (scan : Scan). cycle_with scan p f q stack registers cells t) (same-scan_of p f q lent)
+    ∙ same-cycle_with (scan_of_before p f q) p f q system stack registers cells t h
 
 -- a finish that was answered had been handed cells below p
-pub answered-cycleWith : (scan : Scan) (p : Profile) (f : Forest) (q : Queues)
+pub answered-cycle_with : (scan : Scan) (p : Profile) (f : Forest) (q : Queues)
     (system : SystemState) (stack : StackState) (registers : OperationHelperRegisters) (cells : ℕ) (t : CoreTraceGenerationTracer) (m : MadeRow)
-    → cycleWithBefore scan p f q system stack registers cells t ≡ accepted m → (scan.big ≡ false) × Below (cycleCells system stack registers t)
-unfolding cycleWithBefore
-answered-cycleWith scan p f q system stack registers cells t m e =
+    → cycle_with_before scan p f q system stack registers cells t ≡ accepted m → (scan.big ≡ false) × Below (cycle_cells system stack registers t)
+unfolding cycle_with_before
+answered-cycle_with scan p f q system stack registers cells t m e =
     let a = unrefused (not (eqb t.refusal 0)) t.refusal _ m e in
-    let b = then-accepted (continuationOf t.continuation) _ m a.1 in
-    let c = unrefused (scan.big || cycleBig system stack registers t) 1 _ m b.2 in
-    let d = neither scan.big (cycleBig system stack registers t) c.0 in
-    (d.0, (tested-cycleBig system stack registers t).0 d.1)
+    let b = then-accepted (continuation_of t.continuation) _ m a.1 in
+    let c = unrefused (scan.big || cycle_big system stack registers t) 1 _ m b.2 in
+    let d = neither scan.big (cycle_big system stack registers t) c.0 in
+    (d.0, (tested-cycle_big system stack registers t).0 d.1)
 
 -- and so had what was lent
 pub answered-cycle : (p : Profile) (f : Forest) (q : Queues)
     (system : SystemState) (stack : StackState) (registers : OperationHelperRegisters) (cells : ℕ) (t : CoreTraceGenerationTracer) (m : MadeRow)
-    → cycleBefore p f q system stack registers cells t ≡ accepted m → LentBelow f q × Below (cycleCells system stack registers t)
-unfolding cycleBefore scanOfBefore
+    → cycle_before p f q system stack registers cells t ≡ accepted m → LentBelow f q × Below (cycle_cells system stack registers t)
+unfolding cycle_before scan_of_before
 answered-cycle p f q system stack registers cells t m e =
-    let a = answered-cycleWith (scanOfBefore p f q) p f q system stack registers cells t m e in
-    (((tested-lentBig f q).0 a.0).0, a.1)
+    let a = answered-cycle_with (scan_of_before p f q) p f q system stack registers cells t m e in
+    (((tested-lent_big f q).0 a.0).0, a.1)
 
 -- so a finish that was answered is answered the same
 pub answered-the-same : (p : Profile) (f : Forest) (q : Queues)
     (system : SystemState) (stack : StackState) (registers : OperationHelperRegisters) (cells : ℕ) (t : CoreTraceGenerationTracer) (m : MadeRow)
-    → cycleBefore p f q system stack registers cells t ≡ accepted m → cycle p f q stack registers cells t ≡ accepted m
+    → cycle_before p f q system stack registers cells t ≡ accepted m → cycle p f q stack registers cells t ≡ accepted m
 answered-the-same p f q system stack registers cells t m e =
     let a = answered-cycle p f q system stack registers cells t m e in
     same-cycle p f q system stack registers cells t a.0 a.1 ∙ e
 
 -- built cells below p are read as themselves, in the first row too, where they are 0
-same-readSystem : (system : SystemCols) → Below (systemCells system) → readSystem system ≡ system
-unfolding readSystem systemCells Below
-same-readSystem system h = rw (read_small system.clk h.0, read_small system.ctx h.1.0, same-readWord system.fn_hash h.1.1)
+same-read_system : (system : SystemCols) → Below (system_cells system) → read_system system ≡ system
+unfolding read_system system_cells Below
+same-read_system system h = rw (read_small system.clk h.0, read_small system.ctx h.1.0, same-read_word system.fn_hash h.1.1)
 
-same-readStack : (stack : StackCols) → length stack.top ≡ 16 → Below (stackCells stack) → readStack stack ≡ stack
-unfolding readStack stackCells Below
-same-readStack stack l h =
+same-read_stack : (stack : StackCols) → length stack.top ≡ 16 → Below (stack_cells stack) → read_stack stack ≡ stack
+unfolding read_stack stack_cells Below
+same-read_stack stack l h =
     let (a, b) = below_both (cells16 stack.top) (stack.b0 ∷ stack.b1 ∷ stack.h0 ∷ []) h in
     rw (same-read16 stack.top a, all-16 stack.top l, read_small stack.b0 b.0, read_small stack.b1 b.1.0, read_small stack.h0 b.1.1.0)
 
-same-lastSystem : (t : CoreTraceGenerationTracer) → Below (systemCells t.system_cols) → readSystem (lastSystem t) ≡ lastSystem t
-unfolding lastSystem
-same-lastSystem t h = last-system t (eqb t.row_write_index 0) ∙ ap (λ (x : SystemCols). pick (eqb t.row_write_index 0) noSystem x) (same-readSystem t.system_cols h)
+same-last_system : (t : CoreTraceGenerationTracer) → Below (system_cells t.system_cols) → read_system (last_system t) ≡ last_system t
+unfolding last_system
+same-last_system t h = last-system t (eqb t.row_write_index 0) ∙ ap (λ (x : SystemCols). pick (eqb t.row_write_index 0) no_system x) (same-read_system t.system_cols h)
 
-same-lastStack : (t : CoreTraceGenerationTracer) → length t.stack_cols.top ≡ 16 → Below (stackCells t.stack_cols) → readStack (lastStack t) ≡ lastStack t
-unfolding lastStack
-same-lastStack t l h = last-stack t (eqb t.row_write_index 0) ∙ ap (λ (x : StackCols). pick (eqb t.row_write_index 0) noStack x) (same-readStack t.stack_cols l h)
+same-last_stack : (t : CoreTraceGenerationTracer) → length t.stack_cols.top ≡ 16 → Below (stack_cells t.stack_cols) → read_stack (last_stack t) ≡ last_stack t
+unfolding last_stack
+same-last_stack t l h = last-stack t (eqb t.row_write_index 0) ∙ ap (λ (x : StackCols). pick (eqb t.row_write_index 0) no_stack x) (same-read_stack t.stack_cols l h)
 
 -- the final state; the stack top is an array of 16
-pub same-finalState : (t : CoreTraceGenerationTracer) → length t.stack_cols.top ≡ 16 → Below (systemCells t.system_cols ++ stackCells t.stack_cols) → finalState t ≡
+pub same-final_state : (t : CoreTraceGenerationTracer) → length t.stack_cols.top ≡ 16 → Below (system_cells t.system_cols ++ stack_cells t.stack_cols) → final_state t ≡
     pick (eqb t.refusal 0)
-    (record { refusal = 0; last_system_cols = lastSystem t; last_stack_cols = lastStack t; num_rows_written = t.row_write_index })
-    (record { refusal = t.refusal; last_system_cols = noSystem; last_stack_cols = noStack; num_rows_written = 0 })
-unfolding finalState
-same-finalState t l h =
-    let (a, b) = below_both (systemCells t.system_cols) (stackCells t.stack_cols) h in
-    rw (same-lastSystem t a, same-lastStack t l b)
+    (record { refusal = 0; last_system_cols = last_system t; last_stack_cols = last_stack t; num_rows_written = t.row_write_index })
+    (record { refusal = t.refusal; last_system_cols = no_system; last_stack_cols = no_stack; num_rows_written = 0 })
+unfolding final_state
+same-final_state t l h =
+    let (a, b) = below_both (system_cells t.system_cols) (stack_cells t.stack_cols) h in
+    rw (same-last_system t a, same-last_stack t l b)
 
 -- REPLAY
 
 -- a call that is a finish; the other clauses are as they were
-pub same-callDone : (s : Setting) (t : CoreTraceGenerationTracer) (k : ℕ)
+pub same-call_done : (s : Setting) (t : CoreTraceGenerationTracer) (k : ℕ)
     (system : SystemState) (stack : StackState) (registers : OperationHelperRegisters)
-    → Below (cycleCells system stack registers t) → callDone s t (accepted (finishes k system stack registers)) ≡
-    tracerAfter system stack t (cycleWithBefore s.scan s.profile (forestOf s k) s.queues system stack registers s.cells t)
-unfolding callDone
-same-callDone s t k system stack registers h =
-    ap (tracerAfter system stack t) (same-cycleWith s.scan s.profile (forestOf s k) s.queues system stack registers s.cells t h)
+    → Below (cycle_cells system stack registers t) → call_done s t (accepted (finishes k system stack registers)) ≡
+    tracer_after system stack t (cycle_with_before s.scan s.profile (forest_of s k) s.queues system stack registers s.cells t)
+unfolding call_done
+same-call_done s t k system stack registers h =
+    ap (tracer_after system stack t) (same-cycle_with s.scan s.profile (forest_of s k) s.queues system stack registers s.cells t h)
 
 -- and what it writes
-pub same-callWritten : (s : Setting) (t : CoreTraceGenerationTracer) (k : ℕ)
+pub same-call_written : (s : Setting) (t : CoreTraceGenerationTracer) (k : ℕ)
     (system : SystemState) (stack : StackState) (registers : OperationHelperRegisters) (fragment : List ℕ)
-    → Below (cycleCells system stack registers t) → callWritten s t (accepted (finishes k system stack registers)) fragment ≡
-    fragmentAfter fragment t (cycleWithBefore s.scan s.profile (forestOf s k) s.queues system stack registers s.cells t)
-unfolding callWritten
-same-callWritten s t k system stack registers fragment h =
-    ap (fragmentAfter fragment t) (same-cycleWith s.scan s.profile (forestOf s k) s.queues system stack registers s.cells t h)
+    → Below (cycle_cells system stack registers t) → call_written s t (accepted (finishes k system stack registers)) fragment ≡
+    fragment_after fragment t (cycle_with_before s.scan s.profile (forest_of s k) s.queues system stack registers s.cells t)
+unfolding call_written
+same-call_written s t k system stack registers fragment h =
+    ap (fragment_after fragment t) (same-cycle_with s.scan s.profile (forest_of s k) s.queues system stack registers s.cells t h)
 
 -- what all calls share
 pub same-scanned : (p : Profile) (f : Forest) (directory : List ℕ) (q : Queues) (cells : ℕ)
-    → LentBelow f q → scanned p f directory q cells ≡ setting (scanOfBefore p f q) p f directory q cells
+    → LentBelow f q → scanned p f directory q cells ≡ setting (scan_of_before p f q) p f directory q cells
 unfolding scanned
-same-scanned p f directory q cells h = rw (same-scanOf p f q h)
+same-scanned p f directory q cells h = rw (same-scan_of p f q h)
 
 -- a finish of a list of calls that are made one by one
-pub same-singleDone : (s : Setting) (t : CoreTraceGenerationTracer) (k : ℕ)
+pub same-single_done : (s : Setting) (t : CoreTraceGenerationTracer) (k : ℕ)
     (system : SystemState) (stack : StackState) (registers : OperationHelperRegisters)
-    → LentBelow (forestOf s k) s.queues → Below (cycleCells system stack registers t)
-    → singleDone s t (accepted (finishes k system stack registers)) ≡
-    tracerAfter system stack t (cycleBefore s.profile (forestOf s k) s.queues system stack registers s.cells t)
-unfolding singleDone
-same-singleDone s t k system stack registers lent h =
-    ap (tracerAfter system stack t) (same-cycle s.profile (forestOf s k) s.queues system stack registers s.cells t lent h)
+    → LentBelow (forest_of s k) s.queues → Below (cycle_cells system stack registers t)
+    → single_done s t (accepted (finishes k system stack registers)) ≡
+    tracer_after system stack t (cycle_before s.profile (forest_of s k) s.queues system stack registers s.cells t)
+unfolding single_done
+same-single_done s t k system stack registers lent h =
+    ap (tracer_after system stack t) (same-cycle s.profile (forest_of s k) s.queues system stack registers s.cells t lent h)
 
 -- and what it writes
-pub same-singleWritten : (s : Setting) (t : CoreTraceGenerationTracer) (k : ℕ)
+pub same-single_written : (s : Setting) (t : CoreTraceGenerationTracer) (k : ℕ)
     (system : SystemState) (stack : StackState) (registers : OperationHelperRegisters) (fragment : List ℕ)
-    → LentBelow (forestOf s k) s.queues → Below (cycleCells system stack registers t)
-    → singleWritten s t (accepted (finishes k system stack registers)) fragment ≡
-    fragmentAfter fragment t (cycleBefore s.profile (forestOf s k) s.queues system stack registers s.cells t)
-unfolding singleWritten
-same-singleWritten s t k system stack registers fragment lent h =
-    ap (fragmentAfter fragment t) (same-cycle s.profile (forestOf s k) s.queues system stack registers s.cells t lent h)
+    → LentBelow (forest_of s k) s.queues → Below (cycle_cells system stack registers t)
+    → single_written s t (accepted (finishes k system stack registers)) fragment ≡
+    fragment_after fragment t (cycle_before s.profile (forest_of s k) s.queues system stack registers s.cells t)
+unfolding single_written
+same-single_written s t k system stack registers fragment lent h =
+    ap (fragment_after fragment t) (same-cycle s.profile (forest_of s k) s.queues system stack registers s.cells t lent h)

@@ -9,44 +9,44 @@ use lib.ListN.{length, take, drop, get_or}
 use Rattle.field.specs.Modulus.{P}
 use Rattle.field.specs.Bounds.{any_from}
 use Rattle.rows.specs.declared.records.profile.Profile.{Profile}
-use Rattle.rows.specs.records.Profiles.{profileWrong}
-use Rattle.rows.specs.records.Buffers.{bufferWrong}
+use Rattle.rows.specs.records.Profiles.{profile_wrong}
+use Rattle.rows.specs.records.Buffers.{buffer_wrong}
 use Rattle.groups.specs.Answer.{first_of}
 use Rattle.rows.proofs.passes.Checks.{none_first}
 use Rattle.theory_reductions.specs.Below.{Below}
-use Rattle.theory_before_n2.proofs.SameCells.{below_of, of-below, same-cellAt, same-reduced}
-use Rattle.theory_readings.specs.Tokens.{inSpanOf, count_of, opBitsOf}
-use Rattle.theory_readings.specs.Readings.{bufferRefusal}
-use Rattle.theory_readings.specs.Answers.{readerRefusal}
+use Rattle.theory_before_n2.proofs.SameCells.{below_of, of-below, same-cell_at, same-reduced}
+use Rattle.theory_readings.specs.Tokens.{in_span_of, count_of, op_bits_of}
+use Rattle.theory_readings.specs.Readings.{buffer_refusal}
+use Rattle.theory_readings.specs.Answers.{reader_refusal}
 
 -- in_span of a row
-pub same-inSpanOf : (row : List ℕ) → get_or row 22 0 < P → inSpanOf row ≡ get_or row 22 0
-same-inSpanOf row h = same-cellAt row 22 h
+pub same-in_span_of : (row : List ℕ) → get_or row 22 0 < P → in_span_of row ≡ get_or row 22 0
+same-in_span_of row h = same-cell_at row 22 h
 
 -- the count of a row
-pub same-countOf : (row : List ℕ) → get_or row 23 0 < P → count_of row ≡ get_or row 23 0
-same-countOf row h = same-cellAt row 23 h
+pub same-count_of : (row : List ℕ) → get_or row 23 0 < P → count_of row ≡ get_or row 23 0
+same-count_of row h = same-cell_at row 23 h
 
 -- the seven op bits
-pub same-opBitsOf : (row : List ℕ) → Below (take 7 (drop 7 row)) → opBitsOf row ≡ take 7 (drop 7 row)
-same-opBitsOf row h = same-reduced (take 7 (drop 7 row)) h
+pub same-op_bits_of : (row : List ℕ) → Below (take 7 (drop 7 row)) → op_bits_of row ≡ take 7 (drop 7 row)
+same-op_bits_of row h = same-reduced (take 7 (drop 7 row)) h
 
 -- a buffer that was not refused had cells below p
 pub answered-cells : (cells : List ℕ) (rest : List (Bool × ℕ)) → first_of ((any_from P cells, 1) ∷ rest) ≡ 0 → Below cells
 answered-cells cells rest e = below_of cells (none_first (any_from P cells) 0 rest e).0
 
 -- what refuses a buffer: 1 is not answered
-pub same-bufferRefusal : (p : Profile) (cells : List ℕ)
-    → Below cells → bufferRefusal p cells ≡ first_of ((any_from P cells, 1) ∷ (profileWrong p, 2) ∷ (bufferWrong (length cells), 11) ∷ [])
-unfolding bufferRefusal first_of
-same-bufferRefusal p cells h = rw (of-below cells h)
+pub same-buffer_refusal : (p : Profile) (cells : List ℕ)
+    → Below cells → buffer_refusal p cells ≡ first_of ((any_from P cells, 1) ∷ (profile_wrong p, 2) ∷ (buffer_wrong (length cells), 11) ∷ [])
+unfolding buffer_refusal first_of
+same-buffer_refusal p cells h = rw (of-below cells h)
 
 -- what a reader refuses before it reads: 1 is not answered
-pub same-readerRefusal : (p : Profile) (cells : List ℕ) (depths : ℕ) → Below cells → readerRefusal p cells depths ≡
+pub same-reader_refusal : (p : Profile) (cells : List ℕ) (depths : ℕ) → Below cells → reader_refusal p cells depths ≡
     first_of
     ((any_from P cells, 1)
-    ∷ (profileWrong p, 2)
-    ∷ (bufferWrong (length cells) || ltb depths (length cells / 49), 11)
+    ∷ (profile_wrong p, 2)
+    ∷ (buffer_wrong (length cells) || ltb depths (length cells / 49), 11)
     ∷ [])
-unfolding readerRefusal first_of
-same-readerRefusal p cells depths h = rw (of-below cells h)
+unfolding reader_refusal first_of
+same-reader_refusal p cells depths h = rw (of-below cells h)

@@ -1,14 +1,14 @@
 -- What refusal 1 looked at before N2: document 01's "1 input cell ≥ p, used or not, .. stored values .. whole queues and forest included". The
 -- theorems of proofs/ say that what these definitions let pass is as it was. They stand as they stood, under their names; one whose name is taken by what
 -- stands there now ends in `Before`. What a definition here cites is today's: what N2 changed of it has a theorem of its own, and what came later is not
--- compared (`made` refuses the start of a SYSCALL node since N8). New, for the theorems' premises: `groupCells`, `LentBelow`, `depthIn`, `Narrow32`, `callCells`.
+-- compared (`made` refuses the start of a SYSCALL node since N8). New, for the theorems' premises: `group_cells`, `LentBelow`, `depth_in`, `Narrow32`, `call_cells`.
 use Rattle.std.specs.Prelude.{Bool, not, ◌||◌, List, [], ◌∷◌, ◌++◌, ℕ, ◌+◌, ◌*◌, ◌/◌, ◌<◌, leb, ltb, eqb, take, get_or}
 use Rattle.field.specs.Modulus.{P}
 use Rattle.field.specs.Bounds.{any_from}
-use Rattle.field.specs.Inverse.{inverseOf}
+use Rattle.field.specs.Inverse.{inverse_of}
 use Rattle.groups.specs.Answer.{Answer, accepted, refused, and_then, pick}
-use Rattle.groups.specs.Constants.{rowWidth, bigOpcode, badProfile, noSuchBatch, lowDepth, badLength, storedAbsent, noRowLeft}
-use Rattle.groups.specs.Batches.{recordOf, isBatch}
+use Rattle.groups.specs.Constants.{row_width, big_opcode, bad_profile, no_such_batch, low_depth, bad_length, stored_absent, no_row_left}
+use Rattle.groups.specs.Batches.{record_of, is_batch}
 use Rattle.groups.specs.declared.word.Word.{Word}
 use Rattle.groups.specs.declared.batch.BasicBlockNode.{BasicBlockNode}
 use Rattle.groups.specs.declared.batch.OpBatch.{OpBatch}
@@ -27,29 +27,29 @@ use Rattle.rows.specs.declared.records.continuation.Captured.{Captured}
 use Rattle.rows.specs.declared.records.continuation.StoredValues.{StoredValues}
 use Rattle.rows.specs.declared.records.call_record.InfoFound.{InfoFound}
 use Rattle.rows.specs.declared.records.call_record.SystemFound.{SystemFound}
-use Rattle.rows.specs.records.Profiles.{profileWrong}
-use Rattle.rows.specs.records.Forests.{Forest, nodeId}
+use Rattle.rows.specs.records.Profiles.{profile_wrong}
+use Rattle.rows.specs.records.Forests.{Forest, node_id}
 use Rattle.rows.specs.records.Addresses.{Queues}
-use Rattle.rows.specs.records.DecoderRows.{wordCells}
-use Rattle.rows.specs.records.Built.{systemCells, cells16, stackCells}
-use Rattle.rows.specs.records.Cells.{fragmentWrong}
-use Rattle.rows.specs.records.CallRecords.{RecordedCall, stores, finishes, of32, conditionIn, continuationOn, namesNothing, manyCells, recordedStoring}
+use Rattle.rows.specs.records.DecoderRows.{word_cells}
+use Rattle.rows.specs.records.Built.{system_cells, cells16, stack_cells}
+use Rattle.rows.specs.records.Cells.{fragment_wrong}
+use Rattle.rows.specs.records.CallRecords.{RecordedCall, stores, finishes, of32, condition_in, continuation_on, names_nothing, many_cells, recorded_storing}
 use Rattle.rows.specs.declared.cycles.made.MadeRow.{MadeRow}
 use Rattle.rows.specs.declared.cycles.scan.Scan.{Scan}
 use Rattle.rows.specs.declared.cycles.tracer.CoreTraceGenerationTracer.{CoreTraceGenerationTracer}
 use Rattle.rows.specs.cycles.Made.{cursor, made}
-use Rattle.rows.specs.cycles.Scans.{forestTooLarge}
-use Rattle.rows.specs.cycles.Cycles.{continuationOf, refuseIf}
-use Rattle.rows.specs.passes.Passes.{wordFrom}
+use Rattle.rows.specs.cycles.Scans.{forest_too_large}
+use Rattle.rows.specs.cycles.Cycles.{continuation_of, refuse_if}
+use Rattle.rows.specs.passes.Passes.{word_from}
 use Rattle.theory_reductions.specs.Below.{Below}
 
 -- THE INVERSE FOR OTHER LANGUAGES
 
-unfoldable pub inverseNumber : ℕ → ℕ
-inverseNumber x = pick (ltb x P) 0 1
+unfoldable pub inverse_number : ℕ → ℕ
+inverse_number x = pick (ltb x P) 0 1
 
-unfoldable pub inverseValue : ℕ → ℕ
-inverseValue x = pick (ltb x P) (inverseOf x) 0
+unfoldable pub inverse_value : ℕ → ℕ
+inverse_value x = pick (ltb x P) (inverse_of x) 0
 
 -- GROUPS
 
@@ -58,56 +58,56 @@ unfoldable pub beyond : Word → Bool
 beyond w = leb P w.0 || (leb P w.1 || (leb P w.2 || leb P w.3))
 
 -- the batch of record r, its groups as lent
-abbrev pub batchOfBefore : (batches groups : List ℕ) → (r : ℕ) → OpBatch
-batchOfBefore batches groups r = record {
+abbrev pub batch_of_before : (batches groups : List ℕ) → (r : ℕ) → OpBatch
+batch_of_before batches groups r = record {
   group_count = get_or batches (12 * r) 0;
   num_ops = get_or batches (12 * r + 10) 0;
   first_op = get_or batches (12 * r + 11) 0;
   record_index = r;
-  low = wordFrom groups (8 * r);
-  high = wordFrom groups (8 * r + 4);
+  low = word_from groups (8 * r);
+  high = word_from groups (8 * r + 4);
 }
 
-unfoldable pub batchAtBefore : (batches groups : List ℕ) → BasicBlockNode → ℕ → Answer OpBatch
-batchAtBefore batches groups block index =
-    pick (isBatch batches groups block index) (accepted (batchOfBefore batches groups (recordOf block index))) (refused noSuchBatch)
+unfoldable pub batch_at_before : (batches groups : List ℕ) → BasicBlockNode → ℕ → Answer OpBatch
+batch_at_before batches groups block index =
+    pick (is_batch batches groups block index) (accepted (batch_of_before batches groups (record_of block index))) (refused no_such_batch)
 
 -- one of the eight groups is no cell
-unfoldable pub bigGroup : OpBatch → Bool
-bigGroup batch = beyond batch.low || beyond batch.high
+unfoldable pub big_group : OpBatch → Bool
+big_group batch = beyond batch.low || beyond batch.high
 
 -- the eight groups
-abbrev pub groupCells : OpBatch → List ℕ
-groupCells batch = wordCells batch.low ++ wordCells batch.high
+abbrev pub group_cells : OpBatch → List ℕ
+group_cells batch = word_cells batch.low ++ word_cells batch.high
 
 -- HELPERS
 
 -- the cells of a register set, in the order of its helpers
-unfoldable pub registerCells : OperationHelperRegisters → List ℕ
-registerCells (Eq second first) = first ∷ second ∷ []
-registerCells (U32Split lo hi) = lo ∷ hi ∷ []
-registerCells (Eqz top) = top ∷ []
-registerCells (Expacc val) = val ∷ []
-registerCells (FriExt2Fold4 ev es x inv) = ev.0 ∷ ev.1 ∷ es.0 ∷ es.1 ∷ x ∷ inv ∷ []
-registerCells (U32Add sum carry) = sum ∷ carry ∷ []
-registerCells (U32Add3 sum carry) = sum ∷ carry ∷ []
-registerCells (U32Sub difference) = difference ∷ []
-registerCells (U32Mul lo hi) = lo ∷ hi ∷ []
-registerCells (U32Madd lo hi) = lo ∷ hi ∷ []
-registerCells (U32Div quotient remainder diff) = quotient ∷ remainder ∷ diff ∷ []
-registerCells (U32Assert2 first second) = second ∷ first ∷ []
-registerCells (HPerm addr) = addr ∷ []
-registerCells (MerklePath addr) = addr ∷ []
-registerCells (HornerEvalBase alpha tmp0 tmp1) = alpha.0 ∷ alpha.1 ∷ tmp1.0 ∷ tmp1.1 ∷ tmp0.0 ∷ tmp0.1 ∷ []
-registerCells (HornerEvalExt alpha acc) = alpha.0 ∷ alpha.1 ∷ acc.0 ∷ acc.1 ∷ []
-registerCells (LogDeferred addr root) = addr ∷ root.0 ∷ root.1 ∷ root.2 ∷ root.3 ∷ []
-registerCells Empty = []
+unfoldable pub register_cells : OperationHelperRegisters → List ℕ
+register_cells (Eq second first) = first ∷ second ∷ []
+register_cells (U32Split lo hi) = lo ∷ hi ∷ []
+register_cells (Eqz top) = top ∷ []
+register_cells (Expacc val) = val ∷ []
+register_cells (FriExt2Fold4 ev es x inv) = ev.0 ∷ ev.1 ∷ es.0 ∷ es.1 ∷ x ∷ inv ∷ []
+register_cells (U32Add sum carry) = sum ∷ carry ∷ []
+register_cells (U32Add3 sum carry) = sum ∷ carry ∷ []
+register_cells (U32Sub difference) = difference ∷ []
+register_cells (U32Mul lo hi) = lo ∷ hi ∷ []
+register_cells (U32Madd lo hi) = lo ∷ hi ∷ []
+register_cells (U32Div quotient remainder diff) = quotient ∷ remainder ∷ diff ∷ []
+register_cells (U32Assert2 first second) = second ∷ first ∷ []
+register_cells (HPerm addr) = addr ∷ []
+register_cells (MerklePath addr) = addr ∷ []
+register_cells (HornerEvalBase alpha tmp0 tmp1) = alpha.0 ∷ alpha.1 ∷ tmp1.0 ∷ tmp1.1 ∷ tmp0.0 ∷ tmp0.1 ∷ []
+register_cells (HornerEvalExt alpha acc) = alpha.0 ∷ alpha.1 ∷ acc.0 ∷ acc.1 ∷ []
+register_cells (LogDeferred addr root) = addr ∷ root.0 ∷ root.1 ∷ root.2 ∷ root.3 ∷ []
+register_cells Empty = []
 
 -- A CYCLE
 
 -- what is lent
-unfoldable pub lentBig : Forest → Queues → Bool
-lentBig f q =
+unfoldable pub lent_big : Forest → Queues → Bool
+lent_big f q =
     any_from P f.digests || (any_from P f.groups || (any_from 128 f.ops
     || (any_from P q.addresses || (any_from P q.parents || any_from P q.ends))))
 
@@ -120,103 +120,103 @@ pub record LentBelow (f : Forest) (q : Queues) : Type 0 where
   pub ends : Below q.ends
 
 -- the cells of a captured word and address
-abbrev pub calleeCells : CalleeWord → List ℕ
-calleeCells CalleeWord.Absent = []
-calleeCells (CalleeWord.Is word) = wordCells word
+abbrev pub callee_cells : CalleeWord → List ℕ
+callee_cells CalleeWord.Absent = []
+callee_cells (CalleeWord.Is word) = word_cells word
 
-abbrev pub infoCells : ContextInfo → List ℕ
-infoCells ContextInfo.Absent = []
-infoCells (ContextInfo.Is info) = info.next_overflow_addr ∷ []
+abbrev pub info_cells : ContextInfo → List ℕ
+info_cells ContextInfo.Absent = []
+info_cells (ContextInfo.Is info) = info.next_overflow_addr ∷ []
 
 -- the cells of a cycle's states, and of its tracer the address state and the cells last built
-unfoldable pub stateCells : SystemState → StackState → List ℕ
-stateCells system stack = wordCells system.fn_hash ++ (stack.overflow_addr ∷ cells16 stack.stack_top)
+unfoldable pub state_cells : SystemState → StackState → List ℕ
+state_cells system stack = word_cells system.fn_hash ++ (stack.overflow_addr ∷ cells16 stack.stack_top)
 
-unfoldable pub tracerCells : DecoderState → SystemCols → StackCols → List ℕ
-tracerCells state system stack =
-    (state.current_addr ∷ state.parent_addr ∷ []) ++ systemCells system ++ stackCells stack
+unfoldable pub tracer_cells : DecoderState → SystemCols → StackCols → List ℕ
+tracer_cells state system stack =
+    (state.current_addr ∷ state.parent_addr ∷ []) ++ system_cells system ++ stack_cells stack
 
-unfoldable pub fixedCells : SystemState → StackState → CoreTraceGenerationTracer → List ℕ
-fixedCells system stack t = stateCells system stack ++ tracerCells t.decoder_state t.system_cols t.stack_cols
+unfoldable pub fixed_cells : SystemState → StackState → CoreTraceGenerationTracer → List ℕ
+fixed_cells system stack t = state_cells system stack ++ tracer_cells t.decoder_state t.system_cols t.stack_cols
 
 -- with them its registers and the captured values
-unfoldable pub cycleCells : SystemState → StackState → OperationHelperRegisters → CoreTraceGenerationTracer → List ℕ
-cycleCells system stack registers t =
-    fixedCells system stack t ++ registerCells registers ++ calleeCells t.captured.dyn_callee_hash ++ infoCells t.captured.ctx_info
+unfoldable pub cycle_cells : SystemState → StackState → OperationHelperRegisters → CoreTraceGenerationTracer → List ℕ
+cycle_cells system stack registers t =
+    fixed_cells system stack t ++ register_cells registers ++ callee_cells t.captured.dyn_callee_hash ++ info_cells t.captured.ctx_info
 
-unfoldable pub cycleBig : SystemState → StackState → OperationHelperRegisters → CoreTraceGenerationTracer → Bool
-cycleBig system stack registers t = any_from P (cycleCells system stack registers t)
+unfoldable pub cycle_big : SystemState → StackState → OperationHelperRegisters → CoreTraceGenerationTracer → Bool
+cycle_big system stack registers t = any_from P (cycle_cells system stack registers t)
 
 -- what a scan of profile, forest and queues found
-unfoldable pub scanOfBefore : Profile → Forest → Queues → Scan
-scanOfBefore p f q = record { big = lentBig f q; profile_wrong = profileWrong p; too_large = forestTooLarge f.nodes f.batches }
+unfoldable pub scan_of_before : Profile → Forest → Queues → Scan
+scan_of_before p f q = record { big = lent_big f q; profile_wrong = profile_wrong p; too_large = forest_too_large f.nodes f.batches }
 
 -- a finish, what the scan found being given
-unfoldable pub cycleWithBefore : Scan → Profile → Forest → Queues → SystemState → StackState → OperationHelperRegisters → (cells : ℕ) → CoreTraceGenerationTracer → Answer MadeRow
-cycleWithBefore scan p f q system stack registers cells t =
-    refuseIf (not (eqb t.refusal 0)) t.refusal
-    (and_then (continuationOf t.continuation) (λ continuation.
-    refuseIf (scan.big || cycleBig system stack registers t) bigOpcode
-    (refuseIf scan.profile_wrong badProfile
-    (refuseIf (scan.too_large || fragmentWrong cells t.row_write_index) badLength
-    (refuseIf (ltb stack.stack_depth 16) lowDepth
+unfoldable pub cycle_with_before : Scan → Profile → Forest → Queues → SystemState → StackState → OperationHelperRegisters → (cells : ℕ) → CoreTraceGenerationTracer → Answer MadeRow
+cycle_with_before scan p f q system stack registers cells t =
+    refuse_if (not (eqb t.refusal 0)) t.refusal
+    (and_then (continuation_of t.continuation) (λ continuation.
+    refuse_if (scan.big || cycle_big system stack registers t) big_opcode
+    (refuse_if scan.profile_wrong bad_profile
+    (refuse_if (scan.too_large || fragment_wrong cells t.row_write_index) bad_length
+    (refuse_if (ltb stack.stack_depth 16) low_depth
     (and_then (made f q p registers continuation t.is_loop_body t.captured (cursor t.decoder_state t.at)) (λ row.
-    refuseIf (leb (cells / rowWidth) t.row_write_index) noRowLeft
+    refuse_if (leb (cells / row_width) t.row_write_index) no_row_left
     (accepted row))))))))
 
 -- with its own scan
-unfoldable pub cycleBefore : Profile → Forest → Queues → SystemState → StackState → OperationHelperRegisters → (cells : ℕ) → CoreTraceGenerationTracer → Answer MadeRow
-cycleBefore p f q system stack registers cells t = cycleWithBefore (scanOfBefore p f q) p f q system stack registers cells t
+unfoldable pub cycle_before : Profile → Forest → Queues → SystemState → StackState → OperationHelperRegisters → (cells : ℕ) → CoreTraceGenerationTracer → Answer MadeRow
+cycle_before p f q system stack registers cells t = cycle_with_before (scan_of_before p f q) p f q system stack registers cells t
 
 -- what the captured info says of the depth, 0 where there is none
-abbrev pub depthIn : ContextInfo → ℕ
-depthIn ContextInfo.Absent = 0
-depthIn (ContextInfo.Is info) = info.stack_depth
+abbrev pub depth_in : ContextInfo → ℕ
+depth_in ContextInfo.Absent = 0
+depth_in (ContextInfo.Is info) = info.stack_depth
 
 -- the numbers of 32 bits that are written into rows, and that refusal 1 did not look at: a block's total, which stands among the nodes, and the depth.
 -- They are `u32` in every call. Of a Block with a total of p, SPAN's count was p and is 0
 pub record Narrow32 (f : Forest) (captured : Captured) : Type 0 where
   pub nodes : Below f.nodes
-  pub depth : depthIn captured.ctx_info < P
+  pub depth : depth_in captured.ctx_info < P
 
 -- CALL RECORDS: a clk, ctx or depth over 32 bits was refused by 1 too, and first
 
-unfoldable pub calleeInBefore : List ℕ → CalleeWord
-calleeInBefore r = pick (eqb (get_or r 7 0) 1) (CalleeWord.Is (wordFrom r 8)) CalleeWord.Absent
+unfoldable pub callee_in_before : List ℕ → CalleeWord
+callee_in_before r = pick (eqb (get_or r 7 0) 1) (CalleeWord.Is (word_from r 8)) CalleeWord.Absent
 
-unfoldable pub infoInBefore : List ℕ → Answer ContextInfo
-infoInBefore r =
+unfoldable pub info_in_before : List ℕ → Answer ContextInfo
+info_in_before r =
     pick (eqb (get_or r 12 0) 1)
     (and_then (of32 1 (get_or r 13 0)) (λ depth.
     accepted (ContextInfo.Is (record { stack_depth = depth; next_overflow_addr = get_or r 14 0 }))))
     (accepted ContextInfo.Absent)
 
-unfoldable pub continuationInBefore : List ℕ → Answer Continuation
-continuationInBefore r =
+unfoldable pub continuation_in_before : List ℕ → Answer Continuation
+continuation_in_before r =
     pick (eqb (get_or r 1 0) 10)
     (accepted Continuation.EnterForest)
-    (and_then (of32 3 (get_or r 2 0)) (λ id. continuationOn r (get_or r 1 0) (nodeId id)))
+    (and_then (of32 3 (get_or r 2 0)) (λ id. continuation_on r (get_or r 1 0) (node_id id)))
 
-unfoldable pub storedInRecordBefore : List ℕ → Answer StoredValues
-storedInRecordBefore r =
-    and_then (infoInBefore r) (λ info.
-    and_then (continuationInBefore r) (λ continuation.
-    pick (namesNothing r)
-    (refused storedAbsent)
+unfoldable pub stored_in_record_before : List ℕ → Answer StoredValues
+stored_in_record_before r =
+    and_then (info_in_before r) (λ info.
+    and_then (continuation_in_before r) (λ continuation.
+    pick (names_nothing r)
+    (refused stored_absent)
     (accepted (record {
       continuation = continuation;
       is_loop_body = eqb (get_or r 5 0) 1;
-      captured = record { finish_loop_condition = conditionIn r; dyn_callee_hash = calleeInBefore r; ctx_info = info };
+      captured = record { finish_loop_condition = condition_in r; dyn_callee_hash = callee_in_before r; ctx_info = info };
     }))))
 
-unfoldable pub systemInBefore : List ℕ → Answer SystemState
-systemInBefore r =
+unfoldable pub system_in_before : List ℕ → Answer SystemState
+system_in_before r =
     and_then (of32 1 (get_or r 2 0)) (λ clk.
     and_then (of32 1 (get_or r 3 0)) (λ ctx.
-    accepted (record { clk = record { 0 = clk }; ctx = record { 0 = ctx }; fn_hash = wordFrom r 4 })))
+    accepted (record { clk = record { 0 = clk }; ctx = record { 0 = ctx }; fn_hash = word_from r 4 })))
 
-unfoldable pub stackInBefore : List ℕ → (depth : ℕ) → StackState
-stackInBefore r depth = record {
+unfoldable pub stack_in_before : List ℕ → (depth : ℕ) → StackState
+stack_in_before r depth = record {
   stack_top =
       get_or r 8 0 ∷ get_or r 9 0 ∷ get_or r 10 0 ∷ get_or r 11 0 ∷ get_or r 12 0 ∷ get_or r 13 0 ∷ get_or r 14 0 ∷ get_or r 15 0
       ∷ get_or r 16 0 ∷ get_or r 17 0 ∷ get_or r 18 0 ∷ get_or r 19 0 ∷ get_or r 20 0 ∷ get_or r 21 0 ∷ get_or r 22 0 ∷ get_or r 23 0 ∷ [];
@@ -224,34 +224,34 @@ stackInBefore r depth = record {
   overflow_addr = get_or r 25 0;
 }
 
-unfoldable pub registersInBefore : List ℕ → Answer OperationHelperRegisters
-registersInBefore r = manyCells (get_or r 0 0) (wordFrom r 26) (wordFrom r 30)
+unfoldable pub registers_in_before : List ℕ → Answer OperationHelperRegisters
+registers_in_before r = many_cells (get_or r 0 0) (word_from r 26) (word_from r 30)
 
-unfoldable pub finishInBefore : List ℕ → Answer RecordedCall
-finishInBefore r =
-    and_then (systemInBefore r) (λ system.
+unfoldable pub finish_in_before : List ℕ → Answer RecordedCall
+finish_in_before r =
+    and_then (system_in_before r) (λ system.
     and_then (of32 1 (get_or r 24 0)) (λ depth.
-    and_then (registersInBefore r) (λ registers.
-    accepted (finishes (get_or r 1 0) system (stackInBefore r depth) registers))))
+    and_then (registers_in_before r) (λ registers.
+    accepted (finishes (get_or r 1 0) system (stack_in_before r depth) registers))))
 
-unfoldable pub callInBefore : List ℕ → Answer RecordedCall
-callInBefore r = pick (eqb (get_or r 0 0) 0) (recordedStoring (storedInRecordBefore r)) (finishInBefore r)
+unfoldable pub call_in_before : List ℕ → Answer RecordedCall
+call_in_before r = pick (eqb (get_or r 0 0) 0) (recorded_storing (stored_in_record_before r)) (finish_in_before r)
 
 -- the cells of a call
-unfoldable pub callCells : RecordedCall → List ℕ
-callCells (stores values) = calleeCells values.captured.dyn_callee_hash ++ infoCells values.captured.ctx_info
-callCells (finishes k system stack registers) = stateCells system stack ++ registerCells registers
+unfoldable pub call_cells : RecordedCall → List ℕ
+call_cells (stores values) = callee_cells values.captured.dyn_callee_hash ++ info_cells values.captured.ctx_info
+call_cells (finishes k system stack registers) = state_cells system stack ++ register_cells registers
 
-abbrev pub toldInfoBefore : InfoFound → Answer ContextInfo
-toldInfoBefore (InfoFound.Is info) = accepted info
-toldInfoBefore InfoFound.Over = refused bigOpcode
+abbrev pub told_info_before : InfoFound → Answer ContextInfo
+told_info_before (InfoFound.Is info) = accepted info
+told_info_before InfoFound.Over = refused big_opcode
 
-abbrev pub toldSystemBefore : SystemFound → Answer SystemState
-toldSystemBefore (SystemFound.Is system) = accepted system
-toldSystemBefore SystemFound.Over = refused bigOpcode
+abbrev pub told_system_before : SystemFound → Answer SystemState
+told_system_before (SystemFound.Is system) = accepted system
+told_system_before SystemFound.Over = refused big_opcode
 
 -- THE PASSES
 
 -- a cell of the first n rows, as far as they are in the buffer, is no cell
-unfoldable pub rowsBig : (n : ℕ) → (buffer : List ℕ) → Bool
-rowsBig n buffer = any_from P (take (rowWidth * n) buffer)
+unfoldable pub rows_big : (n : ℕ) → (buffer : List ℕ) → Bool
+rows_big n buffer = any_from P (take (row_width * n) buffer)

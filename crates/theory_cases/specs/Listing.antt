@@ -10,9 +10,9 @@ use Rattle.theory_dumps.specs.Numerals.{decimal}
 use Rattle.theory_dumps.specs.Dumps.{bytes}
 
 -- texts, each as a line: a newline behind it
-unfoldable pub textLines : List String → List ℕ
-textLines [] = []
-textLines (text ∷ texts) = bytes text ++ (10 ∷ textLines texts)
+unfoldable pub text_lines : List String → List ℕ
+text_lines [] = []
+text_lines (text ∷ texts) = bytes text ++ (10 ∷ text_lines texts)
 
 -- the names of the control rows beside their opcodes: all of the profile's other than PUSH, which is an op
 unfoldable pub names : Profile → List (ℕ × String)
@@ -32,14 +32,14 @@ names p =
     ∷ []
 
 -- "name or opcode"
-unfoldable pub nameBeside : (opcode : ℕ) → List (ℕ × String) → List ℕ
-nameBeside opcode [] = decimal opcode
-nameBeside opcode (x ∷ l) = pick (eqb opcode x.0) (bytes x.1) (nameBeside opcode l)
+unfoldable pub name_beside : (opcode : ℕ) → List (ℕ × String) → List ℕ
+name_beside opcode [] = decimal opcode
+name_beside opcode (x ∷ l) = pick (eqb opcode x.0) (bytes x.1) (name_beside opcode l)
 
 -- a row's line: a space between its fields, and a newline
 unfoldable pub row_line : Profile → (number : ℕ) → (row : List ℕ) → List ℕ
 row_line p number row =
-    decimal number ++ (32 ∷ nameBeside (opcode_of row) (names p)) ++ (32 ∷ decimal (addr_of row)) ++ (32 ∷ decimal (count_of row)) ++ (10 ∷ [])
+    decimal number ++ (32 ∷ name_beside (opcode_of row) (names p)) ++ (32 ∷ decimal (addr_of row)) ++ (32 ∷ decimal (count_of row)) ++ (10 ∷ [])
 
 -- the lines of rows, the first of which has the given number
 unfoldable pub row_lines : Profile → (number : ℕ) → (rows : List (List ℕ)) → List ℕ

@@ -7,11 +7,11 @@ use Rattle.rows.specs.declared.records.continuation.Continuation.{Continuation}
 use Rattle.rows.specs.declared.records.continuation.LoopCondition.{LoopCondition}
 use Rattle.rows.specs.declared.records.continuation.CalleeWord.{CalleeWord}
 use Rattle.rows.specs.declared.records.continuation.ContextInfo.{ContextInfo}
-use Rattle.rows.specs.records.Forests.{Forest, nodeId}
+use Rattle.rows.specs.records.Forests.{Forest, node_id}
 use Rattle.rows.specs.records.Addresses.{Queues}
 use Rattle.rows.specs.cycles.Made.{Cursor}
 use Rattle.theory_runs.specs.Calls.{Call, store, finish, Fragment}
-use Rattle.theory_runs.specs.Finished.{writtenByFinisher}
+use Rattle.theory_runs.specs.Finished.{written_by_finisher}
 
 -- the opcodes of the Miden VM documentation's decoder chapter, as in the vectors, and a step of 2
 abbrev pub profile : Profile
@@ -33,8 +33,8 @@ profile = record {
 }
 
 -- slot 0 the loop, slot 1 its body: a block of one batch, with one group and the operation 5
-unfoldable pub loopForest : Forest
-loopForest = record {
+unfoldable pub loop_forest : Forest
+loop_forest = record {
   nodes = 5 ∷ 1 ∷ 0 ∷ 0 ∷ 0 ∷ 0 ∷ 2 ∷ 0 ∷ 0 ∷ 1 ∷ 0 ∷ 1 ∷ [];
   digests = 10 ∷ 11 ∷ 12 ∷ 13 ∷ 20 ∷ 21 ∷ 22 ∷ 23 ∷ [];
   batches = 1 ∷ 0 ∷ 1 ∷ 1 ∷ 1 ∷ 1 ∷ 1 ∷ 1 ∷ 1 ∷ 1 ∷ 1 ∷ 0 ∷ [];
@@ -43,8 +43,8 @@ loopForest = record {
 }
 
 -- addresses and parents of the three starts, and three cells for each of the three ENDs
-unfoldable pub loopQueues : Queues
-loopQueues = record {
+unfoldable pub loop_queues : Queues
+loop_queues = record {
   addresses = 1 ∷ 3 ∷ 5 ∷ [];
   parents = 0 ∷ 1 ∷ 1 ∷ [];
   ends = 3 ∷ 1 ∷ 0 ∷ 5 ∷ 1 ∷ 0 ∷ 1 ∷ 0 ∷ 0 ∷ [];
@@ -53,38 +53,38 @@ loopQueues = record {
 unfoldable pub begin : Cursor
 begin = record { state = record { current_addr = 0; parent_addr = 0 }; at = record { addresses = 0; parents = 0; ends = 0 } }
 
-unfoldable pub storing : Continuation → (isLoopBody : Bool) → LoopCondition → Call
-storing continuation isLoopBody condition =
+unfoldable pub storing : Continuation → (is_loop_body : Bool) → LoopCondition → Call
+storing continuation is_loop_body condition =
     store (record {
       continuation = continuation;
-      is_loop_body = isLoopBody;
+      is_loop_body = is_loop_body;
       captured = record { finish_loop_condition = condition; dyn_callee_hash = CalleeWord.Absent; ctx_info = ContextInfo.Absent };
     })
 
 -- the cycle of clock row n, with an empty stack
-unfoldable pub cycleAt : (n : ℕ) → Call
-cycleAt n = finish (record {
-  forest = loopForest;
+unfoldable pub cycle_at : (n : ℕ) → Call
+cycle_at n = finish (record {
+  forest = loop_forest;
   system = record { clk = record { 0 = n }; ctx = record { 0 = 0 }; fn_hash = (0, 0, 0, 0) };
   stack = record { stack_top = replicate 16 0; stack_depth = 16; overflow_addr = 0 };
   registers = OperationHelperRegisters.Empty;
 })
 
-unfoldable pub loopCalls : List Call
-loopCalls =
-    storing (Continuation.StartNode (nodeId 0)) false LoopCondition.Absent ∷ cycleAt 0
-    ∷ storing (Continuation.StartNode (nodeId 1)) false LoopCondition.Absent ∷ cycleAt 1
-    ∷ storing (Continuation.ResumeBasicBlock (nodeId 1) 0 0) false LoopCondition.Absent ∷ cycleAt 2
-    ∷ storing (Continuation.FinishBasicBlock (nodeId 1)) true LoopCondition.Absent ∷ cycleAt 3
-    ∷ storing (Continuation.FinishLoop (nodeId 0)) false (LoopCondition.Is true) ∷ cycleAt 4
-    ∷ storing (Continuation.StartNode (nodeId 1)) false LoopCondition.Absent ∷ cycleAt 5
-    ∷ storing (Continuation.ResumeBasicBlock (nodeId 1) 0 0) false LoopCondition.Absent ∷ cycleAt 6
-    ∷ storing (Continuation.FinishBasicBlock (nodeId 1)) true LoopCondition.Absent ∷ cycleAt 7
-    ∷ storing (Continuation.FinishLoop (nodeId 0)) false (LoopCondition.Is false) ∷ cycleAt 8 ∷ []
+unfoldable pub loop_calls : List Call
+loop_calls =
+    storing (Continuation.StartNode (node_id 0)) false LoopCondition.Absent ∷ cycle_at 0
+    ∷ storing (Continuation.StartNode (node_id 1)) false LoopCondition.Absent ∷ cycle_at 1
+    ∷ storing (Continuation.ResumeBasicBlock (node_id 1) 0 0) false LoopCondition.Absent ∷ cycle_at 2
+    ∷ storing (Continuation.FinishBasicBlock (node_id 1)) true LoopCondition.Absent ∷ cycle_at 3
+    ∷ storing (Continuation.FinishLoop (node_id 0)) false (LoopCondition.Is true) ∷ cycle_at 4
+    ∷ storing (Continuation.StartNode (node_id 1)) false LoopCondition.Absent ∷ cycle_at 5
+    ∷ storing (Continuation.ResumeBasicBlock (node_id 1) 0 0) false LoopCondition.Absent ∷ cycle_at 6
+    ∷ storing (Continuation.FinishBasicBlock (node_id 1)) true LoopCondition.Absent ∷ cycle_at 7
+    ∷ storing (Continuation.FinishLoop (node_id 0)) false (LoopCondition.Is false) ∷ cycle_at 8 ∷ []
 
-unfoldable pub loopFragments : List Fragment
-loopFragments = record { calls = loopCalls; cells = replicate 490 0 } ∷ []
+unfoldable pub loop_fragments : List Fragment
+loop_fragments = record { calls = loop_calls; cells = replicate 490 0 } ∷ []
 
 -- what the finisher makes of the fragment, whose last row is free, to height 10
-unfoldable pub loopTrace : List ℕ
-loopTrace = writtenByFinisher profile loopQueues 10 loopFragments begin [] (replicate 16 0) 10
+unfoldable pub loop_trace : List ℕ
+loop_trace = written_by_finisher profile loop_queues 10 loop_fragments begin [] (replicate 16 0) 10

@@ -10,7 +10,7 @@ use lib.Count.{count_leading_zeros, leading_of_zero}
 use lib.Dec.{ltb}
 use lib.ListN.{length, length-append}
 use Rattle.groups.specs.Answer.{pick}
-use Rattle.theory_dumps.specs.Numerals.{numeralWithin, binary, decimal}
+use Rattle.theory_dumps.specs.Numerals.{numeral_within, binary, decimal}
 use Rattle.theory_dumps.proofs.NumeralLaws.{one-digit, last-digit}
 
 leading_step : (k n : ℕ) → 0 < n → count_leading_zeros (suc k) n ≡ count_leading_zeros k (n / 2)
@@ -19,20 +19,20 @@ leading_step k zero p = absurd (omega arith)
 leading_step k (suc n) p = refl
 
 -- the binary digits and the zeros in front of them are all bits
-pub bits-count : (k n : ℕ) → 0 < n → length (numeralWithin 2 k n) + count_leading_zeros k n ≡ k
-unfolding numeralWithin
+pub bits-count : (k n : ℕ) → 0 < n → length (numeral_within 2 k n) + count_leading_zeros k n ≡ k
+unfolding numeral_within
 bits-count zero n p = unfold count_leading_zeros in refl
 bits-count (suc k) n p = rw (leading_step k n p) (go (bits-count k (n / 2)) (ltb n 2) refl)
   where
-    go : (0 < n / 2 → length (numeralWithin 2 k (n / 2)) + count_leading_zeros k (n / 2) ≡ k) → (t : Bool) → ltb n 2 ≡ t →
-        length (pick t ((48 + n) ∷ []) (numeralWithin 2 k (n / 2) ++ ((48 + n % 2) ∷ []))) + count_leading_zeros k (n / 2) ≡ suc k
+    go : (0 < n / 2 → length (numeral_within 2 k (n / 2)) + count_leading_zeros k (n / 2) ≡ k) → (t : Bool) → ltb n 2 ≡ t →
+        length (pick t ((48 + n) ∷ []) (numeral_within 2 k (n / 2) ++ ((48 + n % 2) ∷ []))) + count_leading_zeros k (n / 2) ≡ suc k
     go more true e =
         let z : n / 2 ≡ 0 = omega (arith, ltb-true n 2 e) in
         rw z (omega (arith, leading_of_zero k))
-    go more false e = omega (arith, more (omega (arith, ltb-false n 2 e)), length-append (numeralWithin 2 k (n / 2)) ((48 + n % 2) ∷ []))
+    go more false e = omega (arith, more (omega (arith, ltb-false n 2 e)), length-append (numeral_within 2 k (n / 2)) ((48 + n % 2) ∷ []))
 
 -- a number between two powers of the base
-pub digits-count : (base k m n : ℕ) → 1 < base → base ^ k ≤ n → n < base ^ suc k → k < m → length (numeralWithin base m n) ≡ suc k
+pub digits-count : (base k m n : ℕ) → 1 < base → base ^ k ≤ n → n < base ^ suc k → k < m → length (numeral_within base m n) ≡ suc k
 digits-count base k zero n b l h r = absurd (omega arith)
 digits-count base zero (suc m) n b l h r =
     let h' : n < base * 1 = rw (pow-succ' base 0, pow-zero base) at h in
@@ -46,7 +46,7 @@ digits-count base (suc k) (suc m) n b l h r =
     let more : base * 1 ≤ base * base ^ k = mul-le-mul_left base one in
     let from : base ≤ n = omega (arith, mul-one base, mul_comm base (base ^ k)) in
     ap (λ (x : List ℕ). length x) (last-digit base m n from)
-    ∙ omega (arith, length-append (numeralWithin base m (n / base)) ((48 + n % base) ∷ []), digits-count base k m (n / base) b low high (omega arith))
+    ∙ omega (arith, length-append (numeral_within base m (n / base)) ((48 + n % base) ∷ []), digits-count base k m (n / base) b low high (omega arith))
 
 -- the decimal digits of a row's number, by the first power of ten above it
 pub decimal-count : (row count limit : ℕ) → row < 16777216 → 0 < count → limit ≡ 10 ^ count → (1 < count → 10 ^ (count - 1) ≤ row) → row < limit → count ≡ length (decimal row)

@@ -32,50 +32,50 @@ abbrev pub identifier : (column : ℕ) → ℕ
 identifier column = 33 + column
 
 -- "49 like `$var wire 64 ! clk $end`", from a column on
-unfoldable pub varLines : (column : ℕ) → List String → List ℕ
-varLines column [] = []
-varLines column (name ∷ names) =
-    bytes "$var wire 64 " ++ (identifier column ∷ 32 ∷ (bytes name ++ bytes " $end\n")) ++ varLines (suc column) names
+unfoldable pub var_lines : (column : ℕ) → List String → List ℕ
+var_lines column [] = []
+var_lines column (name ∷ names) =
+    bytes "$var wire 64 " ++ (identifier column ∷ 32 ∷ (bytes name ++ bytes " $end\n")) ++ var_lines (suc column) names
 
 -- "The lines, each ended by a line feed"
 unfoldable pub header : List ℕ
 header =
-    bytes "$timescale 1 ns $end\n$scope module trace $end\n" ++ varLines 0 columns ++ bytes "$upscope $end\n$enddefinitions $end\n"
+    bytes "$timescale 1 ns $end\n$scope module trace $end\n" ++ var_lines 0 columns ++ bytes "$upscope $end\n$enddefinitions $end\n"
 
 -- THE ROWS
 
 -- "like `#0`": "Time 0 is row 0, and each row has its time line even when nothing changed"
-unfoldable pub timeLine : (row : ℕ) → List ℕ
-timeLine row = 35 ∷ (decimal row ++ (10 ∷ []))
+unfoldable pub time_line : (row : ℕ) → List ℕ
+time_line row = 35 ∷ (decimal row ++ (10 ∷ []))
 
 -- "and `b101 !`": "values are binary without leading zeros"
-unfoldable pub valueLine : (column value : ℕ) → List ℕ
-valueLine column value = 98 ∷ (binary value ++ (32 ∷ identifier column ∷ 10 ∷ []))
+unfoldable pub value_line : (column value : ℕ) → List ℕ
+value_line column value = 98 ∷ (binary value ++ (32 ∷ identifier column ∷ 10 ∷ []))
 
 -- "all values at the first row", from a column on
-unfoldable pub allValues : (column : ℕ) → (row : List ℕ) → List ℕ
-allValues column [] = []
-allValues column (value ∷ row) = valueLine column value ++ allValues (suc column) row
+unfoldable pub all_values : (column : ℕ) → (row : List ℕ) → List ℕ
+all_values column [] = []
+all_values column (value ∷ row) = value_line column value ++ all_values (suc column) row
 
 -- "afterwards, in column order, only those whose reduced cells changed"
 unfoldable pub changes : (column : ℕ) → (before row : List ℕ) → List ℕ
 changes column before [] = []
 changes column [] (value ∷ row) = []
-changes column (old ∷ before) (value ∷ row) = pick (eqb old value) [] (valueLine column value) ++ changes (suc column) before row
+changes column (old ∷ before) (value ∷ row) = pick (eqb old value) [] (value_line column value) ++ changes (suc column) before row
 
 -- the rows behind the first
-unfoldable pub laterLines : (number : ℕ) → (before : List ℕ) → List (List ℕ) → List ℕ
-laterLines number before [] = []
-laterLines number before (row ∷ rows) = timeLine number ++ changes 0 before row ++ laterLines (suc number) row rows
+unfoldable pub later_lines : (number : ℕ) → (before : List ℕ) → List (List ℕ) → List ℕ
+later_lines number before [] = []
+later_lines number before (row ∷ rows) = time_line number ++ changes 0 before row ++ later_lines (suc number) row rows
 
-unfoldable pub dumpLines : List (List ℕ) → List ℕ
-dumpLines [] = []
-dumpLines (row ∷ rows) = timeLine 0 ++ allValues 0 row ++ laterLines 1 row rows
+unfoldable pub dump_lines : List (List ℕ) → List ℕ
+dump_lines [] = []
+dump_lines (row ∷ rows) = time_line 0 ++ all_values 0 row ++ later_lines 1 row rows
 
 -- the dump of rows of cells below p
-unfoldable pub dumpRows : List (List ℕ) → List ℕ
-dumpRows rows = header ++ dumpLines rows
+unfoldable pub dump_rows : List (List ℕ) → List ℕ
+dump_rows rows = header ++ dump_lines rows
 
 -- the dump of a buffer: that of its reduced cells
 unfoldable pub dump : (cells : List ℕ) → List ℕ
-dump cells = dumpRows (all_rows (reduced cells))
+dump cells = dump_rows (all_rows (reduced cells))

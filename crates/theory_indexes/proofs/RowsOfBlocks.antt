@@ -4,8 +4,8 @@ use mathlib.Core.List.{List, [], ◌∷◌}
 use Prim.Native.Nat.{ℕ, suc, ◌≤◌, ◌<◌}
 use native.Mathlib.Omega.{arith}
 use Rattle.theory_readings.specs.Tokens.{Token, repeat, end}
-use Rattle.theory_readings.specs.Readings.{Ops, Block, Passes, Row, numbered, spellOps, spell, spellPasses, WordOf, endRowOf}
-use Rattle.theory_indexes.specs.Indexes.{startRow, endOfPasses, end_of}
+use Rattle.theory_readings.specs.Readings.{Ops, Block, Passes, Row, numbered, spell_ops, spell, spell_passes, WordOf, end_row_of}
+use Rattle.theory_indexes.specs.Indexes.{start_row, end_of_passes, end_of}
 
 -- rows numbered one after another, from s on
 unfoldable pub Consecutive : (s : ℕ) → List Row → Type 0
@@ -21,22 +21,22 @@ SpansOps s (Ops.respan row o) = SpansOps (suc s) o
 unfoldable mutual
   pub Spans : Block → Type 0
   Spans (Block.span row o) = SpansOps (suc row) o
-  Spans (Block.join row a b e) = (startRow a ≡ suc row) × Spans a × (startRow b ≡ suc (end_of a)) × Spans b × (e ≡ suc (end_of b))
-  Spans (Block.one k row a e) = (startRow a ≡ suc row) × Spans a × (e ≡ suc (end_of a))
+  Spans (Block.join row a b e) = (start_row a ≡ suc row) × Spans a × (start_row b ≡ suc (end_of a)) × Spans b × (e ≡ suc (end_of b))
+  Spans (Block.one k row a e) = (start_row a ≡ suc row) × Spans a × (e ≡ suc (end_of a))
   Spans (Block.loop row q) = SpansPasses row q
 
   -- the passes behind the LOOP or REPEAT row m
   pub SpansPasses : (m : ℕ) → Passes → Type 0
-  SpansPasses m (Passes.ended a e) = (startRow a ≡ suc m) × Spans a × (e ≡ suc (end_of a))
-  SpansPasses m (Passes.repeated a n q) = (startRow a ≡ suc m) × Spans a × (n ≡ suc (end_of a)) × SpansPasses n q
+  SpansPasses m (Passes.ended a e) = (start_row a ≡ suc m) × Spans a × (e ≡ suc (end_of a))
+  SpansPasses m (Passes.repeated a n q) = (start_row a ≡ suc m) × Spans a × (n ≡ suc (end_of a)) × SpansPasses n q
 
 numbered-rows : (w : List Token) (n : ℕ) → Consecutive n (numbered n w)
 unfolding Consecutive numbered
 numbered-rows [] n = tt
 numbered-rows (t ∷ w) n = (refl, numbered-rows w (suc n))
 
-spans-ops : (o : Ops) (s : ℕ) (r : List Row) → Consecutive s (spellOps o r) → SpansOps s o × Consecutive (suc (endRowOf o)) r
-unfolding Consecutive SpansOps spellOps endRowOf
+spans-ops : (o : Ops) (s : ℕ) (r : List Row) → Consecutive s (spell_ops o r) → SpansOps s o × Consecutive (suc (end_row_of o)) r
+unfolding Consecutive SpansOps spell_ops end_row_of
 spans-ops (Ops.ended e) s r (h, c) = (h, rw h c)
 spans-ops (Ops.op row k o) s r (h, c) = spans-ops o (suc s) r c
 spans-ops (Ops.respan row o) s r (h, c) = spans-ops o (suc s) r c
@@ -47,16 +47,16 @@ unfolding Consecutive
 behind e s r x (h, c) = (h, rw h c)
 
 pub record Spanned (s : ℕ) (b : Block) (r : List Row) : Type 0 where
-  pub first : startRow b ≡ s
+  pub first : start_row b ≡ s
   pub rows : Spans b
   pub more : Consecutive (suc (end_of b)) r
 
 pub record PassesSpanned (m : ℕ) (q : Passes) (r : List Row) : Type 0 where
   pub rows : SpansPasses m q
-  pub more : Consecutive (suc (endOfPasses q)) r
+  pub more : Consecutive (suc (end_of_passes q)) r
 
 mutual
-  unfolding Consecutive Spans spell spellPasses startRow end_of endOfPasses
+  unfolding Consecutive Spans spell spell_passes start_row end_of end_of_passes
 
   pub spans : (b : Block) (s : ℕ) (r : List Row) → Consecutive s (spell b r) → Spanned s b r
   spans (Block.span row o) s r (h, c) =
@@ -75,39 +75,39 @@ mutual
       let x = spans-passes q s r c in
       record { first = h; rows = rw h x.rows; more = x.more }
 
-  pub spans-passes : (q : Passes) (m : ℕ) (r : List Row) → Consecutive (suc m) (spellPasses q r) → PassesSpanned m q r
+  pub spans-passes : (q : Passes) (m : ℕ) (r : List Row) → Consecutive (suc m) (spell_passes q r) → PassesSpanned m q r
   spans-passes (Passes.ended a e) m r c =
       let x = spans a (suc m) _ c in
       let z = behind e (suc (end_of a)) r end x.more in
       record { rows = (x.first, x.rows, z.0); more = z.1 }
   spans-passes (Passes.repeated a n q) m r c =
       let x = spans a (suc m) _ c in
-      let z = behind n (suc (end_of a)) (spellPasses q r) repeat x.more in
+      let z = behind n (suc (end_of a)) (spell_passes q r) repeat x.more in
       let y = spans-passes q n r z.1 in
       record { rows = (x.first, x.rows, z.0, y.rows); more = y.more }
 
 -- a start row stands before its END row
-pub ops-le : (o : Ops) (s : ℕ) → SpansOps s o → s ≤ endRowOf o
-unfolding SpansOps endRowOf
+pub ops-le : (o : Ops) (s : ℕ) → SpansOps s o → s ≤ end_row_of o
+unfolding SpansOps end_row_of
 ops-le (Ops.ended e) s h = omega arith
 ops-le (Ops.op row c o) s h = omega (arith, ops-le o (suc s) h)
 ops-le (Ops.respan row o) s h = omega (arith, ops-le o (suc s) h)
 
 mutual
-  unfolding Spans startRow end_of endOfPasses
+  unfolding Spans start_row end_of end_of_passes
 
-  pub spans-lt : (b : Block) → Spans b → startRow b < end_of b
+  pub spans-lt : (b : Block) → Spans b → start_row b < end_of b
   spans-lt (Block.span row o) h = omega (arith, ops-le o (suc row) h)
   spans-lt (Block.join row a b e) (f, p, g, q, h) = omega (arith, spans-lt a p, spans-lt b q)
   spans-lt (Block.one k row a e) (f, p, h) = omega (arith, spans-lt a p)
   spans-lt (Block.loop row q) h = passes-lt q row h
 
-  pub passes-lt : (q : Passes) (m : ℕ) → SpansPasses m q → m < endOfPasses q
+  pub passes-lt : (q : Passes) (m : ℕ) → SpansPasses m q → m < end_of_passes q
   passes-lt (Passes.ended a e) m (f, p, h) = omega (arith, spans-lt a p)
   passes-lt (Passes.repeated a n q) m (f, p, h, g) = omega (arith, spans-lt a p, passes-lt q n g)
 
 -- of a reading the rows are numbered from 0
-pub word-spans : (w : List Token) (b : Block) → WordOf w b → (startRow b ≡ 0) × Spans b
+pub word-spans : (w : List Token) (b : Block) → WordOf w b → (start_row b ≡ 0) × Spans b
 unfolding WordOf
 word-spans w b (rest, e, h) =
     let x = spans b 0 rest (rw e at (numbered-rows w 0)) in

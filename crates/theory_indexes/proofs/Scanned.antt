@@ -7,10 +7,10 @@ use native.Mathlib.Numerals.{add-one}
 use lib.ListN.{length, set}
 use lib.Seq.{get_or-append_seam}
 use Rattle.theory_readings.specs.Tokens.{Token, repeat, end}
-use Rattle.theory_readings.specs.Readings.{Ops, Block, Passes, Row, numbered, spellOps, spell, spellPasses, OnlyHalts, WordOf, depth_of, depthOfPasses, endRowOf}
+use Rattle.theory_readings.specs.Readings.{Ops, Block, Passes, Row, numbered, spell_ops, spell, spell_passes, OnlyHalts, WordOf, depth_of, depth_of_passes, end_row_of}
 use Rattle.theory_readings.proofs.WordAnswers.{halts-only}
-use Rattle.theory_indexes.specs.Indexes.{startRow, endOfPasses, blocksIn, blocksInPasses, index_of, indexOfPasses, index}
-use Rattle.theory_indexes.specs.ways.IndexScan.{around, ended, indexScan, starts, Fits}
+use Rattle.theory_indexes.specs.Indexes.{start_row, end_of_passes, blocks_in, blocks_in_passes, index_of, index_of_passes, index}
+use Rattle.theory_indexes.specs.ways.IndexScan.{around, ended, index_scan, starts, Fits}
 use Rattle.theory_indexes.proofs.IndexLists.{index-append}
 
 -- THE INDEX
@@ -28,82 +28,82 @@ set-second : (made : List ℕ) (s y e : ℕ) (x : List ℕ) → set (made ++ (s 
 set-second [] s y e x = refl
 set-second (a ∷ made) s y e x = ap (λ l. a ∷ l) (set-second made s y e x)
 
-closes : (made : List ℕ) (s n e : ℕ) (x stack : List ℕ) (r : List Row) → indexScan ((e, end) ∷ r) (opened made s n x) (length made ∷ stack) ≡ indexScan r (made ++ (s ∷ e ∷ n ∷ x)) stack
-unfolding indexScan
-closes made s n e x stack r = rw (add-one (length made)) (ap (λ l. indexScan r l stack) (set-second made s 0 e (n ∷ x)))
+closes : (made : List ℕ) (s n e : ℕ) (x stack : List ℕ) (r : List Row) → index_scan ((e, end) ∷ r) (opened made s n x) (length made ∷ stack) ≡ index_scan r (made ++ (s ∷ e ∷ n ∷ x)) stack
+unfolding index_scan
+closes made s n e x stack r = rw (add-one (length made)) (ap (λ l. index_scan r l stack) (set-second made s 0 e (n ∷ x)))
 
-scans-ops : (o : Ops) (made : List ℕ) (s n : ℕ) (stack : List ℕ) (r : List Row) → indexScan (spellOps o r) (opened made s n []) (length made ∷ stack) ≡ indexScan r (made ++ (s ∷ endRowOf o ∷ n ∷ [])) stack
-unfolding indexScan spellOps endRowOf
+scans-ops : (o : Ops) (made : List ℕ) (s n : ℕ) (stack : List ℕ) (r : List Row) → index_scan (spell_ops o r) (opened made s n []) (length made ∷ stack) ≡ index_scan r (made ++ (s ∷ end_row_of o ∷ n ∷ [])) stack
+unfolding index_scan spell_ops end_row_of
 scans-ops (Ops.ended e) made s n stack r = closes made s n e [] stack r
 scans-ops (Ops.op row c o) made s n stack r = scans-ops o made s n stack r
 scans-ops (Ops.respan row o) made s n stack r = scans-ops o made s n stack r
 
 -- what a block in an open one adds
 adds : (a : Block) (made : List ℕ) (s n : ℕ) (x stack : List ℕ) (r : List Row)
-    → indexScan (spell a r) (opened made s n x) (length made ∷ stack) ≡ indexScan r (opened made s n x ++ index_of s a []) (length made ∷ stack)
-    → indexScan (spell a r) (opened made s n x) (length made ∷ stack) ≡ indexScan r (opened made s n (x ++ index_of s a [])) (length made ∷ stack)
-adds a made s n x stack r h = h ∙ ap (λ l. indexScan r l (length made ∷ stack)) (append_assoc made (s ∷ 0 ∷ n ∷ x) (index_of s a []))
+    → index_scan (spell a r) (opened made s n x) (length made ∷ stack) ≡ index_scan r (opened made s n x ++ index_of s a []) (length made ∷ stack)
+    → index_scan (spell a r) (opened made s n x) (length made ∷ stack) ≡ index_scan r (opened made s n (x ++ index_of s a [])) (length made ∷ stack)
+adds a made s n x stack r h = h ∙ ap (λ l. index_scan r l (length made ∷ stack)) (append_assoc made (s ∷ 0 ∷ n ∷ x) (index_of s a []))
 
 mutual
-  unfolding indexScan spell spellPasses index_of startRow endOfPasses
+  unfolding index_scan spell spell_passes index_of start_row end_of_passes
 
-  pub scans : (b : Block) (n : ℕ) (made stack : List ℕ) (r : List Row) → around made stack (startRow b) ≡ n → indexScan (spell b r) made stack ≡ indexScan r (made ++ index_of n b []) stack
+  pub scans : (b : Block) (n : ℕ) (made stack : List ℕ) (r : List Row) → around made stack (start_row b) ≡ n → index_scan (spell b r) made stack ≡ index_scan r (made ++ index_of n b []) stack
   scans (Block.span row o) n made stack r h =
-      ap (λ y. indexScan (spellOps o r) (opened made row y []) (length made ∷ stack)) h ∙ scans-ops o made row n stack r
+      ap (λ y. index_scan (spell_ops o r) (opened made row y []) (length made ∷ stack)) h ∙ scans-ops o made row n stack r
   scans (Block.join row a b e) n made stack r h =
-      ap (λ y. indexScan (spell a (spell b ((e, end) ∷ r))) (opened made row y []) (length made ∷ stack)) h
-      ∙ adds a made row n [] stack _ (scans a row (opened made row n []) (length made ∷ stack) _ (named made row n [] stack (startRow a)))
-      ∙ adds b made row n (index_of row a []) stack _ (scans b row (opened made row n (index_of row a [])) (length made ∷ stack) _ (named made row n (index_of row a []) stack (startRow b)))
+      ap (λ y. index_scan (spell a (spell b ((e, end) ∷ r))) (opened made row y []) (length made ∷ stack)) h
+      ∙ adds a made row n [] stack _ (scans a row (opened made row n []) (length made ∷ stack) _ (named made row n [] stack (start_row a)))
+      ∙ adds b made row n (index_of row a []) stack _ (scans b row (opened made row n (index_of row a [])) (length made ∷ stack) _ (named made row n (index_of row a []) stack (start_row b)))
       ∙ closes made row n e (index_of row a [] ++ index_of row b []) stack r
-      ∙ ap (λ y. indexScan r (made ++ (row ∷ e ∷ n ∷ y)) stack) (sym (index-append a row [] (index_of row b [])))
+      ∙ ap (λ y. index_scan r (made ++ (row ∷ e ∷ n ∷ y)) stack) (sym (index-append a row [] (index_of row b [])))
   scans (Block.one k row a e) n made stack r h =
-      ap (λ y. indexScan (spell a ((e, end) ∷ r)) (opened made row y []) (length made ∷ stack)) h
-      ∙ adds a made row n [] stack _ (scans a row (opened made row n []) (length made ∷ stack) _ (named made row n [] stack (startRow a)))
+      ap (λ y. index_scan (spell a ((e, end) ∷ r)) (opened made row y []) (length made ∷ stack)) h
+      ∙ adds a made row n [] stack _ (scans a row (opened made row n []) (length made ∷ stack) _ (named made row n [] stack (start_row a)))
       ∙ closes made row n e (index_of row a []) stack r
   scans (Block.loop row q) n made stack r h =
-      ap (λ y. indexScan (spellPasses q r) (opened made row y []) (length made ∷ stack)) h ∙ scans-passes q made row n [] stack r
+      ap (λ y. index_scan (spell_passes q r) (opened made row y []) (length made ∷ stack)) h ∙ scans-passes q made row n [] stack r
 
-  pub scans-passes : (q : Passes) (made : List ℕ) (s n : ℕ) (x stack : List ℕ) (r : List Row) → indexScan (spellPasses q r) (opened made s n x) (length made ∷ stack) ≡ indexScan r (made ++ (s ∷ endOfPasses q ∷ n ∷ (x ++ indexOfPasses s q []))) stack
+  pub scans-passes : (q : Passes) (made : List ℕ) (s n : ℕ) (x stack : List ℕ) (r : List Row) → index_scan (spell_passes q r) (opened made s n x) (length made ∷ stack) ≡ index_scan r (made ++ (s ∷ end_of_passes q ∷ n ∷ (x ++ index_of_passes s q []))) stack
   scans-passes (Passes.ended a e) made s n x stack r =
-      adds a made s n x stack _ (scans a s (opened made s n x) (length made ∷ stack) _ (named made s n x stack (startRow a)))
+      adds a made s n x stack _ (scans a s (opened made s n x) (length made ∷ stack) _ (named made s n x stack (start_row a)))
       ∙ closes made s n e (x ++ index_of s a []) stack r
   scans-passes (Passes.repeated a m q) made s n x stack r =
-      adds a made s n x stack _ (scans a s (opened made s n x) (length made ∷ stack) _ (named made s n x stack (startRow a)))
+      adds a made s n x stack _ (scans a s (opened made s n x) (length made ∷ stack) _ (named made s n x stack (start_row a)))
       ∙ scans-passes q made s n (x ++ index_of s a []) stack r
-      ∙ ap (λ y. indexScan r (made ++ (s ∷ endOfPasses q ∷ n ∷ y)) stack)
-      (append_assoc x (index_of s a []) (indexOfPasses s q []) ∙ ap (λ y. x ++ y) (sym (index-append a s [] (indexOfPasses s q []))))
+      ∙ ap (λ y. index_scan r (made ++ (s ∷ end_of_passes q ∷ n ∷ y)) stack)
+      (append_assoc x (index_of s a []) (index_of_passes s q []) ∙ ap (λ y. x ++ y) (sym (index-append a s [] (index_of_passes s q []))))
 
 -- HALT rows add nothing
-scans-halts : (h : List Row) (made stack : List ℕ) → OnlyHalts h → indexScan h made stack ≡ made
-unfolding indexScan OnlyHalts
+scans-halts : (h : List Row) (made stack : List ℕ) → OnlyHalts h → index_scan h made stack ≡ made
+unfolding index_scan OnlyHalts
 scans-halts [] made stack f = refl
 scans-halts (x ∷ h) made stack f = rw f.0 (scans-halts h made stack f.1)
 
-pub scanned : (w : List Token) (b : Block) → WordOf w b → indexScan (numbered 0 w) [] [] ≡ index b
+pub scanned : (w : List Token) (b : Block) → WordOf w b → index_scan (numbered 0 w) [] [] ≡ index b
 unfolding WordOf index around
 scanned w b (rest, e, h) =
-    ap (λ r. indexScan r [] []) e ∙ scans b (startRow b) [] [] rest refl ∙ scans-halts rest (index_of (startRow b) b []) [] (halts-only rest h)
+    ap (λ r. index_scan r [] []) e ∙ scans b (start_row b) [] [] rest refl ∙ scans-halts rest (index_of (start_row b) b []) [] (halts-only rest h)
 
 -- THE NUMBER OF BLOCKS
 
-starts-ops : (o : Ops) (r : List Row) → starts (spellOps o r) ≡ starts r
-unfolding starts spellOps
+starts-ops : (o : Ops) (r : List Row) → starts (spell_ops o r) ≡ starts r
+unfolding starts spell_ops
 starts-ops (Ops.ended e) r = omega arith
 starts-ops (Ops.op row c o) r = omega (arith, starts-ops o r)
 starts-ops (Ops.respan row o) r = omega (arith, starts-ops o r)
 
 mutual
-  unfolding starts spell blocksIn
+  unfolding starts spell blocks_in
 
-  starts-block : (b : Block) (r : List Row) → starts (spell b r) ≡ blocksIn b + starts r
+  starts-block : (b : Block) (r : List Row) → starts (spell b r) ≡ blocks_in b + starts r
   starts-block (Block.span row o) r = omega (arith, starts-ops o r)
   starts-block (Block.join row a b e) r = omega (arith, starts-block a (spell b ((e, end) ∷ r)), starts-block b ((e, end) ∷ r))
   starts-block (Block.one k row a e) r = omega (arith, starts-block a ((e, end) ∷ r))
   starts-block (Block.loop row q) r = omega (arith, starts-passes q r)
 
-  starts-passes : (q : Passes) (r : List Row) → starts (spellPasses q r) ≡ blocksInPasses q + starts r
+  starts-passes : (q : Passes) (r : List Row) → starts (spell_passes q r) ≡ blocks_in_passes q + starts r
   starts-passes (Passes.ended a e) r = omega (arith, starts-block a ((e, end) ∷ r))
-  starts-passes (Passes.repeated a m q) r = omega (arith, starts-block a ((m, repeat) ∷ spellPasses q r), starts-passes q r)
+  starts-passes (Passes.repeated a m q) r = omega (arith, starts-block a ((m, repeat) ∷ spell_passes q r), starts-passes q r)
 
 starts-halts : (h : List Row) → OnlyHalts h → starts h ≡ 0
 unfolding starts OnlyHalts
@@ -111,14 +111,14 @@ starts-halts [] f = refl
 starts-halts (x ∷ h) f = rw f.0 (omega (arith, starts-halts h f.1))
 
 -- the blocks of a reading are its start rows
-pub blocks-starts : (w : List Token) (b : Block) → WordOf w b → starts (numbered 0 w) ≡ blocksIn b
+pub blocks-starts : (w : List Token) (b : Block) → WordOf w b → starts (numbered 0 w) ≡ blocks_in b
 unfolding WordOf
 blocks-starts w b (rest, e, h) = ap starts e ∙ omega (arith, starts-block b rest, starts-halts rest (halts-only rest h))
 
 -- OPEN BLOCKS
 
-fits-ops : (o : Ops) (n : ℕ) (r : List Row) → Fits n r → Fits (suc n) (spellOps o r)
-unfolding Fits spellOps
+fits-ops : (o : Ops) (n : ℕ) (r : List Row) → Fits n r → Fits (suc n) (spell_ops o r)
+unfolding Fits spell_ops
 fits-ops (Ops.ended e) n r f = (omega arith, f)
 fits-ops (Ops.op row c o) n r f = (tt, fits-ops o n r f)
 fits-ops (Ops.respan row o) n r f = (tt, fits-ops o n r f)
@@ -133,7 +133,7 @@ mutual
   fits-block (Block.one k row a e) n r h f = (omega arith, fits-block a (suc n) _ (omega arith) (omega arith, f))
   fits-block (Block.loop row q) n r h f = (omega arith, fits-passes q n r (omega arith) f)
 
-  fits-passes : (q : Passes) (n : ℕ) (r : List Row) → suc n + depthOfPasses q ≤ 64 → Fits n r → Fits (suc n) (spellPasses q r)
+  fits-passes : (q : Passes) (n : ℕ) (r : List Row) → suc n + depth_of_passes q ≤ 64 → Fits n r → Fits (suc n) (spell_passes q r)
   fits-passes (Passes.ended a e) n r h f = fits-block a (suc n) _ h (omega arith, f)
   fits-passes (Passes.repeated a m q) n r h f = fits-block a (suc n) _ (omega arith) (tt, fits-passes q n r (omega arith) f)
 

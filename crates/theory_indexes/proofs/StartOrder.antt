@@ -7,9 +7,9 @@ use native.Mathlib.Omega.{arith}
 use borrow.Author.Tests.{le-leb, lt-leb}
 use lib.ListN.{length, get_or}
 use Rattle.theory_readings.specs.Tokens.{Token}
-use Rattle.theory_readings.specs.Readings.{Block, Passes, WordOf, endRowOf}
-use Rattle.theory_indexes.specs.Indexes.{startRow, endOfPasses, end_of, blocksIn, index_of, indexOfPasses, index, innermost}
-use Rattle.theory_indexes.specs.Enclosing.{encloses, later, lastFrom}
+use Rattle.theory_readings.specs.Readings.{Block, Passes, WordOf, end_row_of}
+use Rattle.theory_indexes.specs.Indexes.{start_row, end_of_passes, end_of, blocks_in, index_of, index_of_passes, index, innermost}
+use Rattle.theory_indexes.specs.Enclosing.{encloses, later, last_from}
 use Rattle.theory_indexes.proofs.IndexLists.{index-length}
 use Rattle.theory_indexes.proofs.Innermost.{innermost-found}
 use Rattle.theory_indexes.proofs.RowsOfBlocks.{Spans, SpansPasses, ops-le, spans-lt, passes-lt, word-spans}
@@ -29,35 +29,35 @@ sooner (start ∷ []) s s' h r = tt
 sooner [] s s' h r = tt
 
 mutual
-  unfolding Rising Spans index_of startRow end_of endOfPasses
+  unfolding Rising Spans index_of start_row end_of end_of_passes
 
-  block-rises : (b : Block) (n s : ℕ) (rest : List ℕ) → Spans b → s ≤ startRow b → Rising (end_of b) rest → Rising s (index_of n b rest)
-  block-rises (Block.span row o) n s rest p h r = (h, ops-le o (suc row) p, sooner rest (endRowOf o) (suc row) (ops-le o (suc row) p) r)
+  block-rises : (b : Block) (n s : ℕ) (rest : List ℕ) → Spans b → s ≤ start_row b → Rising (end_of b) rest → Rising s (index_of n b rest)
+  block-rises (Block.span row o) n s rest p h r = (h, ops-le o (suc row) p, sooner rest (end_row_of o) (suc row) (ops-le o (suc row) p) r)
   block-rises (Block.join row a b e) n s rest (f, p, g, q, u) h r =
       (h, omega (arith, spans-lt a p, spans-lt b q), block-rises a row (suc row) _ p (omega arith) (block-rises b row (end_of a) rest q (omega arith) (sooner rest e (end_of b) (omega arith) r)))
   block-rises (Block.one c row a e) n s rest (f, p, u) h r =
       (h, omega (arith, spans-lt a p), block-rises a row (suc row) rest p (omega arith) (sooner rest e (end_of a) (omega arith) r))
   block-rises (Block.loop row q) n s rest p h r = (h, passes-lt q row p, passes-rise q row row (suc row) rest p (omega arith) r)
 
-  passes-rise : (q : Passes) (m n s : ℕ) (rest : List ℕ) → SpansPasses m q → s ≤ suc m → Rising (endOfPasses q) rest → Rising s (indexOfPasses n q rest)
+  passes-rise : (q : Passes) (m n s : ℕ) (rest : List ℕ) → SpansPasses m q → s ≤ suc m → Rising (end_of_passes q) rest → Rising s (index_of_passes n q rest)
   passes-rise (Passes.ended a e) m n s rest (f, p, u) h r = block-rises a n s rest p (omega arith) (sooner rest e (end_of a) (omega arith) r)
   passes-rise (Passes.repeated a k q) m n s rest (f, p, u, g) h r =
       block-rises a n s _ p (omega arith) (passes-rise q k n (end_of a) rest g (omega arith) r)
 
 pub starts-rise : (w : List Token) (b : Block) → WordOf w b → Rising 0 (index b)
 unfolding Rising index
-starts-rise w b h = block-rises b (startRow b) 0 [] (word-spans w b h).1 (omega arith) tt
+starts-rise w b h = block-rises b (start_row b) 0 [] (word-spans w b h).1 (omega arith) tt
 
 -- no block of rising start rows encloses a row before them
-before-all : (l : List ℕ) (s k x : ℕ) → Rising s l → x < s → lastFrom k l x ≡ none
-unfolding Rising lastFrom encloses later
+before-all : (l : List ℕ) (s k x : ℕ) → Rising s l → x < s → last_from k l x ≡ none
+unfolding Rising last_from encloses later
 before-all (start ∷ end ∷ around ∷ more) s k x (h, i, r) b = rw (before-all more (suc start) (suc k) x r (omega arith), lt-leb start x (omega arith)) refl
 before-all (start ∷ end ∷ []) s k x r b = refl
 before-all (start ∷ []) s k x r b = refl
 before-all [] s k x r b = refl
 
-own-from : (i : ℕ) (l : List ℕ) (s k : ℕ) → Rising s l → 3 * i + 2 < length l → lastFrom k l (get_or l (3 * i) 0) ≡ some (k + i)
-unfolding Rising lastFrom encloses later
+own-from : (i : ℕ) (l : List ℕ) (s k : ℕ) → Rising s l → 3 * i + 2 < length l → last_from k l (get_or l (3 * i) 0) ≡ some (k + i)
+unfolding Rising last_from encloses later
 own-from i [] s k r h = absurd (omega arith)
 own-from i (start ∷ []) s k r h = absurd (omega arith)
 own-from i (start ∷ end ∷ []) s k r h = absurd (omega arith)
@@ -70,8 +70,8 @@ own-from (suc i) (start ∷ end ∷ around ∷ more) s k (a, b, r) h =
     rw (e, f, own-from i more (suc start) (suc k) r (omega arith)) refl
 
 -- the start row that stands at place k is the row of the block at place k
-pub own-place : (w : List Token) (b : Block) → WordOf w b → (k : ℕ) → k < blocksIn b → innermost b (get_or (index b) (3 * k) 0) ≡ some k
+pub own-place : (w : List Token) (b : Block) → WordOf w b → (k : ℕ) → k < blocks_in b → innermost b (get_or (index b) (3 * k) 0) ≡ some k
 unfolding index
 own-place w b h k l =
     let e : 0 + k ≡ k = omega arith in
-    sym (innermost-found w b h (get_or (index b) (3 * k) 0)) ∙ own-from k (index b) 0 0 (starts-rise w b h) (omega (arith, index-length b (startRow b) [])) ∙ ap some e
+    sym (innermost-found w b h (get_or (index b) (3 * k) 0)) ∙ own-from k (index b) 0 0 (starts-rise w b h) (omega (arith, index-length b (start_row b) [])) ∙ ap some e

@@ -2,7 +2,7 @@
 use Rattle.std.specs.Prelude.{Bool, ◌&&◌, List, [], ◌∷◌, ℕ, suc, ◌%◌, leb, eqb, length}
 use Rattle.std.proofs.Math.Option.{Option, none, some}
 use Rattle.groups.specs.Answer.{Answer, accepted, refused, pick}
-use Rattle.groups.specs.Constants.{badLength}
+use Rattle.groups.specs.Constants.{bad_length}
 
 -- "whose start and END rows enclose it, both included"
 unfoldable pub encloses : (start end row : ℕ) → Bool
@@ -14,12 +14,12 @@ later (some k) first = some k
 later none first = first
 
 -- "the place .. of the last block whose start and END rows enclose it .. or none", where the first three numbers are those of place k
-unfoldable pub lastFrom : (k : ℕ) → (numbers : List ℕ) → (row : ℕ) → Option ℕ
-lastFrom k (start ∷ end ∷ around ∷ more) row = later (lastFrom (suc k) more row) (pick (encloses start end row) (some k) none)
-lastFrom k (start ∷ end ∷ []) row = none
-lastFrom k (start ∷ []) row = none
-lastFrom k [] row = none
+unfoldable pub last_from : (k : ℕ) → (numbers : List ℕ) → (row : ℕ) → Option ℕ
+last_from k (start ∷ end ∷ around ∷ more) row = later (last_from (suc k) more row) (pick (encloses start end row) (some k) none)
+last_from k (start ∷ end ∷ []) row = none
+last_from k (start ∷ []) row = none
+last_from k [] row = none
 
 -- "(no multiple of three: 11)"; "the place, from 0"
 unfoldable pub enclosing : (numbers : List ℕ) → (row : ℕ) → Answer (Option ℕ)
-enclosing numbers row = pick (eqb (length numbers % 3) 0) (accepted (lastFrom 0 numbers row)) (refused badLength)
+enclosing numbers row = pick (eqb (length numbers % 3) 0) (accepted (last_from 0 numbers row)) (refused bad_length)

@@ -10,8 +10,8 @@ use Rattle.field.proofs.CellLaws.{cell-take, cell-drop}
 use Rattle.rows.specs.declared.records.profile.Profile.{Profile}
 use Rattle.rows.specs.records.Buffers.{rows_of}
 use Rattle.rows.proofs.passes.RowLists.{length-rows, wide_rows, row-at, as_rows}
-use Rattle.theory_readings.specs.Tokens.{Kind, Token, start, repeat, end, halt, tokenOf, tokensOf, count_of}
-use Rattle.theory_readings.specs.Readings.{Ops, Block, Passes, Row, numbered, spellOps, spell, spellPasses, OnlyHalts, Halts, WordOf, Ask, flag, count, passesIn, asksOf, asksOfPasses, asks, row_at, Meets, AllMet, Reading, all_rows, Trace}
+use Rattle.theory_readings.specs.Tokens.{Kind, Token, start, repeat, end, halt, token_of, tokens_of, count_of}
+use Rattle.theory_readings.specs.Readings.{Ops, Block, Passes, Row, numbered, spell_ops, spell, spell_passes, OnlyHalts, Halts, WordOf, Ask, flag, count, passes_in, asks_of, asks_of_passes, asks, row_at, Meets, AllMet, Reading, all_rows, Trace}
 use Rattle.theory_read_back.specs.Loops.{LoopIn, LoopInPasses}
 use Rattle.theory_read_back.specs.ReadBack.{CountsPasses}
 
@@ -25,8 +25,8 @@ looping n = (n, start Kind.loop)
 other : {A : Type 0} (n m : ℕ) (t : Token) → looping n ≡ (m, t) → (start Kind.loop ≡ t → ◌≡◌ {A = ℕ} 0 1) → A
 other n m t e h = let z = h (ap (λ (x : Row). x.1) e) in absurd (omega arith)
 
-behind-ops : (o : Ops) (rest : List Row) (n : ℕ) → Memᴰ (looping n) (spellOps o rest) → Memᴰ (looping n) rest
-unfolding spellOps
+behind-ops : (o : Ops) (rest : List Row) (n : ℕ) → Memᴰ (looping n) (spell_ops o rest) → Memᴰ (looping n) rest
+unfolding spell_ops
 behind-ops (Ops.ended m) rest n h = ⊎_elim (λ e. other n m end e (λ w. cc)) (λ k. k) (mathlib.Core.List.Memᴰ.cases_cons h)
 behind-ops (Ops.op m opcode o) rest n h = ⊎_elim (λ e. other n m (Token.op opcode) e (λ w. cc)) (behind-ops o rest n) (mathlib.Core.List.Memᴰ.cases_cons h)
 behind-ops (Ops.respan m o) rest n h = ⊎_elim (λ e. other n m Token.respan e (λ w. cc)) (behind-ops o rest n) (mathlib.Core.List.Memᴰ.cases_cons h)
@@ -45,112 +45,112 @@ behind-repeat : {A : Type 0} (n m : ℕ) (rest : List Row) → (Memᴰ (looping 
 behind-repeat n m rest f h = ⊎_elim (λ e. other n m repeat e (λ w. cc)) f (mathlib.Core.List.Memᴰ.cases_cons h)
 
 mutual
-  unfolding spell spellPasses LoopIn LoopInPasses
+  unfolding spell spell_passes LoopIn LoopInPasses
 
   spelled-loop : (b : Block) (rest : List Row) (n : ℕ) → Memᴰ (looping n) (spell b rest) → Found b n rest
   spelled-loop (Block.span m ops) rest n h =
       ⊎_elim (λ e. other n m (start Kind.span) e (λ w. cc)) (λ k. inr (behind-ops ops rest n k)) (mathlib.Core.List.Memᴰ.cases_cons h)
-  spelled-loop (Block.join m a b endRow) rest n h =
+  spelled-loop (Block.join m a b end_row) rest n h =
       ⊎_elim (λ e. other n m (start Kind.join) e (λ w. cc))
       (λ k. ⊎_elim (λ x. inl (x.0, inl x.1))
-      (λ i. ⊎_elim (λ x. inl (x.0, inr x.1)) (λ j. behind-end n endRow rest (λ r. inr r) j) (spelled-loop b ((endRow, end) ∷ rest) n i))
-      (spelled-loop a (spell b ((endRow, end) ∷ rest)) n k))
+      (λ i. ⊎_elim (λ x. inl (x.0, inr x.1)) (λ j. behind-end n end_row rest (λ r. inr r) j) (spelled-loop b ((end_row, end) ∷ rest) n i))
+      (spelled-loop a (spell b ((end_row, end) ∷ rest)) n k))
       (mathlib.Core.List.Memᴰ.cases_cons h)
-  spelled-loop (Block.one kind m a endRow) rest n h =
+  spelled-loop (Block.one kind m a end_row) rest n h =
       ⊎_elim (λ e. other n m (start (Kind.one kind)) e (λ w. cc))
-      (λ k. ⊎_elim (λ x. inl x) (λ j. behind-end n endRow rest (λ r. inr r) j) (spelled-loop a ((endRow, end) ∷ rest) n k))
+      (λ k. ⊎_elim (λ x. inl x) (λ j. behind-end n end_row rest (λ r. inr r) j) (spelled-loop a ((end_row, end) ∷ rest) n k))
       (mathlib.Core.List.Memᴰ.cases_cons h)
   spelled-loop (Block.loop m own) rest n h =
       ⊎_elim (λ e. inl (own, inl (ap (λ (x : Row). x.0) e, refl)))
       (λ k. ⊎_elim (λ x. inl (x.0, inr x.1)) (λ r. inr r) (spelled-passes own rest n k))
       (mathlib.Core.List.Memᴰ.cases_cons h)
 
-  spelled-passes : (own : Passes) (rest : List Row) (n : ℕ) → Memᴰ (looping n) (spellPasses own rest) → FoundInPasses own n rest
-  spelled-passes (Passes.ended a endRow) rest n h =
-      ⊎_elim (λ x. inl x) (λ j. behind-end n endRow rest (λ r. inr r) j) (spelled-loop a ((endRow, end) ∷ rest) n h)
-  spelled-passes (Passes.repeated a repeatRow more) rest n h =
+  spelled-passes : (own : Passes) (rest : List Row) (n : ℕ) → Memᴰ (looping n) (spell_passes own rest) → FoundInPasses own n rest
+  spelled-passes (Passes.ended a end_row) rest n h =
+      ⊎_elim (λ x. inl x) (λ j. behind-end n end_row rest (λ r. inr r) j) (spelled-loop a ((end_row, end) ∷ rest) n h)
+  spelled-passes (Passes.repeated a repeat_row more) rest n h =
       ⊎_elim (λ x. inl (x.0, inl x.1))
-      (λ j. behind-repeat n repeatRow (spellPasses more rest) (λ k. ⊎_elim (λ x. inl (x.0, inr x.1)) (λ r. inr r) (spelled-passes more rest n k)) j)
-      (spelled-loop a ((repeatRow, repeat) ∷ spellPasses more rest) n h)
+      (λ j. behind-repeat n repeat_row (spell_passes more rest) (λ k. ⊎_elim (λ x. inl (x.0, inr x.1)) (λ r. inr r) (spelled-passes more rest n k)) j)
+      (spelled-loop a ((repeat_row, repeat) ∷ spell_passes more rest) n h)
 
 -- FROM THE TREE TO THE WORD
 
-ops-behind : (o : Ops) (rest : List Row) (x : Row) → Memᴰ x rest → Memᴰ x (spellOps o rest)
-unfolding spellOps
+ops-behind : (o : Ops) (rest : List Row) (x : Row) → Memᴰ x rest → Memᴰ x (spell_ops o rest)
+unfolding spell_ops
 ops-behind (Ops.ended m) rest x h = mathlib.Core.List.Memᴰ.tail h
 ops-behind (Ops.op m opcode o) rest x h = mathlib.Core.List.Memᴰ.tail (ops-behind o rest x h)
 ops-behind (Ops.respan m o) rest x h = mathlib.Core.List.Memᴰ.tail (ops-behind o rest x h)
 
 mutual
-  unfolding spell spellPasses
+  unfolding spell spell_passes
 
   spell-behind : (b : Block) (rest : List Row) (x : Row) → Memᴰ x rest → Memᴰ x (spell b rest)
   spell-behind (Block.span m ops) rest x h = mathlib.Core.List.Memᴰ.tail (ops-behind ops rest x h)
-  spell-behind (Block.join m a b endRow) rest x h =
-      mathlib.Core.List.Memᴰ.tail (spell-behind a (spell b ((endRow, end) ∷ rest)) x (spell-behind b ((endRow, end) ∷ rest) x (mathlib.Core.List.Memᴰ.tail h)))
-  spell-behind (Block.one kind m a endRow) rest x h = mathlib.Core.List.Memᴰ.tail (spell-behind a ((endRow, end) ∷ rest) x (mathlib.Core.List.Memᴰ.tail h))
+  spell-behind (Block.join m a b end_row) rest x h =
+      mathlib.Core.List.Memᴰ.tail (spell-behind a (spell b ((end_row, end) ∷ rest)) x (spell-behind b ((end_row, end) ∷ rest) x (mathlib.Core.List.Memᴰ.tail h)))
+  spell-behind (Block.one kind m a end_row) rest x h = mathlib.Core.List.Memᴰ.tail (spell-behind a ((end_row, end) ∷ rest) x (mathlib.Core.List.Memᴰ.tail h))
   spell-behind (Block.loop m own) rest x h = mathlib.Core.List.Memᴰ.tail (passes-behind own rest x h)
 
-  passes-behind : (own : Passes) (rest : List Row) (x : Row) → Memᴰ x rest → Memᴰ x (spellPasses own rest)
-  passes-behind (Passes.ended a endRow) rest x h = spell-behind a ((endRow, end) ∷ rest) x (mathlib.Core.List.Memᴰ.tail h)
-  passes-behind (Passes.repeated a repeatRow more) rest x h =
-      spell-behind a ((repeatRow, repeat) ∷ spellPasses more rest) x (mathlib.Core.List.Memᴰ.tail (passes-behind more rest x h))
+  passes-behind : (own : Passes) (rest : List Row) (x : Row) → Memᴰ x rest → Memᴰ x (spell_passes own rest)
+  passes-behind (Passes.ended a end_row) rest x h = spell-behind a ((end_row, end) ∷ rest) x (mathlib.Core.List.Memᴰ.tail h)
+  passes-behind (Passes.repeated a repeat_row more) rest x h =
+      spell-behind a ((repeat_row, repeat) ∷ spell_passes more rest) x (mathlib.Core.List.Memᴰ.tail (passes-behind more rest x h))
 
 mutual
-  unfolding spell spellPasses LoopIn LoopInPasses
+  unfolding spell spell_passes LoopIn LoopInPasses
 
   loop-spelled : (b : Block) (rest : List Row) (n : ℕ) (passes : Passes) → LoopIn b n passes → Memᴰ (looping n) (spell b rest)
   loop-spelled (Block.span m ops) rest n passes h = absurd h
-  loop-spelled (Block.join m a b endRow) rest n passes (inl h) = mathlib.Core.List.Memᴰ.tail (loop-spelled a (spell b ((endRow, end) ∷ rest)) n passes h)
-  loop-spelled (Block.join m a b endRow) rest n passes (inr h) =
-      mathlib.Core.List.Memᴰ.tail (spell-behind a (spell b ((endRow, end) ∷ rest)) (looping n) (loop-spelled b ((endRow, end) ∷ rest) n passes h))
-  loop-spelled (Block.one kind m a endRow) rest n passes h = mathlib.Core.List.Memᴰ.tail (loop-spelled a ((endRow, end) ∷ rest) n passes h)
+  loop-spelled (Block.join m a b end_row) rest n passes (inl h) = mathlib.Core.List.Memᴰ.tail (loop-spelled a (spell b ((end_row, end) ∷ rest)) n passes h)
+  loop-spelled (Block.join m a b end_row) rest n passes (inr h) =
+      mathlib.Core.List.Memᴰ.tail (spell-behind a (spell b ((end_row, end) ∷ rest)) (looping n) (loop-spelled b ((end_row, end) ∷ rest) n passes h))
+  loop-spelled (Block.one kind m a end_row) rest n passes h = mathlib.Core.List.Memᴰ.tail (loop-spelled a ((end_row, end) ∷ rest) n passes h)
   loop-spelled (Block.loop m own) rest n passes (inl h) = mathlib.Core.List.Memᴰ.head (ap looping h.0)
   loop-spelled (Block.loop m own) rest n passes (inr h) = mathlib.Core.List.Memᴰ.tail (passes-spelled own rest n passes h)
 
-  passes-spelled : (own : Passes) (rest : List Row) (n : ℕ) (passes : Passes) → LoopInPasses own n passes → Memᴰ (looping n) (spellPasses own rest)
-  passes-spelled (Passes.ended a endRow) rest n passes h = loop-spelled a ((endRow, end) ∷ rest) n passes h
-  passes-spelled (Passes.repeated a repeatRow more) rest n passes (inl h) = loop-spelled a ((repeatRow, repeat) ∷ spellPasses more rest) n passes h
-  passes-spelled (Passes.repeated a repeatRow more) rest n passes (inr h) =
-      spell-behind a ((repeatRow, repeat) ∷ spellPasses more rest) (looping n) (mathlib.Core.List.Memᴰ.tail (passes-spelled more rest n passes h))
+  passes-spelled : (own : Passes) (rest : List Row) (n : ℕ) (passes : Passes) → LoopInPasses own n passes → Memᴰ (looping n) (spell_passes own rest)
+  passes-spelled (Passes.ended a end_row) rest n passes h = loop-spelled a ((end_row, end) ∷ rest) n passes h
+  passes-spelled (Passes.repeated a repeat_row more) rest n passes (inl h) = loop-spelled a ((repeat_row, repeat) ∷ spell_passes more rest) n passes h
+  passes-spelled (Passes.repeated a repeat_row more) rest n passes (inr h) =
+      spell-behind a ((repeat_row, repeat) ∷ spell_passes more rest) (looping n) (mathlib.Core.List.Memᴰ.tail (passes-spelled more rest n passes h))
 
 -- WHAT IS ASKED OF ITS COUNT
 
 mutual
-  unfolding asksOf asksOfPasses
+  unfolding asks_of asks_of_passes
 
-  asks-behind : (b : Block) (body : ℕ) (rest : List Ask) (x : Ask) → Memᴰ x rest → Memᴰ x (asksOf body b rest)
+  asks-behind : (b : Block) (body : ℕ) (rest : List Ask) (x : Ask) → Memᴰ x rest → Memᴰ x (asks_of body b rest)
   asks-behind (Block.span m ops) body rest x h = mathlib.Core.List.Memᴰ.tail h
-  asks-behind (Block.join m a b endRow) body rest x h =
-      asks-behind a 0 (asksOf 0 b (flag endRow body ∷ rest)) x (asks-behind b 0 (flag endRow body ∷ rest) x (mathlib.Core.List.Memᴰ.tail h))
-  asks-behind (Block.one kind m a endRow) body rest x h = asks-behind a 0 (flag endRow body ∷ rest) x (mathlib.Core.List.Memᴰ.tail h)
+  asks-behind (Block.join m a b end_row) body rest x h =
+      asks-behind a 0 (asks_of 0 b (flag end_row body ∷ rest)) x (asks-behind b 0 (flag end_row body ∷ rest) x (mathlib.Core.List.Memᴰ.tail h))
+  asks-behind (Block.one kind m a end_row) body rest x h = asks-behind a 0 (flag end_row body ∷ rest) x (mathlib.Core.List.Memᴰ.tail h)
   asks-behind (Block.loop m own) body rest x h = mathlib.Core.List.Memᴰ.tail (passes-asks-behind own body rest x h)
 
-  passes-asks-behind : (own : Passes) (body : ℕ) (rest : List Ask) (x : Ask) → Memᴰ x rest → Memᴰ x (asksOfPasses body own rest)
-  passes-asks-behind (Passes.ended a endRow) body rest x h = asks-behind a 1 (flag endRow body ∷ rest) x (mathlib.Core.List.Memᴰ.tail h)
-  passes-asks-behind (Passes.repeated a repeatRow more) body rest x h =
-      asks-behind a 1 (asksOfPasses body more rest) x (passes-asks-behind more body rest x h)
+  passes-asks-behind : (own : Passes) (body : ℕ) (rest : List Ask) (x : Ask) → Memᴰ x rest → Memᴰ x (asks_of_passes body own rest)
+  passes-asks-behind (Passes.ended a end_row) body rest x h = asks-behind a 1 (flag end_row body ∷ rest) x (mathlib.Core.List.Memᴰ.tail h)
+  passes-asks-behind (Passes.repeated a repeat_row more) body rest x h =
+      asks-behind a 1 (asks_of_passes body more rest) x (passes-asks-behind more body rest x h)
 
 abbrev counting : ℕ → Passes → Ask
-counting n passes = count n (passesIn passes)
+counting n passes = count n (passes_in passes)
 
 mutual
-  unfolding asksOf asksOfPasses LoopIn LoopInPasses
+  unfolding asks_of asks_of_passes LoopIn LoopInPasses
 
-  loop-asked : (b : Block) (body : ℕ) (rest : List Ask) (n : ℕ) (passes : Passes) → LoopIn b n passes → Memᴰ (counting n passes) (asksOf body b rest)
+  loop-asked : (b : Block) (body : ℕ) (rest : List Ask) (n : ℕ) (passes : Passes) → LoopIn b n passes → Memᴰ (counting n passes) (asks_of body b rest)
   loop-asked (Block.span m ops) body rest n passes h = absurd h
-  loop-asked (Block.join m a b endRow) body rest n passes (inl h) = loop-asked a 0 (asksOf 0 b (flag endRow body ∷ rest)) n passes h
-  loop-asked (Block.join m a b endRow) body rest n passes (inr h) =
-      asks-behind a 0 (asksOf 0 b (flag endRow body ∷ rest)) (counting n passes) (loop-asked b 0 (flag endRow body ∷ rest) n passes h)
-  loop-asked (Block.one kind m a endRow) body rest n passes h = loop-asked a 0 (flag endRow body ∷ rest) n passes h
+  loop-asked (Block.join m a b end_row) body rest n passes (inl h) = loop-asked a 0 (asks_of 0 b (flag end_row body ∷ rest)) n passes h
+  loop-asked (Block.join m a b end_row) body rest n passes (inr h) =
+      asks-behind a 0 (asks_of 0 b (flag end_row body ∷ rest)) (counting n passes) (loop-asked b 0 (flag end_row body ∷ rest) n passes h)
+  loop-asked (Block.one kind m a end_row) body rest n passes h = loop-asked a 0 (flag end_row body ∷ rest) n passes h
   loop-asked (Block.loop m own) body rest n passes (inl h) = mathlib.Core.List.Memᴰ.head (ap₂ counting h.0 h.1)
   loop-asked (Block.loop m own) body rest n passes (inr h) = mathlib.Core.List.Memᴰ.tail (passes-asked own body rest n passes h)
 
-  passes-asked : (own : Passes) (body : ℕ) (rest : List Ask) (n : ℕ) (passes : Passes) → LoopInPasses own n passes → Memᴰ (counting n passes) (asksOfPasses body own rest)
-  passes-asked (Passes.ended a endRow) body rest n passes h = loop-asked a 1 (flag endRow body ∷ rest) n passes h
-  passes-asked (Passes.repeated a repeatRow more) body rest n passes (inl h) = loop-asked a 1 (asksOfPasses body more rest) n passes h
-  passes-asked (Passes.repeated a repeatRow more) body rest n passes (inr h) =
-      asks-behind a 1 (asksOfPasses body more rest) (counting n passes) (passes-asked more body rest n passes h)
+  passes-asked : (own : Passes) (body : ℕ) (rest : List Ask) (n : ℕ) (passes : Passes) → LoopInPasses own n passes → Memᴰ (counting n passes) (asks_of_passes body own rest)
+  passes-asked (Passes.ended a end_row) body rest n passes h = loop-asked a 1 (flag end_row body ∷ rest) n passes h
+  passes-asked (Passes.repeated a repeat_row more) body rest n passes (inl h) = loop-asked a 1 (asks_of_passes body more rest) n passes h
+  passes-asked (Passes.repeated a repeat_row more) body rest n passes (inr h) =
+      asks-behind a 1 (asks_of_passes body more rest) (counting n passes) (passes-asked more body rest n passes h)
 
 -- THE ROWS
 
@@ -166,17 +166,17 @@ no-loop-behind [] n h k = h
 no-loop-behind (x ∷ rest) n h k = only-halts (x ∷ rest) n h k
 
 module _ (p : Profile) where
-  row-numbered : (rows : List (List ℕ)) (m k : ℕ) → k < length rows → Memᴰ (m + k, tokenOf p (row_at rows k)) (numbered m (tokensOf p rows))
-  unfolding numbered tokensOf
+  row-numbered : (rows : List (List ℕ)) (m k : ℕ) → k < length rows → Memᴰ (m + k, token_of p (row_at rows k)) (numbered m (tokens_of p rows))
+  unfolding numbered tokens_of
   row-numbered [] m k h = absurd (omega arith)
-  row-numbered (row ∷ rows) m zero h = let e : m + 0 ≡ m = omega arith in mathlib.Core.List.Memᴰ.head (ap (λ (i : ℕ). (i, tokenOf p row)) e)
+  row-numbered (row ∷ rows) m zero h = let e : m + 0 ≡ m = omega arith in mathlib.Core.List.Memᴰ.head (ap (λ (i : ℕ). (i, token_of p row)) e)
   row-numbered (row ∷ rows) m (suc k) h =
       let e : m + suc k ≡ suc m + k = omega arith in
-      mathlib.Core.List.Memᴰ.tail (mathlib.Core.List.Memᴰ.cast (ap (λ (i : ℕ). (i, tokenOf p (row_at rows k))) e) (row-numbered rows (suc m) k (omega arith)))
+      mathlib.Core.List.Memᴰ.tail (mathlib.Core.List.Memᴰ.cast (ap (λ (i : ℕ). (i, token_of p (row_at rows k))) e) (row-numbered rows (suc m) k (omega arith)))
 
-  numbered-row : (rows : List (List ℕ)) (m n : ℕ) (t : Token) → Memᴰ (n, t) (numbered m (tokensOf p rows)) →
-      (k : ℕ) × (n ≡ m + k) × (k < length rows) × (tokenOf p (row_at rows k) ≡ t)
-  unfolding numbered tokensOf
+  numbered-row : (rows : List (List ℕ)) (m n : ℕ) (t : Token) → Memᴰ (n, t) (numbered m (tokens_of p rows)) →
+      (k : ℕ) × (n ≡ m + k) × (k < length rows) × (token_of p (row_at rows k) ≡ t)
+  unfolding numbered tokens_of
   numbered-row [] m n t h = absurd (mathlib.Core.List.Memᴰ.not-nil h)
   numbered-row (row ∷ rows) m n t h =
       ⊎_elim (λ e. (0, ap (λ (x : Row). x.0) e ∙ omega arith, omega arith, sym (ap (λ (x : Row). x.1) e)))
@@ -198,30 +198,30 @@ unfolding all_rows
 rows-many cells = length-rows (length cells / 49) cells
 
 module _ (p : Profile) (cells : List ℕ) (b : Block) (t : Trace p cells b) where
-  counted : (n : ℕ) (own : Passes) → n < length cells / 49 → LoopIn b n own → cell_at cells (49 * n + 23) ≡ passesIn own
+  counted : (n : ℕ) (own : Passes) → n < length cells / 49 → LoopIn b n own → cell_at cells (49 * n + 23) ≡ passes_in own
   unfolding Trace Reading asks AllMet Meets
   counted n own low h = sym (count-cell cells n low) ∙ t.1.2 (counting n own) (loop-asked b 0 [] n own h)
 
-  row-loop : (n : ℕ) → n < length cells / 49 → tokenOf p (row_at (all_rows cells) n) ≡ start Kind.loop → (passes : Passes) × LoopIn b n passes
+  row-loop : (n : ℕ) → n < length cells / 49 → token_of p (row_at (all_rows cells) n) ≡ start Kind.loop → (passes : Passes) × LoopIn b n passes
   unfolding Trace Reading WordOf
   row-loop n low is =
       let (rest, spelled, halts) = t.1.0 in
       let e : n ≡ 0 + n = omega arith in
       let at : Memᴰ (looping n) (spell b rest) =
-      rw (← spelled, ← is) (mathlib.Core.List.Memᴰ.cast (ap (λ (i : ℕ). (i, tokenOf p (row_at (all_rows cells) n))) e) (row-numbered p (all_rows cells) 0 n (omega (arith, rows-many cells)))) in
+      rw (← spelled, ← is) (mathlib.Core.List.Memᴰ.cast (ap (λ (i : ℕ). (i, token_of p (row_at (all_rows cells) n))) e) (row-numbered p (all_rows cells) 0 n (omega (arith, rows-many cells)))) in
       ⊎_elim (λ x. x) (λ k. absurd (no-loop-behind rest n halts k)) (spelled-loop b rest n at)
 
-  loop-row : (n : ℕ) (own : Passes) → LoopIn b n own → (n < length cells / 49) × (tokenOf p (row_at (all_rows cells) n) ≡ start Kind.loop)
+  loop-row : (n : ℕ) (own : Passes) → LoopIn b n own → (n < length cells / 49) × (token_of p (row_at (all_rows cells) n) ≡ start Kind.loop)
   unfolding Trace Reading WordOf
   loop-row n own h =
       let (rest, spelled, halts) = t.1.0 in
-      let at : Memᴰ (looping n) (numbered 0 (tokensOf p (all_rows cells))) = rw spelled (loop-spelled b rest n own h) in
+      let at : Memᴰ (looping n) (numbered 0 (tokens_of p (all_rows cells))) = rw spelled (loop-spelled b rest n own h) in
       let (k, same, below, is) = numbered-row p (all_rows cells) 0 n (start Kind.loop) at in
       let e : n ≡ k = omega arith in
       (omega (arith, rows-many cells), rw e is)
 
   pub counts-passes : CountsPasses p cells b
   counts-passes = record {
-    of-rows = λ n low is. let (own, h) = row-loop n low is in (own, h, counted n own low h);
-    of-loops = λ n own h. let (low, is) = loop-row n own h in (low, is, counted n own low h);
+    of_rows = λ n low is. let (own, h) = row-loop n low is in (own, h, counted n own low h);
+    of_loops = λ n own h. let (low, is) = loop-row n own h in (low, is, counted n own low h);
   }

@@ -9,23 +9,23 @@ use lib.ListN.{length}
 use Rattle.rows.specs.declared.records.profile.Profile.{Profile}
 use Rattle.rows.specs.records.Forests.{Forest}
 use Rattle.rows.specs.records.Addresses.{Queues}
-use Rattle.rows.specs.records.Buffers.{bufferRow, onRows}
+use Rattle.rows.specs.records.Buffers.{buffer_row, on_rows}
 use Rattle.rows.specs.passes.Passes.{multiplied, sum_of, refusal2}
 use Rattle.rows.specs.cycles.Made.{Cursor}
-use Rattle.theory_readings.specs.Readings.{Block, programRows, Trace}
+use Rattle.theory_readings.specs.Readings.{Block, program_rows, Trace}
 use Rattle.theory_readings.specs.Answers.{ReaderAnswer, accepted, Right}
 use Rattle.theory_readings.proofs.OneReading as readings
 use Rattle.reader.specs.Reads.{ReadsTrace}
 use Rattle.reader.specs.declared.trace.TraceRead.{TraceRead}
 use Rattle.reader.proofs.trace.read_trace.Reads as read_trace
 use Rattle.reader.proofs.ReaderExact.{one-read, some_read, is-right-answer, reads-tree, reads_as, reads-exactly}
-use Rattle.theory_runs.specs.Calls.{Handed, Call, finish, Fragment, opened, callRefusal, AllAccepted, finalStates, cells_of, countsOf, builtCells, OneSize}
-use Rattle.theory_runs.specs.Happened.{cyclesOf}
-use Rattle.theory_runs.specs.SameCalls.{allCalls, Cut}
-use Rattle.theory_runs.specs.Finished.{Runs, nesting, writtenByFive, writtenByFinisher, FivePass, FinisherPasses, WrittenOf}
-use Rattle.theory_runs.specs.LiveCalls.{LiveFragment, plainAll, liveRefusal, liveOpened, AllLiveAccepted, liveEnds, liveFinals, LentAsZeros, FreshFragment, freshEnd, freshEnds}
-use Rattle.theory_runs.specs.LiveFinished.{SameAsPlain, liveByFive, liveByFinisher, LiveFivePass, LiveFinisherPasses, LiveCut, LiveWrittenOf}
-use Rattle.theory_runs.specs.TallyClaims.{TallyTells, overFragments, rowsOfAll, NoneEmpty, HoldsDecoders, CountsSet}
+use Rattle.theory_runs.specs.Calls.{Handed, Call, finish, Fragment, opened, call_refusal, AllAccepted, final_states, cells_of, counts_of, built_cells, OneSize}
+use Rattle.theory_runs.specs.Happened.{cycles_of}
+use Rattle.theory_runs.specs.SameCalls.{all_calls, Cut}
+use Rattle.theory_runs.specs.Finished.{Runs, nesting, written_by_five, written_by_finisher, FivePass, FinisherPasses, WrittenOf}
+use Rattle.theory_runs.specs.LiveCalls.{LiveFragment, plain_all, live_refusal, live_opened, AllLiveAccepted, live_ends, live_finals, LentAsZeros, FreshFragment, fresh_end, fresh_ends}
+use Rattle.theory_runs.specs.LiveFinished.{SameAsPlain, live_by_five, live_by_finisher, LiveFivePass, LiveFinisherPasses, LiveCut, LiveWrittenOf}
+use Rattle.theory_runs.specs.TallyClaims.{TallyTells, over_fragments, rows_of_all, NoneEmpty, HoldsDecoders, CountsSet}
 use Rattle.theory_runs.specs.Overflow.{OverflowRule, DepthInRange, AllDepths32}
 use Rattle.theory_runs.specs.WithoutSyscall.{NoSyscallStarts, WithoutSyscall, NoSyscallRows}
 use Rattle.theory_runs.proofs.TraceOfRun.{finisher-trace, five-trace}
@@ -40,7 +40,7 @@ use Rattle.theory_runs.proofs.NoSyscalls.{none-started, none-nested, none-in-row
 use Rattle.theory_runs.proofs.AnySize.{first-cycle-refused, same-cycles, runs-cut, written-length, same-written}
 use Rattle.theory_runs.proofs.LiveCuts.{live-first-cycle-refused, plain-cut, plain-written}
 use Rattle.theory_read_back.specs.ReadBack.{ReadAs, CountsPasses, ReadBack}
-use Rattle.theory_read_back.specs.ReplayedRuns.{Lent, allNumbers, recordedCalls, fragmentsOf, AllReplayed, countsReplayed, builtReplayed, cellsReplayed, ReplayedRuns, recordsNesting, finishedReplay, ReplayFinishes, fivePassedReplay, ReplayFivePass, ReplayCut, ReplayWrittenOf}
+use Rattle.theory_read_back.specs.ReplayedRuns.{Lent, all_numbers, recorded_calls, fragments_of, AllReplayed, counts_replayed, built_replayed, cells_replayed, ReplayedRuns, records_nesting, finished_replay, ReplayFinishes, five_passed_replay, ReplayFivePass, ReplayCut, ReplayWrittenOf}
 use Rattle.theory_read_back.proofs.ReadTraceCall.{learns}
 use Rattle.theory_read_back.proofs.LoopRows.{counts-passes}
 use Rattle.theory_read_back.proofs.ReplayedCalls.{replayed-accepted, replayed-counts, replayed-built, replayed-cells}
@@ -71,8 +71,8 @@ reader-exact p cells depths told left reads = (
 )
 
 -- "a trace has exactly one reading"
-pub one-reading : (p : Profile) (cells : List ℕ) (b b' : Block) → Trace p cells b → Trace p cells b' → b ≡ b'
-one-reading p cells b b' = readings.one-reading p cells b b'
+pub one_reading : (p : Profile) (cells : List ℕ) (b b' : Block) → Trace p cells b → Trace p cells b' → b ≡ b'
+one_reading p cells b b' = readings.one_reading p cells b b'
 
 -- "and the reader's answers (the number of program rows and each row's depth) are those of that reading"
 pub answers-of-reading : (p : Profile) (cells depths : List ℕ) (told : TraceRead) (left : List ℕ) (reads : ReadsTrace p cells depths told left) (b : Block) →
@@ -84,7 +84,7 @@ answers-of-reading p cells depths told left reads b enough t =
       refusal_is = ap (λ (r : TraceRead). r.refusal) e;
       row_is = ap (λ (r : TraceRead). r.row) e;
       rows_are = ap (λ (r : TraceRead). r.program_rows) e;
-      depths-are = d;
+      depths_are = d;
     }
 
 -- "each LOOP row's count is the number of passes of its body": in every trace, so in each that is written
@@ -94,8 +94,8 @@ counts-are-passes = counts-passes
 -- all of it
 pub read_back : (p : Profile) (cells : List ℕ) (b : Block) → Trace p cells b → ReadBack p cells b
 read_back p cells b t = record {
-  is-trace = t;
-  one-reading = λ b' t'. one-reading p cells b' b t' t;
+  is_trace = t;
+  one_reading = λ b' t'. one_reading p cells b' b t' t;
   read = λ depths enough told left reads. answers-of-reading p cells depths told left reads b enough t;
   counts = counts-are-passes p cells b t;
 }
@@ -119,15 +119,15 @@ call-read κs a r s call b enough back = back.read a.1.1.0.now enough r s.1.1.0.
 -- and where no pass is refused
 module _ (p : Profile) (q : Queues) (size : ℕ) (fragments : List Fragment) (here : Cursor) (run : Runs p q size fragments here) where
   -- by the finisher
-  pub written_read : (others top : List ℕ) (height : ℕ) → FinisherPasses p q size fragments here others top height → ReadBack p (writtenByFinisher p q size fragments here others top height) (nesting run)
+  pub written_read : (others top : List ℕ) (height : ℕ) → FinisherPasses p q size fragments here others top height → ReadBack p (written_by_finisher p q size fragments here others top height) (nesting run)
   written_read others top height e = read_back p _ _ (finisher-trace p q size fragments here run others top height e)
 
   -- by the five calls, one after another
-  pub written-by-five-read : (others top : List ℕ) (height : ℕ) → FivePass p q size fragments here others top height → ReadBack p (writtenByFive p q size fragments here others top height) (nesting run)
+  pub written-by-five-read : (others top : List ℕ) (height : ℕ) → FivePass p q size fragments here others top height → ReadBack p (written_by_five p q size fragments here others top height) (nesting run)
   written-by-five-read others top height e = read_back p _ _ (five-trace p q size fragments here run others top height e)
 
   -- its program rows are the cycles
-  pub program-rows : programRows (nesting run) ≡ length (cyclesOf q fragments here.at)
+  pub program-rows : program_rows (nesting run) ≡ length (cycles_of q fragments here.at)
   program-rows = runs.program-rows p q size fragments here run
 
   -- "taken from the calls alone": whatever root, forest and addresses show that the run is proper
@@ -142,58 +142,58 @@ pub live-as-calls : (p : Profile) (q : Queues) (fragments : List LiveFragment) (
 live-as-calls = lives.live-as-calls
 
 -- so what is said here of the cells written without tallies is so of those written with them: `Q` is any of it
-module _ (p : Profile) (q : Queues) (size : ℕ) (fragments : List LiveFragment) (here : Cursor) (none-refused : AllLiveAccepted p q fragments here) (others top : List ℕ) (height : ℕ) (Q : List ℕ → Type 0) where
-  pub live_written : (FinisherPasses p q size (plainAll fragments) here others top height → Q (writtenByFinisher p q size (plainAll fragments) here others top height)) →
-      LiveFinisherPasses p q size fragments here others top height → Q (liveByFinisher p q size fragments here others top height)
-  live_written = lives-finished.live_written p q size fragments here none-refused others top height Q
+module _ (p : Profile) (q : Queues) (size : ℕ) (fragments : List LiveFragment) (here : Cursor) (none_refused : AllLiveAccepted p q fragments here) (others top : List ℕ) (height : ℕ) (Q : List ℕ → Type 0) where
+  pub live_written : (FinisherPasses p q size (plain_all fragments) here others top height → Q (written_by_finisher p q size (plain_all fragments) here others top height)) →
+      LiveFinisherPasses p q size fragments here others top height → Q (live_by_finisher p q size fragments here others top height)
+  live_written = lives-finished.live_written p q size fragments here none_refused others top height Q
 
-  pub live-written-by-five : (FivePass p q size (plainAll fragments) here others top height → Q (writtenByFive p q size (plainAll fragments) here others top height)) →
-      LiveFivePass p q size fragments here others top height → Q (liveByFive p q size fragments here others top height)
-  live-written-by-five = lives-finished.live-written-by-five p q size fragments here none-refused others top height Q
+  pub live-written-by-five : (FivePass p q size (plain_all fragments) here others top height → Q (written_by_five p q size (plain_all fragments) here others top height)) →
+      LiveFivePass p q size fragments here others top height → Q (live_by_five p q size fragments here others top height)
+  live-written-by-five = lives-finished.live-written-by-five p q size fragments here none_refused others top height Q
 
 -- it is read back
-module _ (p : Profile) (q : Queues) (size : ℕ) (fragments : List LiveFragment) (here : Cursor) (run : Runs p q size (plainAll fragments) here) (none-refused : AllLiveAccepted p q fragments here) where
-  pub live-read : (others top : List ℕ) (height : ℕ) → LiveFinisherPasses p q size fragments here others top height → ReadBack p (liveByFinisher p q size fragments here others top height) (nesting run)
+module _ (p : Profile) (q : Queues) (size : ℕ) (fragments : List LiveFragment) (here : Cursor) (run : Runs p q size (plain_all fragments) here) (none_refused : AllLiveAccepted p q fragments here) where
+  pub live-read : (others top : List ℕ) (height : ℕ) → LiveFinisherPasses p q size fragments here others top height → ReadBack p (live_by_finisher p q size fragments here others top height) (nesting run)
   live-read others top height =
-      live_written p q size fragments here none-refused others top height (λ cells. ReadBack p cells (nesting run)) (written_read p q size (plainAll fragments) here run others top height)
+      live_written p q size fragments here none_refused others top height (λ cells. ReadBack p cells (nesting run)) (written_read p q size (plain_all fragments) here run others top height)
 
-  pub live-by-five-read : (others top : List ℕ) (height : ℕ) → LiveFivePass p q size fragments here others top height → ReadBack p (liveByFive p q size fragments here others top height) (nesting run)
+  pub live-by-five-read : (others top : List ℕ) (height : ℕ) → LiveFivePass p q size fragments here others top height → ReadBack p (live_by_five p q size fragments here others top height) (nesting run)
   live-by-five-read others top height =
-      live-written-by-five p q size fragments here none-refused others top height (λ cells. ReadBack p cells (nesting run)) (written-by-five-read p q size (plainAll fragments) here run others top height)
+      live-written-by-five p q size fragments here none_refused others top height (λ cells. ReadBack p cells (nesting run)) (written-by-five-read p q size (plain_all fragments) here run others top height)
 
 -- "Lent as zeros to a fresh tracer, with one profile and nobody else storing to it or the rows, the tally holds after every cycle, for the rows
 -- written so far in this fragment, exactly each successor address of a flagged END, with its number, in order of first appearance": after any
 -- calls, refused or not
-pub tally-told : (p : Profile) (fragment : FreshFragment) → TallyTells p (freshEnd p fragment)
+pub tally-told : (p : Profile) (fragment : FreshFragment) → TallyTells p (fresh_end p fragment)
 tally-told = tellings.tally-told
 
 -- "The fragments' tallies, with 1 more for each flagged END that ends a fragment and has its successor in the next, must add up to every count it
 -- sets": of pass 2 by itself, whatever fragments on fresh tracers with tallies of zeros, each with rows, whose decoder cells stand one after
 -- another in the buffer (pass 1 leaves them as they are)
-pub tallies-add-up : (p : Profile) (fragments : List FreshFragment) (buffer : List ℕ) → NoneEmpty (freshEnds p fragments) → HoldsDecoders buffer (rowsOfAll (freshEnds p fragments)) →
-    refusal2 p buffer (length (rowsOfAll (freshEnds p fragments))) ≡ 0 →
-    CountsSet p (overFragments p (freshEnds p fragments)) (length (rowsOfAll (freshEnds p fragments))) (onRows (length (rowsOfAll (freshEnds p fragments))) (multiplied p) buffer)
+pub tallies-add-up : (p : Profile) (fragments : List FreshFragment) (buffer : List ℕ) → NoneEmpty (fresh_ends p fragments) → HoldsDecoders buffer (rows_of_all (fresh_ends p fragments)) →
+    refusal2 p buffer (length (rows_of_all (fresh_ends p fragments))) ≡ 0 →
+    CountsSet p (over_fragments p (fresh_ends p fragments)) (length (rows_of_all (fresh_ends p fragments))) (on_rows (length (rows_of_all (fresh_ends p fragments))) (multiplied p) buffer)
 tallies-add-up = sums.tallies-add-up
 
 -- and of what is then written, where no call and no pass is refused. No proper run is asked for
-module _ (p : Profile) (q : Queues) (size : ℕ) (fragments : List LiveFragment) (here : Cursor) (zeros : LentAsZeros fragments) (none-refused : AllLiveAccepted p q fragments here) (one_size : OneSize size (plainAll fragments) (countsOf (liveFinals (liveEnds p q fragments here)))) where
+module _ (p : Profile) (q : Queues) (size : ℕ) (fragments : List LiveFragment) (here : Cursor) (zeros : LentAsZeros fragments) (none_refused : AllLiveAccepted p q fragments here) (one_size : OneSize size (plain_all fragments) (counts_of (live_finals (live_ends p q fragments here)))) where
   pub tallies-add-up-finished : (others top : List ℕ) (height : ℕ) → LiveFinisherPasses p q size fragments here others top height →
-      CountsSet p (overFragments p (liveEnds p q fragments here)) (sum_of (countsOf (liveFinals (liveEnds p q fragments here)))) (liveByFinisher p q size fragments here others top height)
-  tallies-add-up-finished others top height = sums.tallies-add-up-finished p q size fragments here zeros none-refused others top height one_size
+      CountsSet p (over_fragments p (live_ends p q fragments here)) (sum_of (counts_of (live_finals (live_ends p q fragments here)))) (live_by_finisher p q size fragments here others top height)
+  tallies-add-up-finished others top height = sums.tallies-add-up-finished p q size fragments here zeros none_refused others top height one_size
 
   pub tallies-add-up-five : (others top : List ℕ) (height : ℕ) → LiveFivePass p q size fragments here others top height →
-      CountsSet p (overFragments p (liveEnds p q fragments here)) (sum_of (countsOf (liveFinals (liveEnds p q fragments here)))) (liveByFive p q size fragments here others top height)
-  tallies-add-up-five others top height = sums.tallies-add-up-five p q size fragments here zeros none-refused others top height one_size
+      CountsSet p (over_fragments p (live_ends p q fragments here)) (sum_of (counts_of (live_finals (live_ends p q fragments here)))) (live_by_five p q size fragments here others top height)
+  tallies-add-up-five others top height = sums.tallies-add-up-five p q size fragments here zeros none_refused others top height one_size
 
 -- OVER REPLAY
 
 -- replays, none refused, are the calls of their records, none refused: the same counts, built cells and fragments, each fragment at the
 -- address state and positions that the one before answered
 pub replay-as-calls : (p : Profile) (f : Forest) (directory : List ℕ) (q : Queues) (lents : List Lent) (here : Cursor) → AllReplayed p f directory q lents here →
-    AllAccepted p q (fragmentsOf f directory lents) here
-    × (countsReplayed p f directory q lents here ≡ countsOf (finalStates p q (fragmentsOf f directory lents) here))
-    × (builtReplayed p f directory q lents here ≡ builtCells (finalStates p q (fragmentsOf f directory lents) here))
-    × (cellsReplayed p f directory q lents here ≡ cells_of p q (fragmentsOf f directory lents) here)
+    AllAccepted p q (fragments_of f directory lents) here
+    × (counts_replayed p f directory q lents here ≡ counts_of (final_states p q (fragments_of f directory lents) here))
+    × (built_replayed p f directory q lents here ≡ built_cells (final_states p q (fragments_of f directory lents) here))
+    × (cells_replayed p f directory q lents here ≡ cells_of p q (fragments_of f directory lents) here)
 replay-as-calls p f directory q lents here h = (
   replayed-accepted p f directory q lents here h,
   replayed-counts p f directory q lents here h,
@@ -203,26 +203,26 @@ replay-as-calls p f directory q lents here h = (
 
 -- what is finished over them is read as the nesting of the records
 module _ (p : Profile) (f : Forest) (directory : List ℕ) (q : Queues) (size : ℕ) (lents : List Lent) (here : Cursor) (run : ReplayedRuns p f directory q size lents here) where
-  pub replay-read : (others top : List ℕ) (height : ℕ) → ReplayFinishes p f directory q size lents here others top height → ReadBack p (finishedReplay p f directory q size lents here others top height) (recordsNesting p f directory q run)
+  pub replay-read : (others top : List ℕ) (height : ℕ) → ReplayFinishes p f directory q size lents here others top height → ReadBack p (finished_replay p f directory q size lents here others top height) (records_nesting p f directory q run)
   replay-read others top height e = read_back p _ _ (replay-finisher-trace p f directory q size lents here run others top height e)
 
-  pub replay-by-five-read : (others top : List ℕ) (height : ℕ) → ReplayFivePass p f directory q size lents here others top height → ReadBack p (fivePassedReplay p f directory q size lents here others top height) (recordsNesting p f directory q run)
+  pub replay-by-five-read : (others top : List ℕ) (height : ℕ) → ReplayFivePass p f directory q size lents here others top height → ReadBack p (five_passed_replay p f directory q size lents here others top height) (records_nesting p f directory q run)
   replay-by-five-read others top height e = read_back p _ _ (replay-five-trace p f directory q size lents here run others top height e)
 
   -- its program rows are the cycles of the records
-  pub replay-program-rows : programRows (recordsNesting p f directory q run) ≡ length (cyclesOf q (fragmentsOf f directory lents) here.at)
+  pub replay-program-rows : program_rows (records_nesting p f directory q run) ≡ length (cycles_of q (fragments_of f directory lents) here.at)
   unfolding run-of-records
-  replay-program-rows = runs.program-rows p q size (fragmentsOf f directory lents) here (run-of-records p f directory q size lents here run)
+  replay-program-rows = runs.program-rows p q size (fragments_of f directory lents) here (run-of-records p f directory q size lents here run)
 
   -- the nesting is taken from the records alone
-  pub replay-one-nesting : (run' : ReplayedRuns p f directory q size lents here) → recordsNesting p f directory q run ≡ recordsNesting p f directory q run'
+  pub replay-one-nesting : (run' : ReplayedRuns p f directory q size lents here) → records_nesting p f directory q run ≡ records_nesting p f directory q run'
   replay-one-nesting run' = one-tree-ran p 0 run.proper run'.proper
 
 -- WITHOUT SYSCALL
 
 -- N8: "the theorem about traces we write covers runs without it": where no call is refused, no cycle starts a SYSCALL node. No proper run is
 -- asked for
-pub no-syscall-started : (p : Profile) (q : Queues) (fragments : List Fragment) (here : Cursor) → AllAccepted p q fragments here → NoSyscallStarts (cyclesOf q fragments here.at)
+pub no-syscall-started : (p : Profile) (q : Queues) (fragments : List Fragment) (here : Cursor) → AllAccepted p q fragments here → NoSyscallStarts (cycles_of q fragments here.at)
 no-syscall-started = none-started
 
 -- so the nesting of a run has no SYSCALL Block, and "Starting such a node is no longer written": no row of what is written is a SYSCALL row
@@ -230,26 +230,26 @@ module _ (p : Profile) (q : Queues) (size : ℕ) (fragments : List Fragment) (he
   pub no-syscall-nested : WithoutSyscall (nesting run)
   no-syscall-nested = none-nested p q size fragments here run
 
-  pub no-syscall-written : (others top : List ℕ) (height : ℕ) → FinisherPasses p q size fragments here others top height → NoSyscallRows p (writtenByFinisher p q size fragments here others top height)
+  pub no-syscall-written : (others top : List ℕ) (height : ℕ) → FinisherPasses p q size fragments here others top height → NoSyscallRows p (written_by_finisher p q size fragments here others top height)
   no-syscall-written others top height e = none-in-rows p _ (nesting run) (finisher-trace p q size fragments here run others top height e) no-syscall-nested
 
-  pub no-syscall-written-by-five : (others top : List ℕ) (height : ℕ) → FivePass p q size fragments here others top height → NoSyscallRows p (writtenByFive p q size fragments here others top height)
+  pub no-syscall-written-by-five : (others top : List ℕ) (height : ℕ) → FivePass p q size fragments here others top height → NoSyscallRows p (written_by_five p q size fragments here others top height)
   no-syscall-written-by-five others top height e = none-in-rows p _ (nesting run) (five-trace p q size fragments here run others top height e) no-syscall-nested
 
 -- over replay
 pub replay-no-syscall-started : (p : Profile) (f : Forest) (directory : List ℕ) (q : Queues) (lents : List Lent) (here : Cursor) → AllReplayed p f directory q lents here →
-    NoSyscallStarts (cyclesOf q (fragmentsOf f directory lents) here.at)
-replay-no-syscall-started p f directory q lents here h = none-started p q (fragmentsOf f directory lents) here (replayed-accepted p f directory q lents here h)
+    NoSyscallStarts (cycles_of q (fragments_of f directory lents) here.at)
+replay-no-syscall-started p f directory q lents here h = none-started p q (fragments_of f directory lents) here (replayed-accepted p f directory q lents here h)
 
 module _ (p : Profile) (f : Forest) (directory : List ℕ) (q : Queues) (size : ℕ) (lents : List Lent) (here : Cursor) (run : ReplayedRuns p f directory q size lents here) where
-  pub replay-no-syscall-nested : WithoutSyscall (recordsNesting p f directory q run)
+  pub replay-no-syscall-nested : WithoutSyscall (records_nesting p f directory q run)
   unfolding run-of-records
-  replay-no-syscall-nested = none-nested p q size (fragmentsOf f directory lents) here (run-of-records p f directory q size lents here run)
+  replay-no-syscall-nested = none-nested p q size (fragments_of f directory lents) here (run-of-records p f directory q size lents here run)
 
-  pub replay-no-syscall-written : (others top : List ℕ) (height : ℕ) → ReplayFinishes p f directory q size lents here others top height → NoSyscallRows p (finishedReplay p f directory q size lents here others top height)
+  pub replay-no-syscall-written : (others top : List ℕ) (height : ℕ) → ReplayFinishes p f directory q size lents here others top height → NoSyscallRows p (finished_replay p f directory q size lents here others top height)
   replay-no-syscall-written others top height e = none-in-rows p _ _ (replay-finisher-trace p f directory q size lents here run others top height e) replay-no-syscall-nested
 
-  pub replay-no-syscall-written-by-five : (others top : List ℕ) (height : ℕ) → ReplayFivePass p f directory q size lents here others top height → NoSyscallRows p (fivePassedReplay p f directory q size lents here others top height)
+  pub replay-no-syscall-written-by-five : (others top : List ℕ) (height : ℕ) → ReplayFivePass p f directory q size lents here others top height → NoSyscallRows p (five_passed_replay p f directory q size lents here others top height)
   replay-no-syscall-written-by-five others top height e = none-in-rows p _ _ (replay-five-trace p f directory q size lents here run others top height e) replay-no-syscall-nested
 
 -- THE OVERFLOW RULE
@@ -257,34 +257,34 @@ module _ (p : Profile) (f : Forest) (directory : List ℕ) (q : Queues) (size : 
 -- N4: "A customer checked the overflow rule of the operand stack chapter on every row". Of all fragments on fresh tracers, full but for the last,
 -- with no call and no pass refused (no proper run is asked for), in each of the first height rows: helper × (b0 − 16) is 1 modulo p where b0 is
 -- above 16, and the helper is 0 where it is 16
-module _ (p : Profile) (q : Queues) (size : ℕ) (fragments : List Fragment) (here : Cursor) (none-refused : AllAccepted p q fragments here) (one_size : OneSize size fragments (countsOf (finalStates p q fragments here))) where
+module _ (p : Profile) (q : Queues) (size : ℕ) (fragments : List Fragment) (here : Cursor) (none_refused : AllAccepted p q fragments here) (one_size : OneSize size fragments (counts_of (final_states p q fragments here))) where
   -- after the finisher
   pub written-overflow : (others top : List ℕ) (height : ℕ) → FinisherPasses p q size fragments here others top height →
-      (i : ℕ) → i < height → OverflowRule (bufferRow i (writtenByFinisher p q size fragments here others top height))
-  written-overflow = finisher-overflow p q size fragments here none-refused one_size
+      (i : ℕ) → i < height → OverflowRule (buffer_row i (written_by_finisher p q size fragments here others top height))
+  written-overflow = finisher-overflow p q size fragments here none_refused one_size
 
   -- after the five calls, one after another
   pub written-by-five-overflow : (others top : List ℕ) (height : ℕ) → FivePass p q size fragments here others top height →
-      (i : ℕ) → i < height → OverflowRule (bufferRow i (writtenByFive p q size fragments here others top height))
-  written-by-five-overflow = five-overflow p q size fragments here none-refused one_size
+      (i : ℕ) → i < height → OverflowRule (buffer_row i (written_by_five p q size fragments here others top height))
+  written-by-five-overflow = five-overflow p q size fragments here none_refused one_size
 
   -- and no row is left out by it: b0 is 16 or more, and of 32 bits as the depths of the cycles are
   pub written-depths : AllDepths32 fragments → (others top : List ℕ) (height : ℕ) → FinisherPasses p q size fragments here others top height →
-      (i : ℕ) → i < height → DepthInRange (bufferRow i (writtenByFinisher p q size fragments here others top height))
-  written-depths depths others top height = finisher-depths p q size fragments here none-refused one_size others top height depths
+      (i : ℕ) → i < height → DepthInRange (buffer_row i (written_by_finisher p q size fragments here others top height))
+  written-depths depths others top height = finisher-depths p q size fragments here none_refused one_size others top height depths
 
   pub written-by-five-depths : AllDepths32 fragments → (others top : List ℕ) (height : ℕ) → FivePass p q size fragments here others top height →
-      (i : ℕ) → i < height → DepthInRange (bufferRow i (writtenByFive p q size fragments here others top height))
-  written-by-five-depths depths others top height = five-depths p q size fragments here none-refused one_size others top height depths
+      (i : ℕ) → i < height → DepthInRange (buffer_row i (written_by_five p q size fragments here others top height))
+  written-by-five-depths depths others top height = five-depths p q size fragments here none_refused one_size others top height depths
 
 -- over replay, where a record's depth is of 32 bits or refused
-module _ (p : Profile) (f : Forest) (directory : List ℕ) (q : Queues) (size : ℕ) (lents : List Lent) (here : Cursor) (replays : AllReplayed p f directory q lents here) (one_size : OneSize size (fragmentsOf f directory lents) (countsReplayed p f directory q lents here)) where
+module _ (p : Profile) (f : Forest) (directory : List ℕ) (q : Queues) (size : ℕ) (lents : List Lent) (here : Cursor) (replays : AllReplayed p f directory q lents here) (one_size : OneSize size (fragments_of f directory lents) (counts_replayed p f directory q lents here)) where
   pub replay-overflow : (others top : List ℕ) (height : ℕ) → ReplayFinishes p f directory q size lents here others top height →
-      (i : ℕ) → i < height → OverflowRule (bufferRow i (finishedReplay p f directory q size lents here others top height)) × DepthInRange (bufferRow i (finishedReplay p f directory q size lents here others top height))
+      (i : ℕ) → i < height → OverflowRule (buffer_row i (finished_replay p f directory q size lents here others top height)) × DepthInRange (buffer_row i (finished_replay p f directory q size lents here others top height))
   replay-overflow = replay-finisher-overflow p f directory q size lents here replays one_size
 
   pub replay-by-five-overflow : (others top : List ℕ) (height : ℕ) → ReplayFivePass p f directory q size lents here others top height →
-      (i : ℕ) → i < height → OverflowRule (bufferRow i (fivePassedReplay p f directory q size lents here others top height)) × DepthInRange (bufferRow i (fivePassedReplay p f directory q size lents here others top height))
+      (i : ℕ) → i < height → OverflowRule (buffer_row i (five_passed_replay p f directory q size lents here others top height)) × DepthInRange (buffer_row i (five_passed_replay p f directory q size lents here others top height))
   replay-by-five-overflow = replay-five-overflow p f directory q size lents here replays one_size
 
 -- ANY FRAGMENT SIZE
@@ -306,64 +306,64 @@ written-rows p q calls size fragments here cut top height cells = written-length
 
 -- a cycle that is the first call of its fragment is refused, so a cut before a cycle that reuses what is stored is outside; the smallest example
 -- is theory_runs/proofs/ExampleCuts
-pub reuse-refused : (p : Profile) (q : Queues) (here : Cursor) (fragment : Fragment) (i : Handed) → callRefusal p q (opened p q here fragment) (finish i) ≡ 23
+pub reuse-refused : (p : Profile) (q : Queues) (here : Cursor) (fragment : Fragment) (i : Handed) → call_refusal p q (opened p q here fragment) (finish i) ≡ 23
 reuse-refused = first-cycle-refused
 
 -- "one proper run": what the cycles did is the same in every cut of the calls where none is refused
-pub cycles-any-size : (p : Profile) (q : Queues) (fragments fragments' : List Fragment) (here : Cursor) → allCalls fragments ≡ allCalls fragments' →
-    AllAccepted p q fragments here → AllAccepted p q fragments' here → cyclesOf q fragments here.at ≡ cyclesOf q fragments' here.at
+pub cycles-any-size : (p : Profile) (q : Queues) (fragments fragments' : List Fragment) (here : Cursor) → all_calls fragments ≡ all_calls fragments' →
+    AllAccepted p q fragments here → AllAccepted p q fragments' here → cycles_of q fragments here.at ≡ cycles_of q fragments' here.at
 cycles-any-size = same-cycles
 
 -- so a run that meets demand 3's premises meets them in every such cut by a size, and its nesting is the same: either file is read back as that
 -- nesting
-pub proper-any-size : (p : Profile) (q : Queues) (size size' : ℕ) (fragments fragments' : List Fragment) (here : Cursor) (run : Runs p q size fragments here) → Cut p q (allCalls fragments) size' fragments' here →
+pub proper-any-size : (p : Profile) (q : Queues) (size size' : ℕ) (fragments fragments' : List Fragment) (here : Cursor) (run : Runs p q size fragments here) → Cut p q (all_calls fragments) size' fragments' here →
     (run' : Runs p q size' fragments' here) × (nesting run' ≡ nesting run)
 proper-any-size = runs-cut
 
 -- with tallies. "The 256-address tally is outside this comparison": nothing is said of what the tallies hold. Calls with tallies that are cut by a
 -- size are the calls without, cut by that size, and what is written of the ones is written of the others
 module _ (p : Profile) (q : Queues) (size : ℕ) (fragments : List LiveFragment) (here : Cursor) where
-  pub live-cut : (calls : List Call) → LiveCut p q calls size fragments here → Cut p q calls size (plainAll fragments) here
+  pub live-cut : (calls : List Call) → LiveCut p q calls size fragments here → Cut p q calls size (plain_all fragments) here
   live-cut = plain-cut p q size fragments here
 
   pub live-written-as : AllLiveAccepted p q fragments here → (top : List ℕ) (height : ℕ) (cells : List ℕ) →
-      LiveWrittenOf p q size fragments here top height cells → WrittenOf p q size (plainAll fragments) here top height cells
+      LiveWrittenOf p q size fragments here top height cells → WrittenOf p q size (plain_all fragments) here top height cells
   live-written-as = plain-written p q size fragments here
 
 module _ (p : Profile) (q : Queues) (calls : List Call) (size size' : ℕ) (fragments fragments' : List LiveFragment) (here : Cursor) (cut : LiveCut p q calls size fragments here) (cut' : LiveCut p q calls size' fragments' here) where
   pub live-any-size : (top : List ℕ) (height : ℕ) (cells cells' : List ℕ) → LiveWrittenOf p q size fragments here top height cells → LiveWrittenOf p q size' fragments' here top height cells' → cells ≡ cells'
   live-any-size top height cells cells' written written' =
-      any-size p q calls size size' (plainAll fragments) (plainAll fragments') here (live-cut p q size fragments here calls cut) (live-cut p q size' fragments' here calls cut') top height cells cells'
+      any-size p q calls size size' (plain_all fragments) (plain_all fragments') here (live-cut p q size fragments here calls cut) (live-cut p q size' fragments' here calls cut') top height cells cells'
       (live-written-as p q size fragments here cut.accepted top height cells written) (live-written-as p q size' fragments' here cut'.accepted top height cells' written')
 
-pub live-reuse-refused : (p : Profile) (q : Queues) (here : Cursor) (fragment : LiveFragment) (i : Handed) → liveRefusal p q (liveOpened p q here fragment) (finish i) ≡ 23
+pub live-reuse-refused : (p : Profile) (q : Queues) (here : Cursor) (fragment : LiveFragment) (i : Handed) → live_refusal p q (live_opened p q here fragment) (finish i) ≡ 23
 live-reuse-refused = live-first-cycle-refused
 
 -- over replay: the same records, cut in two ways. Records that are cut by a size are their calls, cut by that size
 module _ (p : Profile) (f : Forest) (directory : List ℕ) (q : Queues) (size : ℕ) (lents : List Lent) (here : Cursor) where
-  pub replay-cut : (numbers : List ℕ) → ReplayCut p f directory q numbers size lents here → Cut p q (recordedCalls f directory numbers) size (fragmentsOf f directory lents) here
+  pub replay-cut : (numbers : List ℕ) → ReplayCut p f directory q numbers size lents here → Cut p q (recorded_calls f directory numbers) size (fragments_of f directory lents) here
   replay-cut = records-cut p f directory q size lents here
 
   pub replay-written-as : AllReplayed p f directory q lents here → (top : List ℕ) (height : ℕ) (cells : List ℕ) →
-      ReplayWrittenOf p f directory q size lents here top height cells → WrittenOf p q size (fragmentsOf f directory lents) here top height cells
+      ReplayWrittenOf p f directory q size lents here top height cells → WrittenOf p q size (fragments_of f directory lents) here top height cells
   replay-written-as = records-written p f directory q size lents here
 
 module _ (p : Profile) (f : Forest) (directory : List ℕ) (q : Queues) (numbers : List ℕ) (size size' : ℕ) (lents lents' : List Lent) (here : Cursor) (cut : ReplayCut p f directory q numbers size lents here) (cut' : ReplayCut p f directory q numbers size' lents' here) where
   pub replay-any-size : (top : List ℕ) (height : ℕ) (cells cells' : List ℕ) → ReplayWrittenOf p f directory q size lents here top height cells → ReplayWrittenOf p f directory q size' lents' here top height cells' → cells ≡ cells'
   replay-any-size top height cells cells' written written' =
-      any-size p q (recordedCalls f directory numbers) size size' (fragmentsOf f directory lents) (fragmentsOf f directory lents') here
+      any-size p q (recorded_calls f directory numbers) size size' (fragments_of f directory lents) (fragments_of f directory lents') here
       (replay-cut p f directory q size lents here numbers cut) (replay-cut p f directory q size' lents' here numbers cut') top height cells cells'
       (replay-written-as p f directory q size lents here cut.replays top height cells written) (replay-written-as p f directory q size' lents' here cut'.replays top height cells' written')
 
 pub replay-proper-any-size : (p : Profile) (f : Forest) (directory : List ℕ) (q : Queues) (size size' : ℕ) (lents lents' : List Lent) (here : Cursor) (run : ReplayedRuns p f directory q size lents here) →
-    ReplayCut p f directory q (allNumbers lents) size' lents' here →
-    (run' : ReplayedRuns p f directory q size' lents' here) × (recordsNesting p f directory q run' ≡ recordsNesting p f directory q run)
+    ReplayCut p f directory q (all_numbers lents) size' lents' here →
+    (run' : ReplayedRuns p f directory q size' lents' here) × (records_nesting p f directory q run' ≡ records_nesting p f directory q run)
 replay-proper-any-size = replay-runs-cut
 
 -- the one with the other: calls with tallies, and the same calls as records
-module _ (p : Profile) (f : Forest) (directory : List ℕ) (q : Queues) (numbers : List ℕ) (size size' : ℕ) (fragments : List LiveFragment) (lents : List Lent) (here : Cursor) (cut : LiveCut p q (recordedCalls f directory numbers) size fragments here) (cut' : ReplayCut p f directory q numbers size' lents here) where
+module _ (p : Profile) (f : Forest) (directory : List ℕ) (q : Queues) (numbers : List ℕ) (size size' : ℕ) (fragments : List LiveFragment) (lents : List Lent) (here : Cursor) (cut : LiveCut p q (recorded_calls f directory numbers) size fragments here) (cut' : ReplayCut p f directory q numbers size' lents here) where
   pub live-replay-any-size : (top : List ℕ) (height : ℕ) (cells cells' : List ℕ) → LiveWrittenOf p q size fragments here top height cells → ReplayWrittenOf p f directory q size' lents here top height cells' → cells ≡ cells'
   live-replay-any-size top height cells cells' written written' =
-      any-size p q (recordedCalls f directory numbers) size size' (plainAll fragments) (fragmentsOf f directory lents) here
-      (live-cut p q size fragments here (recordedCalls f directory numbers) cut) (replay-cut p f directory q size' lents here numbers cut') top height cells cells'
+      any-size p q (recorded_calls f directory numbers) size size' (plain_all fragments) (fragments_of f directory lents) here
+      (live-cut p q size fragments here (recorded_calls f directory numbers) cut) (replay-cut p f directory q size' lents here numbers cut') top height cells cells'
       (live-written-as p q size fragments here cut.accepted top height cells written) (replay-written-as p f directory q size' lents here cut'.replays top height cells' written')

@@ -10,10 +10,10 @@ use Rattle.groups.specs.Answer.{Answer, accepted, refused, and_then, pick}
 use Rattle.groups.proofs.Answers.{held}
 use Rattle.rows.specs.records.Forests.{Forest}
 use Rattle.rows.specs.records.CallRecords as records
-use Rattle.rows.specs.records.CallRecords.{of32, storedInRecord, systemIn, stackIn, registersIn, stores, finishes, finishIn, call_in, recordAt}
+use Rattle.rows.specs.records.CallRecords.{of32, stored_in_record, system_in, stack_in, registers_in, stores, finishes, finish_in, call_in, record_at}
 use Rattle.theory_runs.specs.Calls.{Call, store, finish}
 use Rattle.theory_runs.specs.Overflow.{Is32, Depths32, AllDepths32}
-use Rattle.theory_read_back.specs.ReplayedRuns.{Lent, call_of, calls_of, fragmentsOf}
+use Rattle.theory_read_back.specs.ReplayedRuns.{Lent, call_of, calls_of, fragments_of}
 
 -- of a recorded cycle
 unfoldable DepthIs32 : Answer records.RecordedCall → Type 0
@@ -37,16 +37,16 @@ of32-is n x y e =
     let same : x ≡ y = cc in
     rw (← same) (ltb-true x 4294967296 t)
 
-finish-32 : (r : List ℕ) → DepthIs32 (finishIn r)
-unfolding finishIn stackIn DepthIs32
+finish-32 : (r : List ℕ) → DepthIs32 (finish_in r)
+unfolding finish_in stack_in DepthIs32
 finish-32 r =
-    then-32 (systemIn r) _ (λ system e.
+    then-32 (system_in r) _ (λ system e.
     then-32 (of32 23 (get_or r 24 0)) _ (λ depth narrow.
-    then-32 (registersIn r) _ (λ registers e'. of32-is 23 (get_or r 24 0) depth narrow)))
+    then-32 (registers_in r) _ (λ registers e'. of32-is 23 (get_or r 24 0) depth narrow)))
 
 call-32 : (r : List ℕ) → DepthIs32 (call_in r)
 unfolding call_in DepthIs32
-call-32 r = pick-32 (eqb (get_or r 0 0) 0) _ _ (then-32 (storedInRecord r) _ (λ values e. tt)) (finish-32 r)
+call-32 r = pick-32 (eqb (get_or r 0 0) 0) _ _ (then-32 (stored_in_record r) _ (λ values e. tt)) (finish-32 r)
 
 depths-app : (l m : List Call) → Depths32 l → Depths32 m → Depths32 (l ++ m)
 unfolding Depths32
@@ -65,9 +65,9 @@ module _ (f : Forest) (directory : List ℕ) where
   unfolding calls_of Depths32
   calls-depths numbers zero = tt
   calls-depths numbers (suc k) =
-      depths-app (calls_of f directory numbers k) (call_of f directory (call_in (recordAt numbers k))) (calls-depths numbers k) (call-depth (call_in (recordAt numbers k)) (call-32 (recordAt numbers k)))
+      depths-app (calls_of f directory numbers k) (call_of f directory (call_in (record_at numbers k))) (calls-depths numbers k) (call-depth (call_in (record_at numbers k)) (call-32 (record_at numbers k)))
 
-  pub recorded-depths : (lents : List Lent) → AllDepths32 (fragmentsOf f directory lents)
-  unfolding fragmentsOf AllDepths32
+  pub recorded-depths : (lents : List Lent) → AllDepths32 (fragments_of f directory lents)
+  unfolding fragments_of AllDepths32
   recorded-depths [] = tt
   recorded-depths (l ∷ lents) = (calls-depths l.numbers (length l.numbers / 32), recorded-depths lents)

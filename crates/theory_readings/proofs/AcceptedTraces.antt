@@ -9,14 +9,14 @@ use borrow.Author.Tests.{ltb-false, le-ltb}
 use lib.Dec.{ltb}
 use lib.ListN.{length, drop}
 use Rattle.rows.specs.declared.records.profile.Profile.{Profile}
-use Rattle.rows.specs.records.Profiles.{profileWrong}
-use Rattle.rows.specs.records.Buffers.{rows_of, bufferWrong}
+use Rattle.rows.specs.records.Profiles.{profile_wrong}
+use Rattle.rows.specs.records.Buffers.{rows_of, buffer_wrong}
 use Rattle.rows.proofs.passes.Checks.{none_first}
 use Rattle.rows.proofs.passes.RowLists.{length-rows}
 use Rattle.groups.specs.Answer.{first_of}
-use Rattle.theory_readings.specs.Tokens.{tokensOf}
-use Rattle.theory_readings.specs.Readings.{Block, depthList, bufferRefusal, all_rows, Trace}
-use Rattle.theory_readings.specs.Answers.{ReaderAnswer, accepted, readerRefusal, Right, badInput, no_word, tooDeep, wrongCell, trace, refusalOf, depthsAfter}
+use Rattle.theory_readings.specs.Tokens.{tokens_of}
+use Rattle.theory_readings.specs.Readings.{Block, depth_list, buffer_refusal, all_rows, Trace}
+use Rattle.theory_readings.specs.Answers.{ReaderAnswer, accepted, reader_refusal, Right, bad_input, no_word, too_deep, wrong_cell, trace, refusal_of, depths_after}
 use Rattle.theory_readings.specs.ways.Parser.{answer, levels}
 use Rattle.theory_readings.proofs.RightAnswer.{answer-right, right-computed}
 use Rattle.theory_readings.proofs.DepthsCounted.{depths-counted}
@@ -26,16 +26,16 @@ or-false true = refl
 or-false false = refl
 
 -- enough depth numbers refuse nothing
-pub enough-depths : (p : Profile) (cells : List ℕ) (depths : ℕ) → length cells / 49 ≤ depths → readerRefusal p cells depths ≡ bufferRefusal p cells
-unfolding readerRefusal bufferRefusal
-enough-depths p cells depths h = rw (le-ltb depths (length cells / 49) h, or-false (bufferWrong (length cells))) refl
+pub enough-depths : (p : Profile) (cells : List ℕ) (depths : ℕ) → length cells / 49 ≤ depths → reader_refusal p cells depths ≡ buffer_refusal p cells
+unfolding reader_refusal buffer_refusal
+enough-depths p cells depths h = rw (le-ltb depths (length cells / 49) h, or-false (buffer_wrong (length cells))) refl
 
 -- what is right does not depend on how many depth numbers are lent, where they are enough
-right-with : (p : Profile) (cells : List ℕ) (depths depths' : ℕ) (a : ReaderAnswer) → readerRefusal p cells depths' ≡ readerRefusal p cells depths → Right p cells depths a → Right p cells depths' a
-right-with p cells depths depths' a e (badInput number f) = badInput number (e ∙ f)
+right-with : (p : Profile) (cells : List ℕ) (depths depths' : ℕ) (a : ReaderAnswer) → reader_refusal p cells depths' ≡ reader_refusal p cells depths → Right p cells depths a → Right p cells depths' a
+right-with p cells depths depths' a e (bad_input number f) = bad_input number (e ∙ f)
 right-with p cells depths depths' a e (no_word n f w) = no_word n (e ∙ f) w
-right-with p cells depths depths' a e (tooDeep n f w) = tooDeep n (e ∙ f) w
-right-with p cells depths depths' a e (wrongCell b n f w g) = wrongCell b n (e ∙ f) w g
+right-with p cells depths depths' a e (too_deep n f w) = too_deep n (e ∙ f) w
+right-with p cells depths depths' a e (wrong_cell b n f w g) = wrong_cell b n (e ∙ f) w g
 right-with p cells depths depths' a e (trace b f r) = trace b (e ∙ f) r
 
 pub same-right : (p : Profile) (cells : List ℕ) (depths depths' : ℕ) (a : ReaderAnswer) → length cells / 49 ≤ depths → length cells / 49 ≤ depths' → Right p cells depths a → Right p cells depths' a
@@ -48,12 +48,12 @@ passes-11 true b e = absurd (omega arith)
 passes-11 false true e = absurd (omega arith)
 passes-11 false false e = (refl, refl)
 
-pub buffer-passes : (p : Profile) (cells : List ℕ) (depths : ℕ) → readerRefusal p cells depths ≡ 0 → (bufferRefusal p cells ≡ 0) × (length cells / 49 ≤ depths)
-unfolding readerRefusal bufferRefusal first_of
+pub buffer-passes : (p : Profile) (cells : List ℕ) (depths : ℕ) → reader_refusal p cells depths ≡ 0 → (buffer_refusal p cells ≡ 0) × (length cells / 49 ≤ depths)
+unfolding reader_refusal buffer_refusal first_of
 buffer-passes p cells depths e =
-    let wrong = bufferWrong (length cells) || ltb depths (length cells / 49) in
-    let (h, i) = none_first (profileWrong p) 1 ((wrong, 11) ∷ []) e in
-    let (j, k) = passes-11 (bufferWrong (length cells)) (ltb depths (length cells / 49)) i in
+    let wrong = buffer_wrong (length cells) || ltb depths (length cells / 49) in
+    let (h, i) = none_first (profile_wrong p) 1 ((wrong, 11) ∷ []) e in
+    let (j, k) = passes-11 (buffer_wrong (length cells)) (ltb depths (length cells / 49)) i in
     (rw h j, ltb-false depths (length cells / 49) k)
 
 pub accepted-trace : (p : Profile) (cells : List ℕ) (depths : ℕ) (b : Block) → Right p cells depths (accepted b) → Trace p cells b
@@ -61,7 +61,7 @@ unfolding Trace
 accepted-trace p cells depths b (trace c e r) = ((buffer-passes p cells depths e).0, r)
 
 -- and neither 2 nor 11 holds of it
-pub accepted-passes : (p : Profile) (cells : List ℕ) (depths : ℕ) (b : Block) → Right p cells depths (accepted b) → readerRefusal p cells depths ≡ 0
+pub accepted-passes : (p : Profile) (cells : List ℕ) (depths : ℕ) (b : Block) → Right p cells depths (accepted b) → reader_refusal p cells depths ≡ 0
 accepted-passes p cells depths b (trace c e r) = e
 
 pub trace-accepted : (p : Profile) (cells : List ℕ) (depths : ℕ) (b : Block) → length cells / 49 ≤ depths → Trace p cells b → Right p cells depths (accepted b)
@@ -76,16 +76,16 @@ accepts-traces p cells depths b h = (
 )
 
 -- "accepts a buffer, whatever cells it holds, exactly when it is a trace"
-pub number-accepted : (p : Profile) (cells : List ℕ) (depths : ℕ) (a : ReaderAnswer) → Right p cells depths a → refusalOf a ≡ 0 → (b : Block) × (a ≡ accepted b)
-unfolding refusalOf
-number-accepted p cells depths a (badInput number e) h = absurd (omega arith)
+pub number-accepted : (p : Profile) (cells : List ℕ) (depths : ℕ) (a : ReaderAnswer) → Right p cells depths a → refusal_of a ≡ 0 → (b : Block) × (a ≡ accepted b)
+unfolding refusal_of
+number-accepted p cells depths a (bad_input number e) h = absurd (omega arith)
 number-accepted p cells depths a (no_word n e w) h = absurd (omega arith)
-number-accepted p cells depths a (tooDeep n e w) h = absurd (omega arith)
-number-accepted p cells depths a (wrongCell b n e w f) h = absurd (omega arith)
+number-accepted p cells depths a (too_deep n e w) h = absurd (omega arith)
+number-accepted p cells depths a (wrong_cell b n e w f) h = absurd (omega arith)
 number-accepted p cells depths a (trace b e r) h = (b, refl)
 
-pub accepts-exactly : (p : Profile) (cells : List ℕ) (depths : ℕ) → length cells / 49 ≤ depths → (refusalOf (answer p cells depths) ≡ 0) ↔ ((b : Block) × Trace p cells b)
-unfolding refusalOf
+pub accepts-exactly : (p : Profile) (cells : List ℕ) (depths : ℕ) → length cells / 49 ≤ depths → (refusal_of (answer p cells depths) ≡ 0) ↔ ((b : Block) × Trace p cells b)
+unfolding refusal_of
 accepts-exactly p cells depths h = (
   λ e. let x = number-accepted p cells depths (answer p cells depths) (answer-right p cells depths) e in (x.0, (accepts-traces p cells depths x.0 h).0 x.1),
   λ t. rw ((accepts-traces p cells depths t.0 h).1 t.1) refl,
@@ -93,8 +93,8 @@ accepts-exactly p cells depths h = (
 
 -- and the depths left are those of the reading, one a row
 pub accepted-depths : (p : Profile) (cells depths : List ℕ) (b : Block) → Trace p cells b →
-    depthsAfter (length cells / 49) (accepted b) depths ≡ levels 0 (tokensOf p (all_rows cells)) ++ drop (length cells / 49) depths
-unfolding Trace depthsAfter all_rows
+    depths_after (length cells / 49) (accepted b) depths ≡ levels 0 (tokens_of p (all_rows cells)) ++ drop (length cells / 49) depths
+unfolding Trace depths_after all_rows
 accepted-depths p cells depths b t =
     ap (λ y. y ++ drop (length cells / 49) depths)
-    (ap (λ n. depthList n b) (sym (length-rows (length cells / 49) cells)) ∙ depths-counted p (rows_of (length cells / 49) cells) b t.1)
+    (ap (λ n. depth_list n b) (sym (length-rows (length cells / 49) cells)) ∙ depths-counted p (rows_of (length cells / 49) cells) b t.1)

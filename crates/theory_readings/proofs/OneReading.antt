@@ -4,7 +4,7 @@ use mathlib.Core.List.{List, []}
 use Prim.Native.Nat.{ℕ, max}
 use native.Mathlib.Omega.{arith}
 use Rattle.rows.specs.declared.records.profile.Profile.{Profile}
-use Rattle.theory_readings.specs.Tokens.{Token, tokensOf}
+use Rattle.theory_readings.specs.Tokens.{Token, tokens_of}
 use Rattle.theory_readings.specs.Readings.{Block, Row, spell, WordOf, depth_of, Reading, all_rows, Trace}
 use Rattle.theory_readings.specs.ways.Parser.{need, live, done, parse}
 use Rattle.theory_readings.proofs.Parses.{parse-done}
@@ -23,6 +23,6 @@ unfolding WordOf
 one_word w b b' x y = (one-tree b b' x.0 y.0 (sym x.1 ∙ y.1)).0
 
 -- a trace has exactly one reading
-pub one-reading : (p : Profile) (cells : List ℕ) (b b' : Block) → Trace p cells b → Trace p cells b' → b ≡ b'
+pub one_reading : (p : Profile) (cells : List ℕ) (b b' : Block) → Trace p cells b → Trace p cells b' → b ≡ b'
 unfolding Trace Reading
-one-reading p cells b b' x y = one_word (tokensOf p (all_rows cells)) b b' x.1.0 y.1.0
+one_reading p cells b b' x y = one_word (tokens_of p (all_rows cells)) b b' x.1.0 y.1.0

@@ -7,32 +7,32 @@ use native.Mathlib.Omega.{arith}
 use native.Mathlib.Decide.{dec_lt}
 use lib.ListN.{length, length-append}
 use Rattle.theory_readings.specs.Tokens.{Kind, Token, start, repeat, end, halt, nothing}
-use Rattle.theory_readings.specs.Readings.{Ops, Block, Passes, Row, spellOps, spell, spellPasses, OnlyHalts, Halts, WordOf, depth_of, depthOfPasses}
-use Rattle.theory_readings.specs.Answers.{Begins, openAfter, Within64, Stuck, NoWordAt, TooDeepAt, WordWithin}
-use Rattle.theory_readings.specs.ways.Parser.{need, live, parse, WordAnswer, word_of, noWordAt, tooDeepAt, ifHalt, afterHalt, after_block, wordAnswer, readWord}
+use Rattle.theory_readings.specs.Readings.{Ops, Block, Passes, Row, spell_ops, spell, spell_passes, OnlyHalts, Halts, WordOf, depth_of, depth_of_passes}
+use Rattle.theory_readings.specs.Answers.{Begins, open_after, Within64, Stuck, NoWordAt, TooDeepAt, WordWithin}
+use Rattle.theory_readings.specs.ways.Parser.{need, live, parse, WordAnswer, word_of, no_word_at, too_deep_at, if_halt, after_halt, after_block, word_answer, read_word}
 use Rattle.theory_readings.proofs.Parses.{parse-done}
-use Rattle.theory_readings.proofs.WordAnswers.{Says, halts-only, readWord-says}
+use Rattle.theory_readings.proofs.WordAnswers.{Says, halts-only, read_word-says}
 use Rattle.theory_readings.proofs.SpelledRows.{tokens, tokens-numbered}
 
 -- a whole word is answered by its tree
-after-halt-whole : (b : Block) (h : List Row) → OnlyHalts h → afterHalt b h ≡ word_of b
-unfolding afterHalt OnlyHalts ifHalt
+after-halt-whole : (b : Block) (h : List Row) → OnlyHalts h → after_halt b h ≡ word_of b
+unfolding after_halt OnlyHalts if_halt
 after-halt-whole b [] f = refl
 after-halt-whole b (x ∷ h) f = rw f.0 (after-halt-whole b h f.1)
 
 after-block-whole : (b : Block) (e : ℕ) (h : List Row) → Halts h → after_block b e h ≡ word_of b
-unfolding after_block Halts ifHalt
+unfolding after_block Halts if_halt
 after-block-whole b e [] f = absurd f
 after-block-whole b e (x ∷ h) f = rw f.0 (after-halt-whole b h f.1)
 
-pub readWord-whole : (w : List Token) (b : Block) → WordWithin w b → readWord w ≡ word_of b
-unfolding readWord WordWithin WordOf wordAnswer
-readWord-whole w b ((h, e, f), d) =
-    ap (λ r. wordAnswer (length w) (parse r (live (need 64 [])))) e ∙ ap (wordAnswer (length w)) (parse-done b 64 h d) ∙ after-block-whole b (length w) h f
+pub read_word-whole : (w : List Token) (b : Block) → WordWithin w b → read_word w ≡ word_of b
+unfolding read_word WordWithin WordOf word_answer
+read_word-whole w b ((h, e, f), d) =
+    ap (λ r. word_answer (length w) (parse r (live (need 64 [])))) e ∙ ap (word_answer (length w)) (parse-done b 64 h d) ∙ after-block-whole b (length w) h f
 
 -- the rows of a tree at most 64 deep start no block 65 deep
-within-ops : (o : Ops) (c : ℕ) (r : List Row) → Within64 c (tokens r) → Within64 (suc c) (tokens (spellOps o r))
-unfolding Within64 tokens spellOps
+within-ops : (o : Ops) (c : ℕ) (r : List Row) → Within64 c (tokens r) → Within64 (suc c) (tokens (spell_ops o r))
+unfolding Within64 tokens spell_ops
 within-ops (Ops.ended e) c r h = h
 within-ops (Ops.op n k o) c r h = within-ops o c r h
 within-ops (Ops.respan n o) c r h = within-ops o c r h
@@ -46,7 +46,7 @@ mutual
   within_block (Block.one k n a e) c r d h = (omega arith, within_block a (suc c) _ (omega arith) h)
   within_block (Block.loop n p) c r d h = (omega arith, within-passes p c r (omega arith) h)
 
-  within-passes : (p : Passes) (c : ℕ) (r : List Row) → suc c + depthOfPasses p ≤ 64 → Within64 c (tokens r) → Within64 (suc c) (tokens (spellPasses p r))
+  within-passes : (p : Passes) (c : ℕ) (r : List Row) → suc c + depth_of_passes p ≤ 64 → Within64 c (tokens r) → Within64 (suc c) (tokens (spell_passes p r))
   within-passes (Passes.ended b e) c r d h = within_block b (suc c) _ (omega arith) h
   within-passes (Passes.repeated b m p) c r d h = within_block b (suc c) _ (omega arith) (within-passes p c r (omega arith) h)
 
@@ -87,8 +87,8 @@ unfolding Stuck WordWithin Begins
 stuck-no-word w p [] b e h x = h b (rw (e, append-nil p) at x.0)
 stuck-no-word w p (t ∷ q) b e h x = h (q, (b, rw append_assoc (rw e at x.0)))
 
-within-at : (p : List Token) (c : ℕ) (k : Kind) (r : List Token) → Within64 c (p ++ (start k ∷ r)) → openAfter c p < 64
-unfolding Within64 openAfter
+within-at : (p : List Token) (c : ℕ) (k : Kind) (r : List Token) → Within64 c (p ++ (start k ∷ r)) → open_after c p < 64
+unfolding Within64 open_after
 within-at [] c k r h = h.0
 within-at (start j ∷ p) c k r h = within-at p (suc c) k r h.1
 within-at (Token.op o ∷ p) c k r h = within-at p c k r h
@@ -99,19 +99,19 @@ within-at (halt ∷ p) c k r h = within-at p c k r h
 within-at (nothing ∷ p) c k r h = within-at p c k r h
 
 -- two right answers are one
-whole-noWord : (w : List Token) (b : Block) (n : ℕ) → Says w (word_of b) → Says w (noWordAt n) → ⊥
+whole-no_word : (w : List Token) (b : Block) (n : ℕ) → Says w (word_of b) → Says w (no_word_at n) → ⊥
 unfolding NoWordAt
-whole-noWord w b n x (p, q, e, f, g, s, h) = stuck-no-word w p q b e h x
+whole-no_word w b n x (p, q, e, f, g, s, h) = stuck-no-word w p q b e h x
 
-whole-tooDeep : (w : List Token) (b : Block) (n : ℕ) → Says w (word_of b) → Says w (tooDeepAt n) → ⊥
+whole-too_deep : (w : List Token) (b : Block) (n : ℕ) → Says w (word_of b) → Says w (too_deep_at n) → ⊥
 unfolding TooDeepAt
-whole-tooDeep w b n x (p, k, q, e, f, g, s, h) =
+whole-too_deep w b n x (p, k, q, e, f, g, s, h) =
     let y : Within64 0 (p ++ (start k ∷ q)) = rw e at (within_word w b x) in
     omega (arith, within-at p 0 k q y)
 
-noWord-tooDeep : (w : List Token) (m n : ℕ) → Says w (noWordAt m) → Says w (tooDeepAt n) → ⊥
+no_word-too_deep : (w : List Token) (m n : ℕ) → Says w (no_word_at m) → Says w (too_deep_at n) → ⊥
 unfolding NoWordAt TooDeepAt
-noWord-tooDeep w m n (p, q, e, f, g, s, h) (p', k, q', e', f', g', s', h') = elim (dec_lt n m) [
+no_word-too_deep w m n (p, q, e, f, g, s, h) (p', k, q', e', f', g', s', h') = elim (dec_lt n m) [
   | yes l ↦
       (let (t, c, d, i, j) = cut p' (start k ∷ q') p q (sym e' ∙ e) (omega arith) in
       let u : start k ≡ t = cc in
@@ -121,30 +121,30 @@ noWord-tooDeep w m n (p, q, e, f, g, s, h) (p', k, q', e', f', g', s', h') = eli
       stuck-longer p q (p' ++ (start k ∷ [])) q' (rw append_assoc (sym e ∙ e')) h (omega (arith, length-append p' (start k ∷ []))) g'
 ]
 
-noWord-noWord : (w : List Token) (m n : ℕ) → Says w (noWordAt m) → Says w (noWordAt n) → ¬ (m < n)
+no_word-no_word : (w : List Token) (m n : ℕ) → Says w (no_word_at m) → Says w (no_word_at n) → ¬ (m < n)
 unfolding NoWordAt
-noWord-noWord w m n (p, q, e, f, g, s, h) (p', q', e', f', g', s', h') l =
+no_word-no_word w m n (p, q, e, f, g, s, h) (p', q', e', f', g', s', h') l =
     stuck-longer p q p' q' (sym e ∙ e') h (omega arith) g'
 
-tooDeep-tooDeep : (w : List Token) (m n : ℕ) → Says w (tooDeepAt m) → Says w (tooDeepAt n) → ¬ (m < n)
+too_deep-too_deep : (w : List Token) (m n : ℕ) → Says w (too_deep_at m) → Says w (too_deep_at n) → ¬ (m < n)
 unfolding TooDeepAt
-tooDeep-tooDeep w m n (p, k, q, e, f, g, s, h) (p', k', q', e', f', g', s', h') l =
+too_deep-too_deep w m n (p, k, q, e, f, g, s, h) (p', k', q', e', f', g', s', h') l =
     let (t, c, d, i, j) = cut p (start k ∷ q) p' (start k' ∷ q') (sym e ∙ e') (omega arith) in
     let u : start k ≡ t = cc in
     let y : Within64 0 (p ++ (start k ∷ c)) = rw (j, ← u) at s' in
     omega (arith, within-at p 0 k c y)
 
 pub one-word-answer : (w : List Token) (o o' : WordAnswer) → Says w o → Says w o' → o ≡ o'
-one-word-answer w (word_of b) (word_of c) x y = sym (readWord-whole w b x) ∙ readWord-whole w c y
-one-word-answer w (word_of b) (noWordAt n) x y = absurd (whole-noWord w b n x y)
-one-word-answer w (word_of b) (tooDeepAt n) x y = absurd (whole-tooDeep w b n x y)
-one-word-answer w (noWordAt m) (word_of c) x y = absurd (whole-noWord w c m y x)
-one-word-answer w (noWordAt m) (noWordAt n) x y = ap noWordAt (omega (arith, noWord-noWord w m n x y, noWord-noWord w n m y x))
-one-word-answer w (noWordAt m) (tooDeepAt n) x y = absurd (noWord-tooDeep w m n x y)
-one-word-answer w (tooDeepAt m) (word_of c) x y = absurd (whole-tooDeep w c m y x)
-one-word-answer w (tooDeepAt m) (noWordAt n) x y = absurd (noWord-tooDeep w n m y x)
-one-word-answer w (tooDeepAt m) (tooDeepAt n) x y = ap tooDeepAt (omega (arith, tooDeep-tooDeep w m n x y, tooDeep-tooDeep w n m y x))
+one-word-answer w (word_of b) (word_of c) x y = sym (read_word-whole w b x) ∙ read_word-whole w c y
+one-word-answer w (word_of b) (no_word_at n) x y = absurd (whole-no_word w b n x y)
+one-word-answer w (word_of b) (too_deep_at n) x y = absurd (whole-too_deep w b n x y)
+one-word-answer w (no_word_at m) (word_of c) x y = absurd (whole-no_word w c m y x)
+one-word-answer w (no_word_at m) (no_word_at n) x y = ap no_word_at (omega (arith, no_word-no_word w m n x y, no_word-no_word w n m y x))
+one-word-answer w (no_word_at m) (too_deep_at n) x y = absurd (no_word-too_deep w m n x y)
+one-word-answer w (too_deep_at m) (word_of c) x y = absurd (whole-too_deep w c m y x)
+one-word-answer w (too_deep_at m) (no_word_at n) x y = absurd (no_word-too_deep w n m y x)
+one-word-answer w (too_deep_at m) (too_deep_at n) x y = ap too_deep_at (omega (arith, too_deep-too_deep w m n x y, too_deep-too_deep w n m y x))
 
 -- the machine answers exactly what is right
-pub readWord-exact : (w : List Token) (o : WordAnswer) → (readWord w ≡ o) ↔ Says w o
-readWord-exact w o = (λ e. rw e at (readWord-says w), λ h. one-word-answer w (readWord w) o (readWord-says w) h)
+pub read_word-exact : (w : List Token) (o : WordAnswer) → (read_word w ≡ o) ↔ Says w o
+read_word-exact w o = (λ e. rw e at (read_word-says w), λ h. one-word-answer w (read_word w) o (read_word-says w) h)

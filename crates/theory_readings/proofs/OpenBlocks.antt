@@ -5,8 +5,8 @@ use Prim.Native.Nat.{ℕ, zero, suc, pred, ◌+◌, ◌≤◌, ◌<◌}
 use native.Mathlib.Omega.{arith}
 use Rattle.theory_readings.specs.Tokens.{Kind, Token, start, repeat, end, halt, nothing}
 use Rattle.theory_readings.specs.Readings.{Ops, Block}
-use Rattle.theory_readings.specs.Answers.{openAfter, Within64}
-use Rattle.theory_readings.specs.ways.Parser.{Open, first, second, child, body, Full, both, only, ran, Live, need, inside, full, fails, deeper, State, live, whole, stop, give, opsWith, close, enter, opening, atRepeat, step}
+use Rattle.theory_readings.specs.Answers.{open_after, Within64}
+use Rattle.theory_readings.specs.ways.Parser.{Open, first, second, child, body, Full, both, only, ran, Live, need, inside, full, fails, deeper, State, live, whole, stop, give, ops_with, close, enter, opening, at_repeat, step}
 use Rattle.theory_readings.proofs.Soundness.{FitOpen, Fit, fit-step}
 use Rattle.theory_readings.proofs.Reached.{Reach, here, next}
 
@@ -63,11 +63,11 @@ moves-opening L (suc d) s m Kind.join = refl
 moves-opening L (suc d) s m Kind.loop = refl
 moves-opening L (suc d) s m (Kind.one k) = refl
 
-moves-atRepeat : (L d : ℕ) (s : List Open) (f : Full) (m : ℕ) → Moves L repeat d (atRepeat d s f m)
-unfolding atRepeat budget
-moves-atRepeat L d s (both n a b) m = tt
-moves-atRepeat L d s (only k n b) m = tt
-moves-atRepeat L d s (ran n t b) m = refl
+moves-at_repeat : (L d : ℕ) (s : List Open) (f : Full) (m : ℕ) → Moves L repeat d (at_repeat d s f m)
+unfolding at_repeat budget
+moves-at_repeat L d s (both n a b) m = tt
+moves-at_repeat L d s (only k n b) m = tt
+moves-at_repeat L d s (ran n t b) m = refl
 
 moves-step : (L : ℕ) (l : Live) (m : ℕ) (t : Token) → Fit L (live l) → Moves L t (budget l) (step l m t)
 unfolding step budget
@@ -82,13 +82,13 @@ moves-step L (inside d s n i) m (start k) h = tt
 moves-step L (inside d s n i) m (Token.op o) h = refl
 moves-step L (inside d s n i) m Token.respan h = refl
 moves-step L (inside d s n i) m repeat h = tt
-moves-step L (inside d s n i) m end h = moves-give L d s (Block.span n (opsWith i (Ops.ended m))) (fit-le L (suc d) s h)
+moves-step L (inside d s n i) m end h = moves-give L d s (Block.span n (ops_with i (Ops.ended m))) (fit-le L (suc d) s h)
 moves-step L (inside d s n i) m halt h = tt
 moves-step L (inside d s n i) m nothing h = tt
 moves-step L (full d s f) m (start k) h = tt
 moves-step L (full d s f) m (Token.op o) h = tt
 moves-step L (full d s f) m Token.respan h = tt
-moves-step L (full d s f) m repeat h = moves-atRepeat L d s f m
+moves-step L (full d s f) m repeat h = moves-at_repeat L d s f m
 moves-step L (full d s f) m end h = moves-give L d s (close f m) (fit-le L (suc d) s h.1)
 moves-step L (full d s f) m halt h = tt
 moves-step L (full d s f) m nothing h = tt
@@ -112,8 +112,8 @@ shift repeat l c d e h = (c, refl, omega arith)
 shift halt l c d e h = (c, refl, omega arith)
 shift nothing l c d e h = (c, refl, omega arith)
 
-counted : (t : Token) (p : List Token) (c c' n : ℕ) → Shift t c c' → Within64 c' p × (openAfter c' p + n ≡ 64) → Within64 c (t ∷ p) × (openAfter c (t ∷ p) + n ≡ 64)
-unfolding Within64 openAfter
+counted : (t : Token) (p : List Token) (c c' n : ℕ) → Shift t c c' → Within64 c' p × (open_after c' p + n ≡ 64) → Within64 c (t ∷ p) × (open_after c (t ∷ p) + n ≡ 64)
+unfolding Within64 open_after
 counted (start k) p c c' n s h = let y = rw s.1 at h in ((s.0, y.0), y.1)
 counted end p c c' n s h = rw s at h
 counted (Token.op o) p c c' n s h = rw s at h
@@ -122,8 +122,8 @@ counted repeat p c c' n s h = rw s at h
 counted halt p c c' n s h = rw s at h
 counted nothing p c c' n s h = rw s at h
 
-pub reach-count : {l l' : Live} {n m : ℕ} {p : List Token} → Reach l n p l' m → (c : ℕ) → Fit 64 (live l) → c + budget l ≡ 64 → Within64 c p × (openAfter c p + budget l' ≡ 64)
-unfolding Within64 openAfter
+pub reach-count : {l l' : Live} {n m : ℕ} {p : List Token} → Reach l n p l' m → (c : ℕ) → Fit 64 (live l) → c + budget l ≡ 64 → Within64 c p × (open_after c p + budget l' ≡ 64)
+unfolding Within64 open_after
 reach-count here c f e = (tt, e)
 reach-count (next {l = l} {k = k} {l' = l'} {n = n} {t = t} {p = p} e r) c f h =
     let x = shift t k c (budget l) h (rw e at (moves-step 64 l n t f)) in
@@ -158,11 +158,11 @@ unfolding opening enter
 stops-opening zero s m k = (refl, s, refl, (k, refl))
 stops-opening (suc d) s m k = tt
 
-stops-atRepeat : (l : Live) (d : ℕ) (s : List Open) (f : Full) (m : ℕ) → Stops l m repeat (atRepeat d s f m)
-unfolding atRepeat
-stops-atRepeat l d s (both n a b) m = refl
-stops-atRepeat l d s (only k n b) m = refl
-stops-atRepeat l d s (ran n t b) m = tt
+stops-at_repeat : (l : Live) (d : ℕ) (s : List Open) (f : Full) (m : ℕ) → Stops l m repeat (at_repeat d s f m)
+unfolding at_repeat
+stops-at_repeat l d s (both n a b) m = refl
+stops-at_repeat l d s (only k n b) m = refl
+stops-at_repeat l d s (ran n t b) m = tt
 
 pub stops : (l : Live) (m : ℕ) (t : Token) → Stops l m t (step l m t)
 unfolding step
@@ -177,13 +177,13 @@ stops (inside d s n i) m (start k) = refl
 stops (inside d s n i) m (Token.op o) = tt
 stops (inside d s n i) m Token.respan = tt
 stops (inside d s n i) m repeat = refl
-stops (inside d s n i) m end = stops-give (inside d s n i) m end (suc d) s (Block.span n (opsWith i (Ops.ended m))) tt
+stops (inside d s n i) m end = stops-give (inside d s n i) m end (suc d) s (Block.span n (ops_with i (Ops.ended m))) tt
 stops (inside d s n i) m halt = refl
 stops (inside d s n i) m nothing = refl
 stops (full d s f) m (start k) = refl
 stops (full d s f) m (Token.op o) = refl
 stops (full d s f) m Token.respan = refl
-stops (full d s f) m repeat = stops-atRepeat (full d s f) d s f m
+stops (full d s f) m repeat = stops-at_repeat (full d s f) d s f m
 stops (full d s f) m end = stops-give (full d s f) m end (suc d) s (close f m) tt
 stops (full d s f) m halt = refl
 stops (full d s f) m nothing = refl

@@ -4,12 +4,12 @@ use mathlib.Core.List.{List, []}
 use mathlib.Core.Option.{Option, none, some}
 use Prim.Native.Nat.{ℕ, zero, suc}
 use Rattle.rows.specs.declared.records.profile.Profile.{Profile}
-use Rattle.theory_readings.specs.Tokens.{Token, tokensOf}
+use Rattle.theory_readings.specs.Tokens.{Token, tokens_of}
 use Rattle.theory_readings.specs.Readings.{Block, WordOf, asks, Reading, all_rows}
-use Rattle.theory_readings.specs.Answers.{ReaderAnswer, readerRefusal, WordWithin, Right, badInput, no_word, tooDeep, wrongCell, trace}
-use Rattle.theory_readings.specs.ways.Parser.{WordAnswer, word_of, noWordAt, tooDeepAt, readWord, firstWrong, answerOfCells, answerOfWord, unlessBadInput, answer}
-use Rattle.theory_readings.proofs.WordAnswers.{Says, readWord-says}
-use Rattle.theory_readings.proofs.OneWordAnswer.{readWord-exact}
+use Rattle.theory_readings.specs.Answers.{ReaderAnswer, reader_refusal, WordWithin, Right, bad_input, no_word, too_deep, wrong_cell, trace}
+use Rattle.theory_readings.specs.ways.Parser.{WordAnswer, word_of, no_word_at, too_deep_at, read_word, first_wrong, answer_of_cells, answer_of_word, unless_bad_input, answer}
+use Rattle.theory_readings.proofs.WordAnswers.{Says, read_word-says}
+use Rattle.theory_readings.proofs.OneWordAnswer.{read_word-exact}
 use Rattle.theory_readings.proofs.AskOrder.{Ascending, block-asks}
 use Rattle.theory_readings.proofs.LowestRow.{Found, found, one_found}
 
@@ -23,46 +23,46 @@ module _ (p : Profile) (cells : List ℕ) (depths : ℕ) where
   rows = all_rows cells
 
   abbrev tokens : List Token
-  tokens = tokensOf p (all_rows cells)
+  tokens = tokens_of p (all_rows cells)
 
-  cells_right : (b : Block) (o : Option ℕ) → readerRefusal p cells depths ≡ 0 → WordWithin tokens b → Found rows (asks b) o → Right p cells depths (answerOfCells b o)
-  unfolding answerOfCells WordWithin Reading
+  cells_right : (b : Block) (o : Option ℕ) → reader_refusal p cells depths ≡ 0 → WordWithin tokens b → Found rows (asks b) o → Right p cells depths (answer_of_cells b o)
+  unfolding answer_of_cells WordWithin Reading
   cells_right b none e w f = trace b e (w.0, w.1, f)
-  cells_right b (some n) e w f = wrongCell b n e w f
+  cells_right b (some n) e w f = wrong_cell b n e w f
 
-  word-right : (o : WordAnswer) → readerRefusal p cells depths ≡ 0 → Says tokens o → Right p cells depths (answerOfWord rows o)
-  unfolding answerOfWord WordWithin
-  word-right (word_of b) e w = cells_right b (firstWrong rows (asks b)) e w (found rows (asks b) 0 (word-ascending tokens b w.0))
-  word-right (noWordAt n) e w = no_word n e w
-  word-right (tooDeepAt n) e w = tooDeep n e w
+  word-right : (o : WordAnswer) → reader_refusal p cells depths ≡ 0 → Says tokens o → Right p cells depths (answer_of_word rows o)
+  unfolding answer_of_word WordWithin
+  word-right (word_of b) e w = cells_right b (first_wrong rows (asks b)) e w (found rows (asks b) 0 (word-ascending tokens b w.0))
+  word-right (no_word_at n) e w = no_word n e w
+  word-right (too_deep_at n) e w = too_deep n e w
 
-  right_by : (number : ℕ) → readerRefusal p cells depths ≡ number → Right p cells depths (unlessBadInput number (answerOfWord rows (readWord tokens)))
-  unfolding unlessBadInput
-  right_by zero e = word-right (readWord tokens) e (readWord-says tokens)
-  right_by (suc number) e = badInput number e
+  right_by : (number : ℕ) → reader_refusal p cells depths ≡ number → Right p cells depths (unless_bad_input number (answer_of_word rows (read_word tokens)))
+  unfolding unless_bad_input
+  right_by zero e = word-right (read_word tokens) e (read_word-says tokens)
+  right_by (suc number) e = bad_input number e
 
   -- the computed answer is right
   pub answer-right : Right p cells depths (answer p cells depths)
   unfolding answer
-  answer-right = right_by (readerRefusal p cells depths) refl
+  answer-right = right_by (reader_refusal p cells depths) refl
 
-  of_word : (o : WordAnswer) → readerRefusal p cells depths ≡ 0 → Says tokens o → answer p cells depths ≡ answerOfWord rows o
-  unfolding answer unlessBadInput
-  of_word o e w = rw (e, (readWord-exact tokens o).1 w) refl
+  of_word : (o : WordAnswer) → reader_refusal p cells depths ≡ 0 → Says tokens o → answer p cells depths ≡ answer_of_word rows o
+  unfolding answer unless_bad_input
+  of_word o e w = rw (e, (read_word-exact tokens o).1 w) refl
 
-  of-cells : (b : Block) (o : Option ℕ) → readerRefusal p cells depths ≡ 0 → WordWithin tokens b → Found rows (asks b) o → answer p cells depths ≡ answerOfCells b o
-  unfolding answerOfWord WordWithin
+  of-cells : (b : Block) (o : Option ℕ) → reader_refusal p cells depths ≡ 0 → WordWithin tokens b → Found rows (asks b) o → answer p cells depths ≡ answer_of_cells b o
+  unfolding answer_of_word WordWithin
   of-cells b o e w f =
       of_word (word_of b) e w
-      ∙ ap (answerOfCells b) (one_found rows (asks b) (firstWrong rows (asks b)) o (found rows (asks b) 0 (word-ascending tokens b w.0)) f)
+      ∙ ap (answer_of_cells b) (one_found rows (asks b) (first_wrong rows (asks b)) o (found rows (asks b) 0 (word-ascending tokens b w.0)) f)
 
   -- what is right is the computed answer
   pub right-computed : (a : ReaderAnswer) → Right p cells depths a → answer p cells depths ≡ a
-  unfolding answer unlessBadInput answerOfWord answerOfCells WordWithin Reading
-  right-computed a (badInput number e) = rw e refl
-  right-computed a (no_word n e w) = of_word (noWordAt n) e w
-  right-computed a (tooDeep n e w) = of_word (tooDeepAt n) e w
-  right-computed a (wrongCell b n e w f) = of-cells b (some n) e w f
+  unfolding answer unless_bad_input answer_of_word answer_of_cells WordWithin Reading
+  right-computed a (bad_input number e) = rw e refl
+  right-computed a (no_word n e w) = of_word (no_word_at n) e w
+  right-computed a (too_deep n e w) = of_word (too_deep_at n) e w
+  right-computed a (wrong_cell b n e w f) = of-cells b (some n) e w f
   right-computed a (trace b e r) = of-cells b none e (r.0, r.1) r.2
 
   -- two right answers are one

@@ -4,9 +4,9 @@ use mathlib.Core.List.{List, [], ◌∷◌}
 use Prim.Native.Nat.{ℕ, zero, suc, ◌≤◌}
 use native.Mathlib.Omega.{arith}
 use Rattle.theory_readings.specs.Tokens.{Kind, Token, start, repeat, end, halt, nothing}
-use Rattle.theory_readings.specs.Readings.{Ops, Block, Passes, Row, spell, depth_of, depthOfPasses}
-use Rattle.theory_readings.specs.ways.Parser.{PassesRead, no_pass, pass, Open, first, second, child, body, Full, both, only, ran, Live, need, inside, full, State, live, whole, stop, give, passesWith, opsWith, close, enter, opening, atRepeat, step, done, parse}
-use Rattle.theory_readings.proofs.ReadSoFar.{beforeOpen, before, HasRead, step-read}
+use Rattle.theory_readings.specs.Readings.{Ops, Block, Passes, Row, spell, depth_of, depth_of_passes}
+use Rattle.theory_readings.specs.ways.Parser.{PassesRead, no_pass, pass, Open, first, second, child, body, Full, both, only, ran, Live, need, inside, full, State, live, whole, stop, give, passes_with, ops_with, close, enter, opening, at_repeat, step, done, parse}
+use Rattle.theory_readings.proofs.ReadSoFar.{before_open, before, HasRead, step-read}
 
 -- no part is deeper than its place allows, L being the root's
 abbrev pub FitPasses : ℕ → PassesRead → Type 0
@@ -40,16 +40,16 @@ fit-give L d (second n a ∷ s) b f h = ((f.0, h), f.1)
 fit-give L d (child k n ∷ s) b f h = (h, f)
 fit-give L d (body n t ∷ s) b f h = ((f.0, h), f.1)
 
-fit-passesWith : (d : ℕ) (t : PassesRead) (p : Passes) → FitPasses d t → depthOfPasses p ≤ d → depthOfPasses (passesWith t p) ≤ d
-unfolding passesWith depth_of
-fit-passesWith d no_pass p f h = h
-fit-passesWith d (pass t b m) p f h = fit-passesWith d t (Passes.repeated b m p) f.0 (omega arith)
+fit-passes_with : (d : ℕ) (t : PassesRead) (p : Passes) → FitPasses d t → depth_of_passes p ≤ d → depth_of_passes (passes_with t p) ≤ d
+unfolding passes_with depth_of
+fit-passes_with d no_pass p f h = h
+fit-passes_with d (pass t b m) p f h = fit-passes_with d t (Passes.repeated b m p) f.0 (omega arith)
 
 fit-close : (d : ℕ) (f : Full) (e : ℕ) → FitFull d f → depth_of (close f e) ≤ suc d
 unfolding close depth_of
 fit-close d (both n a b) e h = omega arith
 fit-close d (only k n b) e h = omega arith
-fit-close d (ran n t b) e h = omega (arith, fit-passesWith d t (Passes.ended b e) h.0 h.1)
+fit-close d (ran n t b) e h = omega (arith, fit-passes_with d t (Passes.ended b e) h.0 h.1)
 
 fit-opening : (L d : ℕ) (s : List Open) (m : ℕ) (k : Kind) → FitOpen L d s → Fit L (opening d s m k)
 unfolding opening enter
@@ -59,11 +59,11 @@ fit-opening L (suc d) s m Kind.join f = f
 fit-opening L (suc d) s m Kind.loop f = (tt, f)
 fit-opening L (suc d) s m (Kind.one k) f = f
 
-fit-atRepeat : (L d : ℕ) (s : List Open) (f : Full) (m : ℕ) → FitFull d f → FitOpen L (suc d) s → Fit L (atRepeat d s f m)
-unfolding atRepeat
-fit-atRepeat L d s (both n a b) m f g = tt
-fit-atRepeat L d s (only k n b) m f g = tt
-fit-atRepeat L d s (ran n t b) m f g = (f, g)
+fit-at_repeat : (L d : ℕ) (s : List Open) (f : Full) (m : ℕ) → FitFull d f → FitOpen L (suc d) s → Fit L (at_repeat d s f m)
+unfolding at_repeat
+fit-at_repeat L d s (both n a b) m f g = tt
+fit-at_repeat L d s (only k n b) m f g = tt
+fit-at_repeat L d s (ran n t b) m f g = (f, g)
 
 pub fit-step : (L : ℕ) (l : Live) (m : ℕ) (t : Token) → Fit L (live l) → Fit L (step l m t)
 unfolding step depth_of
@@ -78,13 +78,13 @@ fit-step L (inside d s n i) m (start k) f = tt
 fit-step L (inside d s n i) m (Token.op o) f = f
 fit-step L (inside d s n i) m Token.respan f = f
 fit-step L (inside d s n i) m repeat f = tt
-fit-step L (inside d s n i) m end f = fit-give L (suc d) s (Block.span n (opsWith i (Ops.ended m))) f (omega arith)
+fit-step L (inside d s n i) m end f = fit-give L (suc d) s (Block.span n (ops_with i (Ops.ended m))) f (omega arith)
 fit-step L (inside d s n i) m halt f = tt
 fit-step L (inside d s n i) m nothing f = tt
 fit-step L (full d s f) m (start k) h = tt
 fit-step L (full d s f) m (Token.op o) h = tt
 fit-step L (full d s f) m Token.respan h = tt
-fit-step L (full d s f) m repeat h = fit-atRepeat L d s f m h.0 h.1
+fit-step L (full d s f) m repeat h = fit-at_repeat L d s f m h.0 h.1
 fit-step L (full d s f) m end h = fit-give L (suc d) s (close f m) h.1 (fit-close d f m h.0)
 fit-step L (full d s f) m halt h = tt
 fit-step L (full d s f) m nothing h = tt
@@ -100,5 +100,5 @@ sound (y ∷ r) (whole c) L x b q f w e = let p : c ≡ b = cc in let u : q ≡ 
 sound (y ∷ r) (live l) L x b q f w e = sound r (step l y.0 y.1) L x b q (fit-step L l y.0 y.1 f) (rw (← w) (step-read l y.0 y.1 r)) e
 
 pub parse-sound : (d : ℕ) (r : List Row) (b : Block) (q : List Row) → parse r (live (need d [])) ≡ done b q → (r ≡ spell b q) × (depth_of b ≤ d)
-unfolding before beforeOpen
+unfolding before before_open
 parse-sound d r b q e = sound r (live (need d [])) d r b q refl refl e

@@ -7,9 +7,9 @@ use lib.ListN.{length, length-append}
 use Rattle.theory_readings.specs.Tokens.{Token, start, repeat, end, halt, nothing}
 use Rattle.theory_readings.specs.Readings.{Block, Row, numbered, spell, OnlyHalts, Halts, WordOf, depth_of}
 use Rattle.theory_readings.specs.Answers.{Begins, Within64, Stuck, NoWordAt, TooDeepAt, WordWithin}
-use Rattle.theory_readings.specs.ways.Parser.{Live, need, fails, deeper, live, whole, step, Parsed, done, failed, unfinished, parse, WordAnswer, word_of, noWordAt, tooDeepAt, ifHalt, afterHalt, after_block, wordAnswer, readWord}
+use Rattle.theory_readings.specs.ways.Parser.{Live, need, fails, deeper, live, whole, step, Parsed, done, failed, unfinished, parse, WordAnswer, word_of, no_word_at, too_deep_at, if_halt, after_halt, after_block, word_answer, read_word}
 use Rattle.theory_readings.proofs.OneReading.{one-tree}
-use Rattle.theory_readings.proofs.ReadSoFar.{beforeOpen, before, step-read}
+use Rattle.theory_readings.proofs.ReadSoFar.{before_open, before, step-read}
 use Rattle.theory_readings.proofs.Soundness.{parse-sound}
 use Rattle.theory_readings.proofs.Reached.{Reach, reach-read, reach-length, Ends, ends}
 use Rattle.theory_readings.proofs.WordsGoOn.{begins, not_yet, no_word, begins-deeper}
@@ -18,8 +18,8 @@ use Rattle.theory_readings.proofs.OpenBlocks.{budget, reach-count, NotStart, sto
 -- the answer is right for the word
 abbrev pub Says : List Token → WordAnswer → Type 0
 Says w (word_of b) = WordWithin w b
-Says w (noWordAt n) = NoWordAt w n
-Says w (tooDeepAt n) = TooDeepAt w n
+Says w (no_word_at n) = NoWordAt w n
+Says w (too_deep_at n) = TooDeepAt w n
 
 within-snoc : (p : List Token) (c : ℕ) (t : Token) → Within64 c p → NotStart t → Within64 c (p ++ (t ∷ []))
 unfolding Within64
@@ -87,7 +87,7 @@ NotHalt end = Unit {0}
 NotHalt nothing = Unit {0}
 
 -- a row behind the Block that is no HALT
-stuck-says : (u q : List Token) (b : Block) (g : List Row) (n : ℕ) (t : Token) → Behind u b g n → n ≡ length u → OnlyHalts g → Within64 0 u → ¬ (t ≡ halt) → Says (u ++ (t ∷ q)) (noWordAt n)
+stuck-says : (u q : List Token) (b : Block) (g : List Row) (n : ℕ) (t : Token) → Behind u b g n → n ≡ length u → OnlyHalts g → Within64 0 u → ¬ (t ≡ halt) → Says (u ++ (t ∷ q)) (no_word_at n)
 unfolding NoWordAt Stuck
 stuck-says u q b g n t h e f s no' = (u, t ∷ q, refl, e, behind-begins u b g n h f, s, behind-stuck u b g n t h no')
 
@@ -100,8 +100,8 @@ no-halt end h e = let z : ◌≡◌ {A = ℕ} 0 1 = cc in omega arith
 no-halt halt h e = absurd h
 no-halt nothing h e = let z : ◌≡◌ {A = ℕ} 0 1 = cc in omega arith
 
-after-halt-says : (q u : List Token) (b : Block) (g : List Row) (n : ℕ) → Behind u b g n → n ≡ length u → Halts g → Within64 0 u → depth_of b ≤ 64 → Says (u ++ q) (afterHalt b (numbered n q))
-unfolding NoWordAt WordWithin WordOf numbered afterHalt ifHalt
+after-halt-says : (q u : List Token) (b : Block) (g : List Row) (n : ℕ) → Behind u b g n → n ≡ length u → Halts g → Within64 0 u → depth_of b ≤ 64 → Says (u ++ q) (after_halt b (numbered n q))
+unfolding NoWordAt WordWithin WordOf numbered after_halt if_halt
 after-halt-says [] u b g n h e f s d = ((g, rw (append-nil g) at (h []), f), d)
 after-halt-says (halt ∷ q) u b g n h e f s d =
     rw append_assoc at (after-halt-says q (u ++ (halt ∷ [])) b (g ++ ((n, halt) ∷ [])) (suc n) (behind-snoc u b g n halt h) (omega (arith, length-append u (halt ∷ []))) (halts-snoc g n (halts-only g f)) (within-snoc u 0 halt s tt) d)
@@ -113,7 +113,7 @@ after-halt-says (end ∷ q) u b g n h e f s d = stuck-says u q b g n end h e (ha
 after-halt-says (nothing ∷ q) u b g n h e f s d = stuck-says u q b g n nothing h e (halts-only g f) s (no-halt nothing tt)
 
 after-block-says : (q u : List Token) (b : Block) (n : ℕ) → Behind u b [] n → n ≡ length u → Within64 0 u → depth_of b ≤ 64 → Says (u ++ q) (after_block b (length (u ++ q)) (numbered n q))
-unfolding NoWordAt WordWithin WordOf numbered after_block ifHalt Stuck Halts OnlyHalts
+unfolding NoWordAt WordWithin WordOf numbered after_block if_halt Stuck Halts OnlyHalts
 after-block-says [] u b n h e s d =
     rw append-nil (u, [], sym (append-nil u), refl, behind-begins u b [] n h tt, s, λ c x. rw (← (one-tree b c [] x.0 (sym (rw (append-nil u) at (h [])) ∙ x.1)).1) at x.2)
 after-block-says (halt ∷ q) u b n h e s d =
@@ -126,11 +126,11 @@ after-block-says (end ∷ q) u b n h e s d = stuck-says u q b [] n end h e tt s 
 after-block-says (nothing ∷ q) u b n h e s d = stuck-says u q b [] n nothing h e tt s (no-halt nothing tt)
 
 behind : (p : List Token) (t : Token) (l : Live) (m : ℕ) (b : Block) → Reach (need 64 []) 0 p l m → step l m t ≡ whole b → Behind (p ++ (t ∷ [])) b [] (suc m)
-unfolding numbered before beforeOpen
+unfolding numbered before before_open
 behind p t l m b r e z = rw append_assoc (reach-read r (t ∷ z) ∙ sym (rw e at (step-read l m t (numbered (suc m) z))))
 
-says-go : (w : List Token) (a : Parsed) → parse (numbered 0 w) (live (need 64 [])) ≡ a → Ends (need 64 []) 0 w a → Says w (wordAnswer (length w) a)
-unfolding NoWordAt TooDeepAt WordWithin wordAnswer Stuck budget
+says-go : (w : List Token) (a : Parsed) → parse (numbered 0 w) (live (need 64 [])) ≡ a → Ends (need 64 []) 0 w a → Says w (word_answer (length w) a)
+unfolding NoWordAt TooDeepAt WordWithin word_answer Stuck budget
 says-go w unfinished h (l, m, r) = (w, [], sym (append-nil w), refl, begins r, (reach-count r 0 refl refl).0, not_yet r)
 says-go w (failed (fails n)) h (p, t, q, l, m, e, r, f) =
     let k : n ≡ m = rw f at (stops l m t) in
@@ -146,6 +146,6 @@ says-go w (done b g) h (p, t, q, l, m, e, r, f, i) =
     let v : w ≡ (p ++ (t ∷ [])) ++ q = e ∙ sym (append_assoc p (t ∷ []) q) in
     rw (v, i) y
 
-pub readWord-says : (w : List Token) → Says w (readWord w)
-unfolding readWord
-readWord-says w = says-go w (parse (numbered 0 w) (live (need 64 []))) refl (ends w (need 64 []) 0)
+pub read_word-says : (w : List Token) → Says w (read_word w)
+unfolding read_word
+read_word-says w = says-go w (parse (numbered 0 w) (live (need 64 []))) refl (ends w (need 64 []) 0)

@@ -4,19 +4,19 @@ use mathlib.Core.List.{List, [], ◌∷◌, ◌++◌, append_assoc, append-nil}
 use Prim.Native.Nat.{ℕ, zero, suc, ◌≤◌}
 use native.Mathlib.Omega.{arith}
 use Rattle.theory_readings.specs.Tokens.{Kind, Token, start, repeat, end, halt, nothing}
-use Rattle.theory_readings.specs.Readings.{Ops, Block, Passes, Row, numbered, spellOps, spell, OnlyHalts, Halts, WordOf, depth_of}
+use Rattle.theory_readings.specs.Readings.{Ops, Block, Passes, Row, numbered, spell_ops, spell, OnlyHalts, Halts, WordOf, depth_of}
 use Rattle.theory_readings.specs.Answers.{Begins}
-use Rattle.theory_readings.specs.ways.Parser.{Open, first, second, child, body, Full, both, only, ran, Live, need, inside, full, fails, deeper, State, live, whole, stop, give, passesWith, opsWith, close, enter, opening, atRepeat, step, done, failed, unfinished, parse}
+use Rattle.theory_readings.specs.ways.Parser.{Open, first, second, child, body, Full, both, only, ran, Live, need, inside, full, fails, deeper, State, live, whole, stop, give, passes_with, ops_with, close, enter, opening, at_repeat, step, done, failed, unfinished, parse}
 use Rattle.theory_readings.proofs.Parses.{parse-stop, parse-done}
-use Rattle.theory_readings.proofs.ReadSoFar.{beforeOps, beforeOpen, beforeFull, before, spell-passesWith, spell-opsWith, spell-close}
+use Rattle.theory_readings.proofs.ReadSoFar.{before_ops, before_open, before_full, before, spell-passes_with, spell-ops_with, spell-close}
 use Rattle.theory_readings.proofs.Reached.{Reach, here, next, reach-read, reach-parse}
 
 -- every state goes on to some word
 abbrev Closes : List Row → Type 0
 Closes x = (b : Block) × (h : List Row) × (x ≡ spell b h) × Halts h
 
-closes-give : (s : List Open) (b : Block) (m : ℕ) → (z : List Token) × Closes (beforeOpen s (spell b (numbered m z)))
-unfolding beforeOpen numbered spell spellOps Halts OnlyHalts
+closes-give : (s : List Open) (b : Block) (m : ℕ) → (z : List Token) × Closes (before_open s (spell b (numbered m z)))
+unfolding before_open numbered spell spell_ops Halts OnlyHalts
 closes-give [] b m = (halt ∷ [], (b, (m, halt) ∷ [], refl, (refl, tt)))
 closes-give (first n ∷ s) b m =
     let x = closes-give s (Block.join n b (Block.span m (Ops.ended (suc m))) (suc (suc m))) (suc (suc (suc m))) in
@@ -26,20 +26,20 @@ closes-give (second n a ∷ s) b m =
 closes-give (child k n ∷ s) b m =
     let x = closes-give s (Block.one k n b m) (suc m) in (end ∷ x.0, x.1)
 closes-give (body n t ∷ s) b m =
-    let x = closes-give s (Block.loop n (passesWith t (Passes.ended b m))) (suc m) in (end ∷ x.0, rw (spell-passesWith t (Passes.ended b m) (numbered (suc m) x.0)) at x.1)
+    let x = closes-give s (Block.loop n (passes_with t (Passes.ended b m))) (suc m) in (end ∷ x.0, rw (spell-passes_with t (Passes.ended b m) (numbered (suc m) x.0)) at x.1)
 
 closes : (l : Live) (m : ℕ) → (z : List Token) × Closes (before l (numbered m z))
-unfolding before beforeOpen numbered spell spellOps beforeOps beforeFull
+unfolding before before_open numbered spell spell_ops before_ops before_full
 closes (need d s) m = let x = closes-give s (Block.span m (Ops.ended (suc m))) (suc (suc m)) in (start Kind.span ∷ end ∷ x.0, x.1)
 closes (inside d s n i) m =
-    let x = closes-give s (Block.span n (opsWith i (Ops.ended m))) (suc m) in
-    (end ∷ x.0, rw (spell-opsWith i (Ops.ended m) (numbered (suc m) x.0)) at x.1)
+    let x = closes-give s (Block.span n (ops_with i (Ops.ended m))) (suc m) in
+    (end ∷ x.0, rw (spell-ops_with i (Ops.ended m) (numbered (suc m) x.0)) at x.1)
 closes (full d s f) m =
     let x = closes-give s (close f m) (suc m) in
     (end ∷ x.0, rw (spell-close f m (numbered (suc m) x.0)) at x.1)
 
 pub begins : {l : Live} {m d : ℕ} {p : List Token} → Reach (need d []) 0 p l m → Begins p
-unfolding Begins WordOf before beforeOpen
+unfolding Begins WordOf before before_open
 begins {l} {m} {d} {p} r =
     let x = closes l m in
     (x.0, (x.1.0, (x.1.1, reach-read r x.0 ∙ x.1.2, x.1.3)))
@@ -72,11 +72,11 @@ up-opening (suc d) s m Kind.join = refl
 up-opening (suc d) s m Kind.loop = refl
 up-opening (suc d) s m (Kind.one k) = refl
 
-up-atRepeat : (d : ℕ) (s : List Open) (f : Full) (m : ℕ) → Up (atRepeat d s f m) (atRepeat (suc d) s f m)
-unfolding atRepeat up
-up-atRepeat d s (both n a b) m = refl
-up-atRepeat d s (only k n b) m = refl
-up-atRepeat d s (ran n t b) m = refl
+up-at_repeat : (d : ℕ) (s : List Open) (f : Full) (m : ℕ) → Up (at_repeat d s f m) (at_repeat (suc d) s f m)
+unfolding at_repeat up
+up-at_repeat d s (both n a b) m = refl
+up-at_repeat d s (only k n b) m = refl
+up-at_repeat d s (ran n t b) m = refl
 
 up_step : (l : Live) (m : ℕ) (t : Token) → Up (step l m t) (step (up l) m t)
 unfolding step up
@@ -91,13 +91,13 @@ up_step (inside d s n i) m (start k) = refl
 up_step (inside d s n i) m (Token.op o) = refl
 up_step (inside d s n i) m Token.respan = refl
 up_step (inside d s n i) m repeat = refl
-up_step (inside d s n i) m end = up-give (suc d) s (Block.span n (opsWith i (Ops.ended m)))
+up_step (inside d s n i) m end = up-give (suc d) s (Block.span n (ops_with i (Ops.ended m)))
 up_step (inside d s n i) m halt = refl
 up_step (inside d s n i) m nothing = refl
 up_step (full d s f) m (start k) = refl
 up_step (full d s f) m (Token.op o) = refl
 up_step (full d s f) m Token.respan = refl
-up_step (full d s f) m repeat = up-atRepeat d s f m
+up_step (full d s f) m repeat = up-at_repeat d s f m
 up_step (full d s f) m end = up-give (suc d) s (close f m)
 up_step (full d s f) m halt = refl
 up_step (full d s f) m nothing = refl

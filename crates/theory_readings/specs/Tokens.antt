@@ -2,9 +2,9 @@
 use Rattle.std.specs.Prelude.{Bool, true, not, ◌&&◌, List, [], ◌∷◌, map, ℕ, ltb, eqb, take, drop}
 use Rattle.field.specs.Cells.{cell_at, reduced}
 use Rattle.groups.specs.Answer.{pick}
-use Rattle.groups.specs.Constants.{opBitsColumn, inSpanColumn, countColumn}
+use Rattle.groups.specs.Constants.{op_bits_column, in_span_column, count_column}
 use Rattle.rows.specs.declared.records.profile.Profile.{Profile}
-use Rattle.rows.specs.records.Profiles.{isOneOf}
+use Rattle.rows.specs.records.Profiles.{is_one_of}
 use Rattle.rows.specs.records.Buffers.{opcode_of}
 
 -- "SPLIT, CALL, SYSCALL, DYN or DYNCALL, then Block END": the kinds of one child
@@ -23,15 +23,15 @@ pub data Token : Type 0 where
   respan repeat end halt nothing : Token
 
 -- the opcode that a profile gives a kind
-unfoldable pub opcodeOfKind : Profile → Kind → ℕ
-opcodeOfKind p Kind.span = p.span
-opcodeOfKind p Kind.join = p.join
-opcodeOfKind p Kind.loop = p.loop_op
-opcodeOfKind p (Kind.one split) = p.split
-opcodeOfKind p (Kind.one call) = p.call
-opcodeOfKind p (Kind.one syscall) = p.syscall
-opcodeOfKind p (Kind.one dyn) = p.dyn_op
-opcodeOfKind p (Kind.one dyncall) = p.dyncall
+unfoldable pub opcode_of_kind : Profile → Kind → ℕ
+opcode_of_kind p Kind.span = p.span
+opcode_of_kind p Kind.join = p.join
+opcode_of_kind p Kind.loop = p.loop_op
+opcode_of_kind p (Kind.one split) = p.split
+opcode_of_kind p (Kind.one call) = p.call
+opcode_of_kind p (Kind.one syscall) = p.syscall
+opcode_of_kind p (Kind.one dyn) = p.dyn_op
+opcode_of_kind p (Kind.one dyncall) = p.dyncall
 
 -- the control rows by their opcodes: all of the profile's other than PUSH
 unfoldable pub controls : Profile → List (ℕ × Token)
@@ -51,46 +51,46 @@ controls p =
     ∷ []
 
 -- the token that stands beside an opcode, `other` where there is none
-unfoldable pub tokenBeside : (opcode : ℕ) → List (ℕ × Token) → (other : Token) → Token
-tokenBeside opcode [] other = other
-tokenBeside opcode (x ∷ l) other = pick (eqb opcode x.0) x.1 (tokenBeside opcode l other)
+unfoldable pub token_beside : (opcode : ℕ) → List (ℕ × Token) → (other : Token) → Token
+token_beside opcode [] other = other
+token_beside opcode (x ∷ l) other = pick (eqb opcode x.0) x.1 (token_beside opcode l other)
 
 -- "control rows have in_span 0"
-unfoldable pub controlToken : Profile → (opcode : ℕ) → Token
-controlToken p opcode = tokenBeside opcode (controls p) nothing
+unfoldable pub control_token : Profile → (opcode : ℕ) → Token
+control_token p opcode = token_beside opcode (controls p) nothing
 
 -- the profile's opcodes other than PUSH
-unfoldable pub controlOpcodes : Profile → List ℕ
-controlOpcodes p = map (λ (x : ℕ × Token). x.0) (controls p)
+unfoldable pub control_opcodes : Profile → List ℕ
+control_opcodes p = map (λ (x : ℕ × Token). x.0) (controls p)
 
 -- "An op is a row with in_span 1 whose opcode is none of the profile's other than PUSH"
-unfoldable pub isOpOpcode : Profile → (opcode : ℕ) → Bool
-isOpOpcode p opcode = not (isOneOf opcode (controlOpcodes p))
+unfoldable pub is_op_opcode : Profile → (opcode : ℕ) → Bool
+is_op_opcode p opcode = not (is_one_of opcode (control_opcodes p))
 
-unfoldable pub opToken : Profile → (opcode : ℕ) → Token
-opToken p opcode = pick (isOpOpcode p opcode) (op opcode) nothing
+unfoldable pub op_token : Profile → (opcode : ℕ) → Token
+op_token p opcode = pick (is_op_opcode p opcode) (op opcode) nothing
 
 -- cells of a row by their places: "in_span, group_count" behind "h0 to h7"; the seven op bits behind addr. "the reading of a trace is that of
 -- its reduced cells" (N2)
-abbrev pub inSpanOf : List ℕ → ℕ
-inSpanOf row = cell_at row inSpanColumn
+abbrev pub in_span_of : List ℕ → ℕ
+in_span_of row = cell_at row in_span_column
 
 abbrev pub count_of : List ℕ → ℕ
-count_of row = cell_at row countColumn
+count_of row = cell_at row count_column
 
-abbrev pub opBitsOf : List ℕ → List ℕ
-opBitsOf row = reduced (take 7 (drop opBitsColumn row))
+abbrev pub op_bits_of : List ℕ → List ℕ
+op_bits_of row = reduced (take 7 (drop op_bits_column row))
 
 -- "Other in_span or op-bit cells than 0 and 1 fit nothing."
-unfoldable pub allBits : List ℕ → Bool
-allBits [] = true
-allBits (bit ∷ bits) = ltb bit 2 && allBits bits
+unfoldable pub all_bits : List ℕ → Bool
+all_bits [] = true
+all_bits (bit ∷ bits) = ltb bit 2 && all_bits bits
 
 -- what a row is to a profile
-unfoldable pub tokenOf : Profile → (row : List ℕ) → Token
-tokenOf p row =
-    pick (allBits (inSpanOf row ∷ opBitsOf row)) (pick (eqb (inSpanOf row) 0) (controlToken p (opcode_of row)) (opToken p (opcode_of row))) nothing
+unfoldable pub token_of : Profile → (row : List ℕ) → Token
+token_of p row =
+    pick (all_bits (in_span_of row ∷ op_bits_of row)) (pick (eqb (in_span_of row) 0) (control_token p (opcode_of row)) (op_token p (opcode_of row))) nothing
 
-unfoldable pub tokensOf : Profile → (rows : List (List ℕ)) → List Token
-tokensOf p [] = []
-tokensOf p (row ∷ rows) = tokenOf p row ∷ tokensOf p rows
+unfoldable pub tokens_of : Profile → (rows : List (List ℕ)) → List Token
+tokens_of p [] = []
+tokens_of p (row ∷ rows) = token_of p row ∷ tokens_of p rows

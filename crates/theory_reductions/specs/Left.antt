@@ -2,34 +2,34 @@
 use Rattle.std.specs.Prelude.{◌≡◌, ◌⊎◌, List, ℕ, ◌-◌, ◌<◌, length, get_or}
 use Rattle.field.specs.Modulus.{P}
 use Rattle.rows.specs.declared.records.profile.Profile.{Profile}
-use Rattle.rows.specs.records.Buffers.{onRows}
-use Rattle.rows.specs.passes.Passes.{fixedUp, builtOf, multiplied, inverted, halted, padded, sum_of, allPasses, unlessRefused, refusal1, refusal2, refusal3, refusal4, refusal5, refusalAll}
+use Rattle.rows.specs.records.Buffers.{on_rows}
+use Rattle.rows.specs.passes.Passes.{fixed_up, built_of, multiplied, inverted, halted, padded, sum_of, all_passes, unless_refused, refusal1, refusal2, refusal3, refusal4, refusal5, refusal_all}
 
 -- pass 1, `fixup_stack_and_system_rows`
 unfoldable pub left1 : (size : ℕ) → (counts built top : List ℕ) → (buffer : List ℕ) → List ℕ
 left1 size counts built top buffer =
-    unlessRefused (refusal1 buffer size counts built) buffer (onRows (sum_of counts) (fixedUp size top (builtOf (length counts - 1) built)) buffer)
+    unless_refused (refusal1 buffer size counts built) buffer (on_rows (sum_of counts) (fixed_up size top (built_of (length counts - 1) built)) buffer)
 
 -- pass 2, `set_loop_body_multiplicities`
 unfoldable pub left2 : Profile → (rows : ℕ) → (buffer : List ℕ) → List ℕ
-left2 p rows buffer = unlessRefused (refusal2 p buffer rows) buffer (onRows rows (multiplied p) buffer)
+left2 p rows buffer = unless_refused (refusal2 p buffer rows) buffer (on_rows rows (multiplied p) buffer)
 
 -- pass 3, `invert_helper_column`
 unfoldable pub left3 : (rows : ℕ) → (buffer : List ℕ) → List ℕ
-left3 rows buffer = unlessRefused (refusal3 buffer rows) buffer (onRows rows inverted buffer)
+left3 rows buffer = unless_refused (refusal3 buffer rows) buffer (on_rows rows inverted buffer)
 
 -- pass 4, `push_halt_opcode_row`
 unfoldable pub left4 : Profile → (rows : ℕ) → (built : List ℕ) → (buffer : List ℕ) → List ℕ
-left4 p rows built buffer = unlessRefused (refusal4 p buffer rows) buffer (onRows rows (halted p built) buffer)
+left4 p rows built buffer = unless_refused (refusal4 p buffer rows) buffer (on_rows rows (halted p built) buffer)
 
 -- pass 5, `pad_core_row_major`
 unfoldable pub left5 : Profile → (rows height : ℕ) → (buffer : List ℕ) → List ℕ
-left5 p rows height buffer = unlessRefused (refusal5 p buffer rows height) buffer (onRows rows (padded p height) buffer)
+left5 p rows height buffer = unless_refused (refusal5 p buffer rows height) buffer (on_rows rows (padded p height) buffer)
 
 -- the finisher, `finish`
-unfoldable pub leftAll : Profile → (size : ℕ) → (counts built top : List ℕ) → (height : ℕ) → (buffer : List ℕ) → List ℕ
-leftAll p size counts built top height buffer =
-    unlessRefused (refusalAll p buffer size counts built height) buffer (allPasses p size counts built top height buffer)
+unfoldable pub left_all : Profile → (size : ℕ) → (counts built top : List ℕ) → (height : ℕ) → (buffer : List ℕ) → List ℕ
+left_all p size counts built top height buffer =
+    unless_refused (refusal_all p buffer size counts built height) buffer (all_passes p size counts built top height buffer)
 
 -- "Every cell that a call writes is reduced; cells it does not write stay" (N2): each number after the call is the number before, or it is
 -- below p

@@ -8,20 +8,20 @@ use native.Mathlib.Omega.{arith}
 use lib.ListN.{replicate}
 use Rattle.field.specs.Cells.{cell_at}
 use Rattle.groups.specs.Answer.{Answer, accepted, refused}
-use Rattle.groups.specs.Batches.{isBatch, batchAt}
-use Rattle.groups.specs.Words.{wordAt}
+use Rattle.groups.specs.Batches.{is_batch, batch_at}
+use Rattle.groups.specs.Words.{word_at}
 use Rattle.groups.specs.declared.batch.BasicBlockNode.{BasicBlockNode}
 use Rattle.groups.specs.declared.batch.OpBatch.{OpBatch}
 use Rattle.rows.specs.declared.records.ids.MastNodeId.{MastNodeId}
 use Rattle.rows.specs.declared.records.profile.Profile.{Profile}
 use Rattle.rows.specs.declared.records.forest.MastNode.{MastNode}
 use Rattle.rows.specs.declared.records.forest.NodeEntry.{NodeEntry}
-use Rattle.rows.specs.records.Forests.{Forest, isSlot, nodeId, node_of, nodeAt, opcodeAt}
-use Rattle.rows.specs.records.Profiles.{isOneOf}
-use Rattle.theory_readings.specs.Tokens.{OneChild, split, call, syscall, dyn, dyncall, Kind, controls, controlOpcodes, isOpOpcode}
+use Rattle.rows.specs.records.Forests.{Forest, is_slot, node_id, node_of, node_at, opcode_at}
+use Rattle.rows.specs.records.Profiles.{is_one_of}
+use Rattle.theory_readings.specs.Tokens.{OneChild, split, call, syscall, dyn, dyncall, Kind, controls, control_opcodes, is_op_opcode}
 use Rattle.theory_readings.proofs.Examples.{profile}
 use Rattle.theory_runs.specs.Happened.{Ending, Did, started, operated, respanned, repeated, finished, Cycle}
-use Rattle.theory_runs.specs.ProperRuns.{Holds, HasOperations, HasOpcode, Child, endingOf, moved, InBlock, Run, RunPasses}
+use Rattle.theory_runs.specs.ProperRuns.{Holds, HasOperations, HasOpcode, Child, ending_of, moved, InBlock, Run, RunPasses}
 
 -- a StartNode cycle says forest, node and addresses of a run that begins with it
 pub from_start : {p : Profile} {f h : Forest} {k : Kind} {id i : ℕ} {body : Bool} {a b g x y : ℕ} {cycles rest : List Cycle} → Run p f id body a b g ((h, started k i x y) ∷ cycles) rest → Run p h i body y x g ((h, started k i x y) ∷ cycles) rest
@@ -30,13 +30,13 @@ from_start (Run.join holds d e) = Run.join holds d e
 from_start (Run.one kind child d) = Run.one kind child d
 from_start (Run.loop holds d) = Run.loop holds d
 
-abbrev nodeIn : Answer NodeEntry → MastNode
-nodeIn (accepted entry) = entry.node
-nodeIn (refused n) = MastNode.External
+abbrev node_in : Answer NodeEntry → MastNode
+node_in (accepted entry) = entry.node
+node_in (refused n) = MastNode.External
 
 one-node : (f : Forest) (id : ℕ) (node node' : MastNode) → Holds f id node → Holds f id node' → node ≡ node'
 unfolding Holds
-one-node f id node node' (x, h) (y, k) = ap nodeIn (sym h ∙ k)
+one-node f id node node' (x, h) (y, k) = ap node_in (sym h ∙ k)
 
 -- the kind that a node starts as
 abbrev kind_of : MastNode → Kind
@@ -89,7 +89,7 @@ join-start {f = f} {id = id} m n h (Run.join {c = c} {d = d} {between = l} {firs
     let i : m' ≡ m = cc in let j : n' ≡ n = cc in (c, d, l, rw (← i) r, rw (← j) r')
 
 one-start : {p : Profile} {f h : Forest} {kind : OneChild} {id i : ℕ} {body : Bool} {a b g x y : ℕ} {cycles rest : List Cycle} → Run p f id body a b g ((h, started (Kind.one kind) i x y) ∷ cycles) rest →
-    (child : Forest) × (m : ℕ) × (c : ℕ) × Child kind f id child m × Run p child m false b c a cycles ((f, finished (endingOf kind) id body b a g) ∷ rest)
+    (child : Forest) × (m : ℕ) × (c : ℕ) × Child kind f id child m × Run p child m false b c a cycles ((f, finished (ending_of kind) id body b a g) ∷ rest)
 one-start (Run.one {child = child} {m = m} {c = c} kind k d) = (child, m, c, k, d)
 
 split-child : (f : Forest) (id : ℕ) (g : Forest) (m : ℕ) (x y : MastNodeId) → Holds f id (MastNode.Split x y) → Child split f id g m → (g ≡ f) × ((m ≡ x.0) ⊎ (m ≡ y.0))
@@ -112,12 +112,12 @@ loop-start {f = f} {id = id} m h (Run.loop {child = m'} k d) =
     let e = one-node f id (MastNode.Loop m') (MastNode.Loop m) k h in let i : m' ≡ m = cc in rw (← i) d
 
 -- a block, from operation `op` of a batch on
-module _ (p : Profile) (f : Forest) (block : BasicBlockNode) (index : ℕ) (batch : OpBatch) (is : batchAt f.batches f.groups block index ≡ accepted batch) where
+module _ (p : Profile) (f : Forest) (block : BasicBlockNode) (index : ℕ) (batch : OpBatch) (is : batch_at f.batches f.groups block index ≡ accepted batch) where
   size : (n : ℕ) → HasOperations f block index n → n ≡ batch.num_ops
   unfolding HasOperations
   size n (other, e, m) = let h : other ≡ batch = cc in sym m ∙ ap (λ (x : OpBatch). x.num_ops) h
 
-  at-operation : {id op : ℕ} {body : Bool} {a x g : ℕ} {cycles rest tail : List Cycle} (opcode : ℕ) → op < batch.num_ops → opcodeAt f.ops batch op ≡ accepted opcode →
+  at-operation : {id op : ℕ} {body : Bool} {a x g : ℕ} {cycles rest tail : List Cycle} (opcode : ℕ) → op < batch.num_ops → opcode_at f.ops batch op ≡ accepted opcode →
       ((l : List Cycle) → InBlock p f id block index (suc op) body a x g l rest → l ≡ tail) →
       InBlock p f id block index op body a x g cycles rest → cycles ≡ (f, operated id index op opcode) ∷ tail
   unfolding HasOpcode
@@ -126,7 +126,7 @@ module _ (p : Profile) (f : Forest) (block : BasicBlockNode) (index : ℕ) (batc
       let k : opcode' ≡ opcode = cc in let m = then l d in cc
   at-operation {op = op} opcode h e then (InBlock.respan has more d) = let k = size op has in absurd (omega arith)
 
-  at-respan : {id op : ℕ} {body : Bool} {a x g : ℕ} {cycles rest tail : List Cycle} → opcodeAt f.ops batch op ≡ refused 6 → suc index < block.batches →
+  at-respan : {id op : ℕ} {body : Bool} {a x g : ℕ} {cycles rest tail : List Cycle} → opcode_at f.ops batch op ≡ refused 6 → suc index < block.batches →
       ((l : List Cycle) → InBlock p f id block (suc index) 0 body a (moved p x) g l rest → l ≡ tail) →
       InBlock p f id block index op body a x g cycles rest → cycles ≡ (f, respanned id (suc index)) ∷ tail
   unfolding HasOpcode
@@ -134,7 +134,7 @@ module _ (p : Profile) (f : Forest) (block : BasicBlockNode) (index : ℕ) (batc
   at-respan e most then (InBlock.operation opcode' (other, i, j) w d) = let z : ◌≡◌ {A = ℕ} 0 1 = cc in absurd (omega arith)
   at-respan {id = id} e most then (InBlock.respan {cycles = l} has more d) = ap (λ y. (f, respanned id (suc index)) ∷ y) (then l d)
 
-  at-end : {id op : ℕ} {body : Bool} {a x g : ℕ} {cycles rest : List Cycle} → opcodeAt f.ops batch op ≡ refused 6 → suc index ≡ block.batches →
+  at-end : {id op : ℕ} {body : Bool} {a x g : ℕ} {cycles rest : List Cycle} → opcode_at f.ops batch op ≡ refused 6 → suc index ≡ block.batches →
       InBlock p f id block index op body a x g cycles rest → cycles ≡ (f, finished Ending.FinishBasicBlock id body x a g) ∷ rest
   unfolding HasOpcode
   at-end e last (InBlock.ended has most) = refl
@@ -212,7 +212,7 @@ passing flag a b g c (d ∷ others) rest = spanned forest 1 true b c a ((forest,
 
 in_small : (p : Profile) {id : ℕ} {body : Bool} {a b g : ℕ} {cycles rest : List Cycle} → InBlock p forest id small 0 0 body a b g cycles rest →
     cycles ≡ (forest, operated id 0 0 5) ∷ (forest, operated id 0 1 6) ∷ (forest, finished Ending.FinishBasicBlock id body b a g) ∷ rest
-unfolding grove forest batchAt isBatch opcodeAt wordAt cell_at
+unfolding grove forest batch_at is_batch opcode_at word_at cell_at
 in_small p =
     at-operation p forest small 0 batch0 refl 5 (omega arith) refl (λ l.
     at-operation p forest small 0 batch0 refl 6 (omega arith) refl (λ m.
@@ -222,7 +222,7 @@ in-large : (p : Profile) {id : ℕ} {body : Bool} {a b g : ℕ} {cycles rest : L
     cycles ≡
     (forest, operated id 0 0 5) ∷ (forest, operated id 0 1 6) ∷ (forest, respanned id 1) ∷ (forest, operated id 1 0 7)
     ∷ (forest, finished Ending.FinishBasicBlock id body (moved p b) a g) ∷ rest
-unfolding grove forest batchAt isBatch opcodeAt wordAt cell_at
+unfolding grove forest batch_at is_batch opcode_at word_at cell_at
 in-large p =
     at-operation p forest large 0 batch0 refl 5 (omega arith) refl (λ l.
     at-operation p forest large 0 batch0 refl 6 (omega arith) refl (λ m.
@@ -231,10 +231,10 @@ in-large p =
     at-end p forest large 1 batch1 refl refl refl))))
 
 -- what its slots hold
-slots : Holds forest 0 (MastNode.Join (nodeId 1) (nodeId 2)) × Holds forest 1 (MastNode.Block small) × Holds forest 2 (MastNode.Block small) × Holds forest 3 (MastNode.Block small)
-    × Holds forest 4 (MastNode.Split (nodeId 1) (nodeId 2)) × Holds forest 5 (MastNode.Loop (nodeId 1)) × Holds forest 6 (MastNode.Call (nodeId 1))
-    × Holds forest 7 (MastNode.Syscall (nodeId 1)) × Holds forest 8 (MastNode.Block large)
-unfolding grove forest Holds nodeAt node_of isSlot wordAt
+slots : Holds forest 0 (MastNode.Join (node_id 1) (node_id 2)) × Holds forest 1 (MastNode.Block small) × Holds forest 2 (MastNode.Block small) × Holds forest 3 (MastNode.Block small)
+    × Holds forest 4 (MastNode.Split (node_id 1) (node_id 2)) × Holds forest 5 (MastNode.Loop (node_id 1)) × Holds forest 6 (MastNode.Call (node_id 1))
+    × Holds forest 7 (MastNode.Syscall (node_id 1)) × Holds forest 8 (MastNode.Block large)
+unfolding grove forest Holds node_at node_of is_slot word_at
 slots = ((_, refl), (_, refl), (_, refl), (_, refl), (_, refl), (_, refl), (_, refl), (_, refl), (_, refl))
 
 -- The proper runs of each node are exactly these lists.
@@ -254,8 +254,8 @@ pub join-exact : {p : Profile} {body : Bool} {a b g : ℕ} {cycles rest : List C
     (c : ℕ) × (d : ℕ) × (cycles ≡ joining body a b g c d rest)
 join-exact {p} {body} {a} {b} {g} {rest = rest} =
     by-start (λ y. (c : ℕ) × (d : ℕ) × (y ≡ joining body a b g c d rest))
-    (MastNode.Join (nodeId 1) (nodeId 2)) slots.0 (λ l r.
-    let (c, d, between, r1, r2) = join-start (nodeId 1) (nodeId 2) slots.0 r in
+    (MastNode.Join (node_id 1) (node_id 2)) slots.0 (λ l r.
+    let (c, d, between, r1, r2) = join-start (node_id 1) (node_id 2) slots.0 r in
     (c, d, ap (λ y. (forest, started Kind.join 0 b a) ∷ y) (small-exact 1 slots.1 r1 ∙ ap (spanned forest 1 false b c a) (small-exact 2 slots.2 r2))))
 
 module _ (kind : OneChild) (id : ℕ) (Own : ℕ → Type 0) (own : (h : Forest) (m : ℕ) → Child kind forest id h m → (h ≡ forest) × Own m) (holds : (m : ℕ) → Own m → Holds forest m (MastNode.Block small)) where
@@ -265,7 +265,7 @@ module _ (kind : OneChild) (id : ℕ) (Own : ℕ → Type 0) (own : (h : Forest)
       let r' : Run p forest m false b c a cycles rest = rw (← e) r in small-exact m (holds m o) r'
 
   one-exact : {p : Profile} {body : Bool} {a b g : ℕ} {l rest : List Cycle} → Run p forest id body a b g ((forest, started (Kind.one kind) id b a) ∷ l) rest →
-      (m : ℕ) × (c : ℕ) × Own m × ((forest, started (Kind.one kind) id b a) ∷ l ≡ under kind (endingOf kind) id forest m body a b g c rest)
+      (m : ℕ) × (c : ℕ) × Own m × ((forest, started (Kind.one kind) id b a) ∷ l ≡ under kind (ending_of kind) id forest m body a b g c rest)
   one-exact {a = a} {b = b} r =
       let (h, m, c, k, r') = one-start r in
       let o = own h m k in
@@ -273,10 +273,10 @@ module _ (kind : OneChild) (id : ℕ) (Own : ℕ → Type 0) (own : (h : Forest)
 
 pub split-exact : {p : Profile} {body : Bool} {a b g : ℕ} {cycles rest : List Cycle} → Run p forest 4 body a b g cycles rest →
     (m : ℕ) × (c : ℕ) × ((m ≡ 1) ⊎ (m ≡ 2)) × (cycles ≡ under split Ending.FinishSplit 4 forest m body a b g c rest)
-unfolding endingOf
+unfolding ending_of
 split-exact {body = body} {a} {b} {g} {rest = rest} =
-    by-start (λ y. (m : ℕ) × (c : ℕ) × ((m ≡ 1) ⊎ (m ≡ 2)) × (y ≡ under split Ending.FinishSplit 4 forest m body a b g c rest)) (MastNode.Split (nodeId 1) (nodeId 2)) slots.4 (λ l.
-    one-exact split 4 (λ m. (m ≡ 1) ⊎ (m ≡ 2)) (λ h m. split-child forest 4 h m (nodeId 1) (nodeId 2) slots.4) small-12)
+    by-start (λ y. (m : ℕ) × (c : ℕ) × ((m ≡ 1) ⊎ (m ≡ 2)) × (y ≡ under split Ending.FinishSplit 4 forest m body a b g c rest)) (MastNode.Split (node_id 1) (node_id 2)) slots.4 (λ l.
+    one-exact split 4 (λ m. (m ≡ 1) ⊎ (m ≡ 2)) (λ h m. split-child forest 4 h m (node_id 1) (node_id 2) slots.4) small-12)
   where
     small-12 : (m : ℕ) → (m ≡ 1) ⊎ (m ≡ 2) → Holds forest m (MastNode.Block small)
     small-12 m (inl e) = rw e slots.1
@@ -284,17 +284,17 @@ split-exact {body = body} {a} {b} {g} {rest = rest} =
 
 pub call-exact : {p : Profile} {body : Bool} {a b g : ℕ} {cycles rest : List Cycle} → Run p forest 6 body a b g cycles rest →
     (m : ℕ) × (c : ℕ) × (m ≡ 1) × (cycles ≡ under call Ending.FinishCall 6 forest m body a b g c rest)
-unfolding endingOf
+unfolding ending_of
 call-exact {body = body} {a} {b} {g} {rest = rest} =
-    by-start (λ y. (m : ℕ) × (c : ℕ) × (m ≡ 1) × (y ≡ under call Ending.FinishCall 6 forest m body a b g c rest)) (MastNode.Call (nodeId 1)) slots.6 (λ l.
-    one-exact call 6 (λ m. m ≡ 1) (λ h m. call-child forest 6 h m (nodeId 1) slots.6) (λ m e. rw e slots.1))
+    by-start (λ y. (m : ℕ) × (c : ℕ) × (m ≡ 1) × (y ≡ under call Ending.FinishCall 6 forest m body a b g c rest)) (MastNode.Call (node_id 1)) slots.6 (λ l.
+    one-exact call 6 (λ m. m ≡ 1) (λ h m. call-child forest 6 h m (node_id 1) slots.6) (λ m e. rw e slots.1))
 
 pub syscall-exact : {p : Profile} {body : Bool} {a b g : ℕ} {cycles rest : List Cycle} → Run p forest 7 body a b g cycles rest →
     (m : ℕ) × (c : ℕ) × (m ≡ 1) × (cycles ≡ under syscall Ending.FinishCall 7 forest m body a b g c rest)
-unfolding endingOf
+unfolding ending_of
 syscall-exact {body = body} {a} {b} {g} {rest = rest} =
-    by-start (λ y. (m : ℕ) × (c : ℕ) × (m ≡ 1) × (y ≡ under syscall Ending.FinishCall 7 forest m body a b g c rest)) (MastNode.Syscall (nodeId 1)) slots.7 (λ l.
-    one-exact syscall 7 (λ m. m ≡ 1) (λ h m. syscall-child forest 7 h m (nodeId 1) slots.7) (λ m e. rw e slots.1))
+    by-start (λ y. (m : ℕ) × (c : ℕ) × (m ≡ 1) × (y ≡ under syscall Ending.FinishCall 7 forest m body a b g c rest)) (MastNode.Syscall (node_id 1)) slots.7 (λ l.
+    one-exact syscall 7 (λ m. m ≡ 1) (λ h m. syscall-child forest 7 h m (node_id 1) slots.7) (λ m e. rw e slots.1))
 
 passes-exact : {p : Profile} {body : Bool} {a b g : ℕ} {cycles rest : List Cycle} → RunPasses p forest 5 1 body a b g cycles rest →
     (c : ℕ) × (others : List ℕ) × (cycles ≡ passing body a b g c others rest)
@@ -306,35 +306,35 @@ passes-exact (RunPasses.again {a = a} {b = b} {c = c} r d) =
 pub loop-exact : {p : Profile} {body : Bool} {a b g : ℕ} {cycles rest : List Cycle} → Run p forest 5 body a b g cycles rest →
     (c : ℕ) × (others : List ℕ) × (cycles ≡ (forest, started Kind.loop 5 b a) ∷ passing body a b g c others rest)
 loop-exact {body = body} {a} {b} {g} {rest = rest} =
-    by-start (λ y. (c : ℕ) × (others : List ℕ) × (y ≡ (forest, started Kind.loop 5 b a) ∷ passing body a b g c others rest)) (MastNode.Loop (nodeId 1)) slots.5 (λ l r.
-    let (c, others, e) = passes-exact (loop-start (nodeId 1) slots.5 r) in (c, others, ap (λ y. (forest, started Kind.loop 5 b a) ∷ y) e))
+    by-start (λ y. (c : ℕ) × (others : List ℕ) × (y ≡ (forest, started Kind.loop 5 b a) ∷ passing body a b g c others rest)) (MastNode.Loop (node_id 1)) slots.5 (λ l r.
+    let (c, others, e) = passes-exact (loop-start (node_id 1) slots.5 r) in (c, others, ap (λ y. (forest, started Kind.loop 5 b a) ∷ y) e))
 
 -- And these lists are proper runs.
 pub small-proper : {body : Bool} {a b g : ℕ} {rest : List Cycle} (id : ℕ) → Holds forest id (MastNode.Block small) → Run profile forest id body a b g (spanned forest id body a b g rest) rest
-unfolding grove forest HasOperations HasOpcode batchAt isBatch opcodeAt wordAt isOpOpcode controlOpcodes controls isOneOf
+unfolding grove forest HasOperations HasOpcode batch_at is_batch opcode_at word_at is_op_opcode control_opcodes controls is_one_of
 small-proper id h = Run.block {block = small} h (InBlock.operation 5 (_, refl, refl) refl (InBlock.operation 6 (_, refl, refl) refl (InBlock.ended (_, refl, refl) refl)))
 
 pub large-proper : {body : Bool} {a b g : ℕ} {rest : List Cycle} → Run profile forest 8 body a b g (respanning profile body a b g rest) rest
-unfolding grove forest HasOperations HasOpcode batchAt isBatch opcodeAt wordAt isOpOpcode controlOpcodes controls isOneOf
+unfolding grove forest HasOperations HasOpcode batch_at is_batch opcode_at word_at is_op_opcode control_opcodes controls is_one_of
 large-proper =
     Run.block {block = large} slots.8 (InBlock.operation 5 (_, refl, refl) refl (InBlock.operation 6 (_, refl, refl) refl
     (InBlock.respan {index = 0} (_, refl, refl) (omega arith) (InBlock.operation 7 (_, refl, refl) refl (InBlock.ended (_, refl, refl) refl)))))
 
 pub join-proper : {body : Bool} {a b g c d : ℕ} {rest : List Cycle} → Run profile forest 0 body a b g (joining body a b g c d rest) rest
-join-proper = Run.join {first = nodeId 1} {second = nodeId 2} slots.0 (small-proper 1 slots.1) (small-proper 2 slots.2)
+join-proper = Run.join {first = node_id 1} {second = node_id 2} slots.0 (small-proper 1 slots.1) (small-proper 2 slots.2)
 
 pub split-proper : {body : Bool} {a b g c m : ℕ} {rest : List Cycle} → (m ≡ 1) ⊎ (m ≡ 2) → Run profile forest 4 body a b g (under split Ending.FinishSplit 4 forest m body a b g c rest) rest
-unfolding Child endingOf
-split-proper (inl e) = Run.one split (nodeId 1, nodeId 2, slots.4, refl, inl e) (small-proper _ (rw e slots.1))
-split-proper (inr e) = Run.one split (nodeId 1, nodeId 2, slots.4, refl, inr e) (small-proper _ (rw e slots.2))
+unfolding Child ending_of
+split-proper (inl e) = Run.one split (node_id 1, node_id 2, slots.4, refl, inl e) (small-proper _ (rw e slots.1))
+split-proper (inr e) = Run.one split (node_id 1, node_id 2, slots.4, refl, inr e) (small-proper _ (rw e slots.2))
 
 pub call-proper : {body : Bool} {a b g c : ℕ} {rest : List Cycle} → Run profile forest 6 body a b g (under call Ending.FinishCall 6 forest 1 body a b g c rest) rest
-unfolding Child endingOf
-call-proper = Run.one call (nodeId 1, slots.6, refl, refl) (small-proper 1 slots.1)
+unfolding Child ending_of
+call-proper = Run.one call (node_id 1, slots.6, refl, refl) (small-proper 1 slots.1)
 
 pub syscall-proper : {body : Bool} {a b g c : ℕ} {rest : List Cycle} → Run profile forest 7 body a b g (under syscall Ending.FinishCall 7 forest 1 body a b g c rest) rest
-unfolding Child endingOf
-syscall-proper = Run.one syscall (nodeId 1, slots.7, refl, refl) (small-proper 1 slots.1)
+unfolding Child ending_of
+syscall-proper = Run.one syscall (node_id 1, slots.7, refl, refl) (small-proper 1 slots.1)
 
 passes-proper : {body : Bool} {a b g : ℕ} {rest : List Cycle} (c : ℕ) (others : List ℕ) → RunPasses profile forest 5 1 body a b g (passing body a b g c others rest) rest
 unfolding passing
@@ -342,4 +342,4 @@ passes-proper c [] = RunPasses.ended (small-proper 1 slots.1)
 passes-proper c (d ∷ others) = RunPasses.again (small-proper 1 slots.1) (passes-proper d others)
 
 pub loop-proper : {body : Bool} {a b g : ℕ} {rest : List Cycle} (c : ℕ) (others : List ℕ) → Run profile forest 5 body a b g ((forest, started Kind.loop 5 b a) ∷ passing body a b g c others rest) rest
-loop-proper c others = Run.loop {child = nodeId 1} slots.5 (passes-proper c others)
+loop-proper c others = Run.loop {child = node_id 1} slots.5 (passes-proper c others)

@@ -7,38 +7,38 @@ use Prim.Native.Nat.{ℕ}
 use lib.ListN.{replicate}
 use Rattle.field.specs.Bounds.{any_from}
 use Rattle.field.specs.Cells.{cell_at, reduced}
-use Rattle.field.specs.Inverse.{euclid, inverseOf}
+use Rattle.field.specs.Inverse.{euclid, inverse_of}
 use Rattle.groups.specs.Answer.{first_of}
-use Rattle.groups.specs.Words.{wordAt}
-use Rattle.groups.specs.Batches.{isBatch, batchAt}
-use Rattle.groups.specs.Flags.{flagsUpTo8, batchFlags}
+use Rattle.groups.specs.Words.{word_at}
+use Rattle.groups.specs.Batches.{is_batch, batch_at}
+use Rattle.groups.specs.Flags.{flags_up_to8, batch_flags}
 use Rattle.groups.specs.declared.helpers.OperationHelperRegisters.{OperationHelperRegisters}
 use Rattle.rows.specs.declared.records.continuation.Continuation.{Continuation}
 use Rattle.rows.specs.declared.records.continuation.LoopCondition.{LoopCondition}
 use Rattle.rows.specs.declared.records.continuation.CalleeWord.{CalleeWord}
 use Rattle.rows.specs.declared.records.continuation.ContextInfo.{ContextInfo}
-use Rattle.rows.specs.records.Profiles.{opcodes, isOneOf, twoEqual, lacksBits, profileWrong}
-use Rattle.rows.specs.records.Forests.{Forest, isSlot, nodeId, node_of, nodeAt, digestAt, block_of}
-use Rattle.rows.specs.records.Addresses.{Queues, entry_at, startedAt, end_at, readState}
-use Rattle.rows.specs.records.Captured.{readCaptured}
-use Rattle.rows.specs.records.DecoderRows.{controlFlow, basicBlockBatch, decoderCells}
-use Rattle.rows.specs.records.Built.{builtSystem, builtStack, noSystem, noStack, systemCells, stackCells, readSystem, readStack}
-use Rattle.rows.specs.cycles.Made.{Cursor, startBlock, startDyn, startKind, startNode, dynKind, blockKind, entryKind, madeEnd, made}
-use Rattle.rows.specs.cycles.Scans.{anyBigOpcode, anyLongBlock, anyLargeBatch, forestTooLarge, scanOf}
-use Rattle.rows.specs.records.Cells.{rowCells, putRow, fragmentWrong}
-use Rattle.rows.specs.cycles.LentTally.{countsNext, unlessFull, tallyAfter, talliedCycle}
-use Rattle.rows.specs.cycles.Cycles.{fresh, storedIn, cycleWith, cycle, leftAfter, tracerAfter, lastSystem, lastStack, fragmentAfter, finalState, forPasses}
-use Rattle.rows.specs.records.Buffers.{rows_of, bufferRow, flat, onRows, lastRow, low_bits, opcode_of, bufferWrong, fewerRows}
-use Rattle.rows.specs.passes.Passes.{withSides, firstRow, laterRows, fixedUp, builtOf, flaggedEnd, bodyEnds, withCounts, anyWithoutBody, multiplied, loopWithoutBody, inverted, haltDecoder, haltStack, haltRow, halted, paddingRow, paddingRows, padded, sum_of, anyAbove, notFull, fragmentsWrong, heightWrong, refusal1, refusal2, refusal3, refusal4, refusal5, refusalAll, lastBuilt}
+use Rattle.rows.specs.records.Profiles.{opcodes, is_one_of, two_equal, lacks_bits, profile_wrong}
+use Rattle.rows.specs.records.Forests.{Forest, is_slot, node_id, node_of, node_at, digest_at, block_of}
+use Rattle.rows.specs.records.Addresses.{Queues, entry_at, started_at, end_at, read_state}
+use Rattle.rows.specs.records.Captured.{read_captured}
+use Rattle.rows.specs.records.DecoderRows.{control_flow, basic_block_batch, decoder_cells}
+use Rattle.rows.specs.records.Built.{built_system, built_stack, no_system, no_stack, system_cells, stack_cells, read_system, read_stack}
+use Rattle.rows.specs.cycles.Made.{Cursor, start_block, start_dyn, start_kind, start_node, dyn_kind, block_kind, entry_kind, made_end, made}
+use Rattle.rows.specs.cycles.Scans.{any_big_opcode, any_long_block, any_large_batch, forest_too_large, scan_of}
+use Rattle.rows.specs.records.Cells.{row_cells, put_row, fragment_wrong}
+use Rattle.rows.specs.cycles.LentTally.{counts_next, unless_full, tally_after, tallied_cycle}
+use Rattle.rows.specs.cycles.Cycles.{fresh, stored_in, cycle_with, cycle, left_after, tracer_after, last_system, last_stack, fragment_after, final_state, for_passes}
+use Rattle.rows.specs.records.Buffers.{rows_of, buffer_row, flat, on_rows, last_row, low_bits, opcode_of, buffer_wrong, fewer_rows}
+use Rattle.rows.specs.passes.Passes.{with_sides, first_row, later_rows, fixed_up, built_of, flagged_end, body_ends, with_counts, any_without_body, multiplied, loop_without_body, inverted, halt_decoder, halt_stack, halt_row, halted, padding_row, padding_rows, padded, sum_of, any_above, not_full, fragments_wrong, height_wrong, refusal1, refusal2, refusal3, refusal4, refusal5, refusal_all, last_built}
 use Rattle.theory_readings.specs.Tokens.{dyn}
 use Rattle.theory_readings.proofs.Examples.{profile}
-use Rattle.theory_runs.specs.Calls.{Call, store, finish, Fragment, after, callRefusal, afterAll, Accepted, opened, closed, cursorOf, AllAccepted, finalStates, cells_of, countsOf, builtCells, OneSize}
-use Rattle.theory_runs.specs.Happened.{nothingStored, start_of, finishOf, didBy, didStored, usedBy, positionsAfter, stored, leftBy, inForceAfter, inForceAfterAll, cyclesIn, cyclesOf}
-use Rattle.theory_runs.specs.ProperRuns.{Child, endingOf, Holds, HasOperations, InBlock, Run}
-use Rattle.theory_runs.specs.Finished.{buffer1, buffer2, buffer3, buffer4, writtenByFive, writtenByFinisher, FivePass, FinisherPasses, FinishedTo}
-use Rattle.theory_runs.specs.SameCalls.{allCalls, Cut}
-use Rattle.theory_runs.specs.LiveCalls.{call, LiveFragment, plainCalls, plainAll, liveRefusal, live_after, liveAfterAll, LiveAccepted, AllLiveAccepted, liveEnds, liveFinals, liveCells}
-use Rattle.theory_runs.specs.LiveFinished.{liveByFive, liveByFinisher, LiveFivePass, LiveFinisherPasses, LiveCut}
+use Rattle.theory_runs.specs.Calls.{Call, store, finish, Fragment, after, call_refusal, after_all, Accepted, opened, closed, cursor_of, AllAccepted, final_states, cells_of, counts_of, built_cells, OneSize}
+use Rattle.theory_runs.specs.Happened.{nothing_stored, start_of, finish_of, did_by, did_stored, used_by, positions_after, stored, left_by, in_force_after, in_force_after_all, cycles_in, cycles_of}
+use Rattle.theory_runs.specs.ProperRuns.{Child, ending_of, Holds, HasOperations, InBlock, Run}
+use Rattle.theory_runs.specs.Finished.{buffer1, buffer2, buffer3, buffer4, written_by_five, written_by_finisher, FivePass, FinisherPasses, FinishedTo}
+use Rattle.theory_runs.specs.SameCalls.{all_calls, Cut}
+use Rattle.theory_runs.specs.LiveCalls.{call, LiveFragment, plain_calls, plain_all, live_refusal, live_after, live_after_all, LiveAccepted, AllLiveAccepted, live_ends, live_finals, live_cells}
+use Rattle.theory_runs.specs.LiveFinished.{live_by_five, live_by_finisher, LiveFivePass, LiveFinisherPasses, LiveCut}
 use Rattle.theory_runs.proofs.AnySize.{first-cycle-refused, same-written}
 use Rattle.theory_runs.proofs.LiveCuts.{plain-cut, plain-written}
 
@@ -68,8 +68,8 @@ unfoldable store_of : Continuation → CalleeWord → Call
 store_of continuation callee =
     store (record { continuation = continuation; is_loop_body = false; captured = record { finish_loop_condition = LoopCondition.Absent; dyn_callee_hash = callee; ctx_info = ContextInfo.Absent } })
 
-unfoldable cycleOf : Forest → (n : ℕ) → Call
-cycleOf forest n = finish (record {
+unfoldable cycle_of : Forest → (n : ℕ) → Call
+cycle_of forest n = finish (record {
   forest = forest;
   system = record { clk = record { 0 = n }; ctx = record { 0 = 0 }; fn_hash = (0, 0, 0, 0) };
   stack = record { stack_top = replicate 16 0; stack_depth = 16; overflow_addr = 0 };
@@ -79,35 +79,35 @@ cycleOf forest n = finish (record {
 -- the Dyn's start; the block's start, without a storing of its own: StartNode of slot 0 is still stored, and this cycle is handed the other
 -- forest; both ends. No proper run of fewer cycles, and no list of fewer calls than its first three, reuses what is stored
 unfoldable opening : List Call
-opening = store_of (Continuation.StartNode (nodeId 0)) (CalleeWord.Is (20, 21, 22, 23)) ∷ cycleOf outer 0 ∷ []
+opening = store_of (Continuation.StartNode (node_id 0)) (CalleeWord.Is (20, 21, 22, 23)) ∷ cycle_of outer 0 ∷ []
 
 unfoldable reusing : List Call
-reusing = cycleOf inner 1 ∷ []
+reusing = cycle_of inner 1 ∷ []
 
 unfoldable closing : List Call
 closing =
-    store_of (Continuation.FinishBasicBlock (nodeId 0)) CalleeWord.Absent ∷ cycleOf inner 2
-    ∷ store_of (Continuation.FinishDyn (nodeId 0)) CalleeWord.Absent ∷ cycleOf outer 3 ∷ []
+    store_of (Continuation.FinishBasicBlock (node_id 0)) CalleeWord.Absent ∷ cycle_of inner 2
+    ∷ store_of (Continuation.FinishDyn (node_id 0)) CalleeWord.Absent ∷ cycle_of outer 3 ∷ []
 
 -- in one fragment, and in fragments of two rows, which held other numbers before
 unfoldable uncut : List Fragment
 uncut = record { calls = opening ++ reusing ++ closing; cells = replicate 196 9 } ∷ []
 
-unfoldable byTwo : List Fragment
-byTwo = record { calls = opening ++ reusing; cells = replicate 98 7 } ∷ record { calls = closing; cells = replicate 98 8 } ∷ []
+unfoldable by_two : List Fragment
+by_two = record { calls = opening ++ reusing; cells = replicate 98 7 } ∷ record { calls = closing; cells = replicate 98 8 } ∷ []
 
-run : Run profile outer 0 false 0 1 77 (cyclesOf queued uncut begin.at) []
-unfolding outer inner queued begin store_of cycleOf opening reusing closing uncut byTwo cyclesOf cyclesIn didStored didBy start_of finishOf nothingStored stored leftBy usedBy positionsAfter leftAfter inForceAfterAll inForceAfter nodeAt node_of isSlot block_of startedAt entry_at end_at batchAt isBatch wordAt Holds HasOperations isOneOf cell_at reduced readSystem readStack readState readCaptured Child endingOf
+run : Run profile outer 0 false 0 1 77 (cycles_of queued uncut begin.at) []
+unfolding outer inner queued begin store_of cycle_of opening reusing closing uncut by_two cycles_of cycles_in did_stored did_by start_of finish_of nothing_stored stored left_by used_by positions_after left_after in_force_after_all in_force_after node_at node_of is_slot block_of started_at entry_at end_at batch_at is_batch word_at Holds HasOperations is_one_of cell_at reduced read_system read_stack read_state read_captured Child ending_of
 run = Run.one dyn (_, refl) (Run.block (_, refl) (InBlock.ended (_, refl, refl) refl))
 
 -- THE SAME CELLS
 
 cut-uncut : Cut profile queued (opening ++ reusing ++ closing) 4 uncut begin
-unfolding outer inner queued begin store_of cycleOf opening reusing closing uncut byTwo AllAccepted Accepted callRefusal after afterAll finalState cycle cycleWith scanOf anyBigOpcode forestTooLarge anyLongBlock anyLargeBatch systemCells stackCells any_from profileWrong opcodes twoEqual isOneOf lacksBits fragmentWrong made startNode startKind startBlock startDyn madeEnd dynKind blockKind entryKind nodeAt node_of isSlot digestAt block_of startedAt entry_at end_at batchAt isBatch batchFlags flagsUpTo8 tracerAfter leftAfter storedIn fragmentAfter putRow rowCells decoderCells fresh builtSystem builtStack noSystem noStack lastSystem lastStack controlFlow basicBlockBatch wordAt cell_at reduced readSystem readStack readState readCaptured allCalls OneSize
+unfolding outer inner queued begin store_of cycle_of opening reusing closing uncut by_two AllAccepted Accepted call_refusal after after_all final_state cycle cycle_with scan_of any_big_opcode forest_too_large any_long_block any_large_batch system_cells stack_cells any_from profile_wrong opcodes two_equal is_one_of lacks_bits fragment_wrong made start_node start_kind start_block start_dyn made_end dyn_kind block_kind entry_kind node_at node_of is_slot digest_at block_of started_at entry_at end_at batch_at is_batch batch_flags flags_up_to8 tracer_after left_after stored_in fragment_after put_row row_cells decoder_cells fresh built_system built_stack no_system no_stack last_system last_stack control_flow basic_block_batch word_at cell_at reduced read_system read_stack read_state read_captured all_calls OneSize
 cut-uncut = record { calls_are = refl; accepted = ((refl, (refl, (refl, (refl, (refl, (refl, (refl, refl))))))), tt); one_size = tt }
 
-cut-two : Cut profile queued (opening ++ reusing ++ closing) 2 byTwo begin
-unfolding outer inner queued begin store_of cycleOf opening reusing closing uncut byTwo AllAccepted Accepted callRefusal after afterAll finalState cycle cycleWith scanOf anyBigOpcode forestTooLarge anyLongBlock anyLargeBatch systemCells stackCells any_from profileWrong opcodes twoEqual isOneOf lacksBits fragmentWrong made startNode startKind startBlock startDyn madeEnd dynKind blockKind entryKind nodeAt node_of isSlot digestAt block_of startedAt entry_at end_at batchAt isBatch batchFlags flagsUpTo8 tracerAfter leftAfter storedIn fragmentAfter putRow rowCells decoderCells fresh builtSystem builtStack noSystem noStack lastSystem lastStack controlFlow basicBlockBatch wordAt cell_at reduced readSystem readStack readState readCaptured allCalls OneSize finalStates countsOf forPasses
+cut-two : Cut profile queued (opening ++ reusing ++ closing) 2 by_two begin
+unfolding outer inner queued begin store_of cycle_of opening reusing closing uncut by_two AllAccepted Accepted call_refusal after after_all final_state cycle cycle_with scan_of any_big_opcode forest_too_large any_long_block any_large_batch system_cells stack_cells any_from profile_wrong opcodes two_equal is_one_of lacks_bits fragment_wrong made start_node start_kind start_block start_dyn made_end dyn_kind block_kind entry_kind node_at node_of is_slot digest_at block_of started_at entry_at end_at batch_at is_batch batch_flags flags_up_to8 tracer_after left_after stored_in fragment_after put_row row_cells decoder_cells fresh built_system built_stack no_system no_stack last_system last_stack control_flow basic_block_batch word_at cell_at reduced read_system read_stack read_state read_captured all_calls OneSize final_states counts_of for_passes
 cut-two = record {
   calls_are = refl;
   accepted = ((refl, (refl, (refl, refl))), ((refl, (refl, (refl, (refl, refl)))), tt));
@@ -116,83 +116,83 @@ cut-two = record {
 
 -- finished to six rows, with other numbers behind the fragments
 passes-uncut : FinisherPasses profile queued 4 uncut begin (replicate 98 5) (replicate 16 0) 6
-unfolding outer inner queued begin store_of cycleOf opening reusing closing uncut byTwo AllAccepted Accepted callRefusal after afterAll finalState cycle cycleWith scanOf anyBigOpcode forestTooLarge anyLongBlock anyLargeBatch systemCells stackCells any_from profileWrong opcodes twoEqual isOneOf lacksBits fragmentWrong made startNode startKind startBlock startDyn madeEnd dynKind blockKind entryKind nodeAt node_of isSlot digestAt block_of startedAt entry_at end_at batchAt isBatch batchFlags flagsUpTo8 tracerAfter leftAfter storedIn fragmentAfter putRow rowCells decoderCells fresh builtSystem builtStack noSystem noStack lastSystem lastStack controlFlow basicBlockBatch wordAt finalStates countsOf forPasses builtCells cells_of refusalAll first_of sum_of fragmentsWrong bufferWrong fewerRows anyAbove heightWrong notFull loopWithoutBody anyWithoutBody bodyEnds rows_of opcode_of low_bits flaggedEnd cell_at reduced readSystem readStack readState readCaptured
+unfolding outer inner queued begin store_of cycle_of opening reusing closing uncut by_two AllAccepted Accepted call_refusal after after_all final_state cycle cycle_with scan_of any_big_opcode forest_too_large any_long_block any_large_batch system_cells stack_cells any_from profile_wrong opcodes two_equal is_one_of lacks_bits fragment_wrong made start_node start_kind start_block start_dyn made_end dyn_kind block_kind entry_kind node_at node_of is_slot digest_at block_of started_at entry_at end_at batch_at is_batch batch_flags flags_up_to8 tracer_after left_after stored_in fragment_after put_row row_cells decoder_cells fresh built_system built_stack no_system no_stack last_system last_stack control_flow basic_block_batch word_at final_states counts_of for_passes built_cells cells_of refusal_all first_of sum_of fragments_wrong buffer_wrong fewer_rows any_above height_wrong not_full loop_without_body any_without_body body_ends rows_of opcode_of low_bits flagged_end cell_at reduced read_system read_stack read_state read_captured
 passes-uncut = refl
 
-passes-two : FinisherPasses profile queued 2 byTwo begin (replicate 147 6) (replicate 16 0) 6
-unfolding outer inner queued begin store_of cycleOf opening reusing closing uncut byTwo AllAccepted Accepted callRefusal after afterAll finalState cycle cycleWith scanOf anyBigOpcode forestTooLarge anyLongBlock anyLargeBatch systemCells stackCells any_from profileWrong opcodes twoEqual isOneOf lacksBits fragmentWrong made startNode startKind startBlock startDyn madeEnd dynKind blockKind entryKind nodeAt node_of isSlot digestAt block_of startedAt entry_at end_at batchAt isBatch batchFlags flagsUpTo8 tracerAfter leftAfter storedIn fragmentAfter putRow rowCells decoderCells fresh builtSystem builtStack noSystem noStack lastSystem lastStack controlFlow basicBlockBatch wordAt finalStates countsOf forPasses builtCells cells_of refusalAll first_of sum_of fragmentsWrong bufferWrong fewerRows anyAbove heightWrong notFull loopWithoutBody anyWithoutBody bodyEnds rows_of opcode_of low_bits flaggedEnd cell_at reduced readSystem readStack readState readCaptured
+passes-two : FinisherPasses profile queued 2 by_two begin (replicate 147 6) (replicate 16 0) 6
+unfolding outer inner queued begin store_of cycle_of opening reusing closing uncut by_two AllAccepted Accepted call_refusal after after_all final_state cycle cycle_with scan_of any_big_opcode forest_too_large any_long_block any_large_batch system_cells stack_cells any_from profile_wrong opcodes two_equal is_one_of lacks_bits fragment_wrong made start_node start_kind start_block start_dyn made_end dyn_kind block_kind entry_kind node_at node_of is_slot digest_at block_of started_at entry_at end_at batch_at is_batch batch_flags flags_up_to8 tracer_after left_after stored_in fragment_after put_row row_cells decoder_cells fresh built_system built_stack no_system no_stack last_system last_stack control_flow basic_block_batch word_at final_states counts_of for_passes built_cells cells_of refusal_all first_of sum_of fragments_wrong buffer_wrong fewer_rows any_above height_wrong not_full loop_without_body any_without_body body_ends rows_of opcode_of low_bits flagged_end cell_at reduced read_system read_stack read_state read_captured
 passes-two = refl
 
-same-files : writtenByFinisher profile queued 4 uncut begin (replicate 98 5) (replicate 16 0) 6 ≡ writtenByFinisher profile queued 2 byTwo begin (replicate 147 6) (replicate 16 0) 6
+same-files : written_by_finisher profile queued 4 uncut begin (replicate 98 5) (replicate 16 0) 6 ≡ written_by_finisher profile queued 2 by_two begin (replicate 147 6) (replicate 16 0) 6
 same-files =
-    same-written profile queued (opening ++ reusing ++ closing) 4 2 uncut byTwo begin cut-uncut cut-two (replicate 16 0) 6
-    (FinishedTo.of-finisher (replicate 98 5) passes-uncut) (FinishedTo.of-finisher (replicate 147 6) passes-two)
+    same-written profile queued (opening ++ reusing ++ closing) 4 2 uncut by_two begin cut-uncut cut-two (replicate 16 0) 6
+    (FinishedTo.of_finisher (replicate 98 5) passes-uncut) (FinishedTo.of_finisher (replicate 147 6) passes-two)
 
 -- by the five calls, and one by the finisher and one by them
 five-uncut : FivePass profile queued 4 uncut begin (replicate 98 5) (replicate 16 0) 6
-unfolding outer inner queued begin store_of cycleOf opening reusing closing uncut byTwo AllAccepted Accepted callRefusal after afterAll finalState cycle cycleWith scanOf anyBigOpcode forestTooLarge anyLongBlock anyLargeBatch systemCells stackCells any_from profileWrong opcodes twoEqual isOneOf lacksBits fragmentWrong made startNode startKind startBlock startDyn madeEnd dynKind blockKind entryKind nodeAt node_of isSlot digestAt block_of startedAt entry_at end_at batchAt isBatch batchFlags flagsUpTo8 tracerAfter leftAfter storedIn fragmentAfter putRow rowCells decoderCells fresh builtSystem builtStack noSystem noStack lastSystem lastStack controlFlow basicBlockBatch wordAt finalStates countsOf forPasses builtCells cells_of refusalAll first_of sum_of fragmentsWrong bufferWrong fewerRows anyAbove heightWrong notFull loopWithoutBody anyWithoutBody bodyEnds rows_of opcode_of low_bits flaggedEnd cell_at reduced readSystem readStack readState readCaptured buffer1 buffer2 buffer3 buffer4 refusal1 refusal2 refusal3 refusal4 refusal5 onRows flat fixedUp firstRow withSides laterRows builtOf multiplied withCounts inverted inverseOf euclid lastBuilt halted lastRow haltRow haltDecoder haltStack padded paddingRows paddingRow
+unfolding outer inner queued begin store_of cycle_of opening reusing closing uncut by_two AllAccepted Accepted call_refusal after after_all final_state cycle cycle_with scan_of any_big_opcode forest_too_large any_long_block any_large_batch system_cells stack_cells any_from profile_wrong opcodes two_equal is_one_of lacks_bits fragment_wrong made start_node start_kind start_block start_dyn made_end dyn_kind block_kind entry_kind node_at node_of is_slot digest_at block_of started_at entry_at end_at batch_at is_batch batch_flags flags_up_to8 tracer_after left_after stored_in fragment_after put_row row_cells decoder_cells fresh built_system built_stack no_system no_stack last_system last_stack control_flow basic_block_batch word_at final_states counts_of for_passes built_cells cells_of refusal_all first_of sum_of fragments_wrong buffer_wrong fewer_rows any_above height_wrong not_full loop_without_body any_without_body body_ends rows_of opcode_of low_bits flagged_end cell_at reduced read_system read_stack read_state read_captured buffer1 buffer2 buffer3 buffer4 refusal1 refusal2 refusal3 refusal4 refusal5 on_rows flat fixed_up first_row with_sides later_rows built_of multiplied with_counts inverted inverse_of euclid last_built halted last_row halt_row halt_decoder halt_stack padded padding_rows padding_row
 five-uncut = record { first = refl; second = refl; third = refl; fourth = refl; fifth = refl }
 
-five-two : FivePass profile queued 2 byTwo begin (replicate 147 6) (replicate 16 0) 6
-unfolding outer inner queued begin store_of cycleOf opening reusing closing uncut byTwo AllAccepted Accepted callRefusal after afterAll finalState cycle cycleWith scanOf anyBigOpcode forestTooLarge anyLongBlock anyLargeBatch systemCells stackCells any_from profileWrong opcodes twoEqual isOneOf lacksBits fragmentWrong made startNode startKind startBlock startDyn madeEnd dynKind blockKind entryKind nodeAt node_of isSlot digestAt block_of startedAt entry_at end_at batchAt isBatch batchFlags flagsUpTo8 tracerAfter leftAfter storedIn fragmentAfter putRow rowCells decoderCells fresh builtSystem builtStack noSystem noStack lastSystem lastStack controlFlow basicBlockBatch wordAt finalStates countsOf forPasses builtCells cells_of refusalAll first_of sum_of fragmentsWrong bufferWrong fewerRows anyAbove heightWrong notFull loopWithoutBody anyWithoutBody bodyEnds rows_of opcode_of low_bits flaggedEnd cell_at reduced readSystem readStack readState readCaptured buffer1 buffer2 buffer3 buffer4 refusal1 refusal2 refusal3 refusal4 refusal5 onRows flat fixedUp firstRow withSides laterRows builtOf multiplied withCounts inverted inverseOf euclid lastBuilt halted lastRow haltRow haltDecoder haltStack padded paddingRows paddingRow
+five-two : FivePass profile queued 2 by_two begin (replicate 147 6) (replicate 16 0) 6
+unfolding outer inner queued begin store_of cycle_of opening reusing closing uncut by_two AllAccepted Accepted call_refusal after after_all final_state cycle cycle_with scan_of any_big_opcode forest_too_large any_long_block any_large_batch system_cells stack_cells any_from profile_wrong opcodes two_equal is_one_of lacks_bits fragment_wrong made start_node start_kind start_block start_dyn made_end dyn_kind block_kind entry_kind node_at node_of is_slot digest_at block_of started_at entry_at end_at batch_at is_batch batch_flags flags_up_to8 tracer_after left_after stored_in fragment_after put_row row_cells decoder_cells fresh built_system built_stack no_system no_stack last_system last_stack control_flow basic_block_batch word_at final_states counts_of for_passes built_cells cells_of refusal_all first_of sum_of fragments_wrong buffer_wrong fewer_rows any_above height_wrong not_full loop_without_body any_without_body body_ends rows_of opcode_of low_bits flagged_end cell_at reduced read_system read_stack read_state read_captured buffer1 buffer2 buffer3 buffer4 refusal1 refusal2 refusal3 refusal4 refusal5 on_rows flat fixed_up first_row with_sides later_rows built_of multiplied with_counts inverted inverse_of euclid last_built halted last_row halt_row halt_decoder halt_stack padded padding_rows padding_row
 five-two = record { first = refl; second = refl; third = refl; fourth = refl; fifth = refl }
 
-same-files-five : writtenByFive profile queued 4 uncut begin (replicate 98 5) (replicate 16 0) 6 ≡ writtenByFive profile queued 2 byTwo begin (replicate 147 6) (replicate 16 0) 6
+same-files-five : written_by_five profile queued 4 uncut begin (replicate 98 5) (replicate 16 0) 6 ≡ written_by_five profile queued 2 by_two begin (replicate 147 6) (replicate 16 0) 6
 same-files-five =
-    same-written profile queued (opening ++ reusing ++ closing) 4 2 uncut byTwo begin cut-uncut cut-two (replicate 16 0) 6
-    (FinishedTo.of-five (replicate 98 5) five-uncut) (FinishedTo.of-five (replicate 147 6) five-two)
+    same-written profile queued (opening ++ reusing ++ closing) 4 2 uncut by_two begin cut-uncut cut-two (replicate 16 0) 6
+    (FinishedTo.of_five (replicate 98 5) five-uncut) (FinishedTo.of_five (replicate 147 6) five-two)
 
-same-files-mixed : writtenByFinisher profile queued 4 uncut begin (replicate 98 5) (replicate 16 0) 6 ≡ writtenByFive profile queued 2 byTwo begin (replicate 147 6) (replicate 16 0) 6
+same-files-mixed : written_by_finisher profile queued 4 uncut begin (replicate 98 5) (replicate 16 0) 6 ≡ written_by_five profile queued 2 by_two begin (replicate 147 6) (replicate 16 0) 6
 same-files-mixed =
-    same-written profile queued (opening ++ reusing ++ closing) 4 2 uncut byTwo begin cut-uncut cut-two (replicate 16 0) 6
-    (FinishedTo.of-finisher (replicate 98 5) passes-uncut) (FinishedTo.of-five (replicate 147 6) five-two)
+    same-written profile queued (opening ++ reusing ++ closing) 4 2 uncut by_two begin cut-uncut cut-two (replicate 16 0) 6
+    (FinishedTo.of_finisher (replicate 98 5) passes-uncut) (FinishedTo.of_five (replicate 147 6) five-two)
 
 -- with tallies, which hold other numbers in the two
 unfoldable lent : (tally : List ℕ) → Fragment → LiveFragment
 lent tally fragment = record { calls = map call fragment.calls; cells = fragment.cells; tally = tally }
 
-abbrev liveUncut : List LiveFragment
-liveUncut = map (lent (replicate 512 3)) uncut
+abbrev live_uncut : List LiveFragment
+live_uncut = map (lent (replicate 512 3)) uncut
 
-abbrev liveByTwo : List LiveFragment
-liveByTwo = map (lent (replicate 600 0)) byTwo
+abbrev live_by_two : List LiveFragment
+live_by_two = map (lent (replicate 600 0)) by_two
 
-live-cut-uncut : LiveCut profile queued (opening ++ reusing ++ closing) 4 liveUncut begin
-unfolding outer inner queued begin store_of cycleOf opening reusing closing uncut byTwo finalState cycleWith scanOf anyBigOpcode forestTooLarge anyLongBlock anyLargeBatch systemCells stackCells any_from profileWrong opcodes twoEqual isOneOf lacksBits fragmentWrong made startNode startKind startBlock startDyn madeEnd dynKind blockKind entryKind nodeAt node_of isSlot digestAt block_of startedAt entry_at end_at batchAt isBatch batchFlags flagsUpTo8 tracerAfter leftAfter storedIn fragmentAfter putRow rowCells decoderCells fresh builtSystem builtStack noSystem noStack lastSystem lastStack controlFlow basicBlockBatch wordAt cell_at reduced readSystem readStack readState readCaptured allCalls OneSize liveRefusal live_after liveAfterAll LiveAccepted AllLiveAccepted talliedCycle unlessFull tallyAfter countsNext bufferRow opcode_of low_bits flaggedEnd lent plainAll plainCalls liveEnds liveFinals
+live-cut-uncut : LiveCut profile queued (opening ++ reusing ++ closing) 4 live_uncut begin
+unfolding outer inner queued begin store_of cycle_of opening reusing closing uncut by_two final_state cycle_with scan_of any_big_opcode forest_too_large any_long_block any_large_batch system_cells stack_cells any_from profile_wrong opcodes two_equal is_one_of lacks_bits fragment_wrong made start_node start_kind start_block start_dyn made_end dyn_kind block_kind entry_kind node_at node_of is_slot digest_at block_of started_at entry_at end_at batch_at is_batch batch_flags flags_up_to8 tracer_after left_after stored_in fragment_after put_row row_cells decoder_cells fresh built_system built_stack no_system no_stack last_system last_stack control_flow basic_block_batch word_at cell_at reduced read_system read_stack read_state read_captured all_calls OneSize live_refusal live_after live_after_all LiveAccepted AllLiveAccepted tallied_cycle unless_full tally_after counts_next buffer_row opcode_of low_bits flagged_end lent plain_all plain_calls live_ends live_finals
 live-cut-uncut = record { calls_are = refl; accepted = ((refl, (refl, (refl, (refl, (refl, (refl, (refl, refl))))))), tt); one_size = tt }
 
-live-cut-two : LiveCut profile queued (opening ++ reusing ++ closing) 2 liveByTwo begin
-unfolding outer inner queued begin store_of cycleOf opening reusing closing uncut byTwo finalState cycleWith scanOf anyBigOpcode forestTooLarge anyLongBlock anyLargeBatch systemCells stackCells any_from profileWrong opcodes twoEqual isOneOf lacksBits fragmentWrong made startNode startKind startBlock startDyn madeEnd dynKind blockKind entryKind nodeAt node_of isSlot digestAt block_of startedAt entry_at end_at batchAt isBatch batchFlags flagsUpTo8 tracerAfter leftAfter storedIn fragmentAfter putRow rowCells decoderCells fresh builtSystem builtStack noSystem noStack lastSystem lastStack controlFlow basicBlockBatch wordAt cell_at reduced readSystem readStack readState readCaptured allCalls OneSize liveRefusal live_after liveAfterAll LiveAccepted AllLiveAccepted talliedCycle unlessFull tallyAfter countsNext bufferRow opcode_of low_bits flaggedEnd lent plainAll plainCalls liveEnds liveFinals countsOf forPasses
+live-cut-two : LiveCut profile queued (opening ++ reusing ++ closing) 2 live_by_two begin
+unfolding outer inner queued begin store_of cycle_of opening reusing closing uncut by_two final_state cycle_with scan_of any_big_opcode forest_too_large any_long_block any_large_batch system_cells stack_cells any_from profile_wrong opcodes two_equal is_one_of lacks_bits fragment_wrong made start_node start_kind start_block start_dyn made_end dyn_kind block_kind entry_kind node_at node_of is_slot digest_at block_of started_at entry_at end_at batch_at is_batch batch_flags flags_up_to8 tracer_after left_after stored_in fragment_after put_row row_cells decoder_cells fresh built_system built_stack no_system no_stack last_system last_stack control_flow basic_block_batch word_at cell_at reduced read_system read_stack read_state read_captured all_calls OneSize live_refusal live_after live_after_all LiveAccepted AllLiveAccepted tallied_cycle unless_full tally_after counts_next buffer_row opcode_of low_bits flagged_end lent plain_all plain_calls live_ends live_finals counts_of for_passes
 live-cut-two = record {
   calls_are = refl;
   accepted = ((refl, (refl, (refl, refl))), ((refl, (refl, (refl, (refl, refl)))), tt));
   one_size = (refl, refl, tt);
 }
 
-live-passes-uncut : LiveFinisherPasses profile queued 4 liveUncut begin (replicate 98 5) (replicate 16 0) 6
-unfolding outer inner queued begin store_of cycleOf opening reusing closing uncut byTwo finalState cycleWith scanOf anyBigOpcode forestTooLarge anyLongBlock anyLargeBatch systemCells stackCells any_from profileWrong opcodes twoEqual isOneOf lacksBits fragmentWrong made startNode startKind startBlock startDyn madeEnd dynKind blockKind entryKind nodeAt node_of isSlot digestAt block_of startedAt entry_at end_at batchAt isBatch batchFlags flagsUpTo8 tracerAfter leftAfter storedIn fragmentAfter putRow rowCells decoderCells fresh builtSystem builtStack noSystem noStack lastSystem lastStack controlFlow basicBlockBatch wordAt countsOf forPasses builtCells refusalAll first_of sum_of fragmentsWrong bufferWrong fewerRows anyAbove heightWrong notFull loopWithoutBody anyWithoutBody bodyEnds rows_of opcode_of low_bits flaggedEnd cell_at reduced readSystem readStack readState readCaptured liveRefusal live_after liveAfterAll LiveAccepted AllLiveAccepted talliedCycle unlessFull tallyAfter countsNext bufferRow lent liveEnds liveFinals liveCells
+live-passes-uncut : LiveFinisherPasses profile queued 4 live_uncut begin (replicate 98 5) (replicate 16 0) 6
+unfolding outer inner queued begin store_of cycle_of opening reusing closing uncut by_two final_state cycle_with scan_of any_big_opcode forest_too_large any_long_block any_large_batch system_cells stack_cells any_from profile_wrong opcodes two_equal is_one_of lacks_bits fragment_wrong made start_node start_kind start_block start_dyn made_end dyn_kind block_kind entry_kind node_at node_of is_slot digest_at block_of started_at entry_at end_at batch_at is_batch batch_flags flags_up_to8 tracer_after left_after stored_in fragment_after put_row row_cells decoder_cells fresh built_system built_stack no_system no_stack last_system last_stack control_flow basic_block_batch word_at counts_of for_passes built_cells refusal_all first_of sum_of fragments_wrong buffer_wrong fewer_rows any_above height_wrong not_full loop_without_body any_without_body body_ends rows_of opcode_of low_bits flagged_end cell_at reduced read_system read_stack read_state read_captured live_refusal live_after live_after_all LiveAccepted AllLiveAccepted tallied_cycle unless_full tally_after counts_next buffer_row lent live_ends live_finals live_cells
 live-passes-uncut = refl
 
-live-five-two : LiveFivePass profile queued 2 liveByTwo begin (replicate 147 6) (replicate 16 0) 6
-unfolding outer inner queued begin store_of cycleOf opening reusing closing uncut byTwo finalState cycleWith scanOf anyBigOpcode forestTooLarge anyLongBlock anyLargeBatch systemCells stackCells any_from profileWrong opcodes twoEqual isOneOf lacksBits fragmentWrong made startNode startKind startBlock startDyn madeEnd dynKind blockKind entryKind nodeAt node_of isSlot digestAt block_of startedAt entry_at end_at batchAt isBatch batchFlags flagsUpTo8 tracerAfter leftAfter storedIn fragmentAfter putRow rowCells decoderCells fresh builtSystem builtStack noSystem noStack lastSystem lastStack controlFlow basicBlockBatch wordAt countsOf forPasses builtCells refusalAll first_of sum_of fragmentsWrong bufferWrong fewerRows anyAbove heightWrong notFull loopWithoutBody anyWithoutBody bodyEnds rows_of opcode_of low_bits flaggedEnd cell_at reduced readSystem readStack readState readCaptured buffer1 buffer2 buffer3 buffer4 refusal1 refusal2 refusal3 refusal4 refusal5 onRows flat fixedUp firstRow withSides laterRows builtOf multiplied withCounts inverted inverseOf euclid lastBuilt halted lastRow haltRow haltDecoder haltStack padded paddingRows paddingRow liveRefusal live_after liveAfterAll LiveAccepted AllLiveAccepted talliedCycle unlessFull tallyAfter countsNext bufferRow lent liveEnds liveFinals liveCells
+live-five-two : LiveFivePass profile queued 2 live_by_two begin (replicate 147 6) (replicate 16 0) 6
+unfolding outer inner queued begin store_of cycle_of opening reusing closing uncut by_two final_state cycle_with scan_of any_big_opcode forest_too_large any_long_block any_large_batch system_cells stack_cells any_from profile_wrong opcodes two_equal is_one_of lacks_bits fragment_wrong made start_node start_kind start_block start_dyn made_end dyn_kind block_kind entry_kind node_at node_of is_slot digest_at block_of started_at entry_at end_at batch_at is_batch batch_flags flags_up_to8 tracer_after left_after stored_in fragment_after put_row row_cells decoder_cells fresh built_system built_stack no_system no_stack last_system last_stack control_flow basic_block_batch word_at counts_of for_passes built_cells refusal_all first_of sum_of fragments_wrong buffer_wrong fewer_rows any_above height_wrong not_full loop_without_body any_without_body body_ends rows_of opcode_of low_bits flagged_end cell_at reduced read_system read_stack read_state read_captured buffer1 buffer2 buffer3 buffer4 refusal1 refusal2 refusal3 refusal4 refusal5 on_rows flat fixed_up first_row with_sides later_rows built_of multiplied with_counts inverted inverse_of euclid last_built halted last_row halt_row halt_decoder halt_stack padded padding_rows padding_row live_refusal live_after live_after_all LiveAccepted AllLiveAccepted tallied_cycle unless_full tally_after counts_next buffer_row lent live_ends live_finals live_cells
 live-five-two = record { first = refl; second = refl; third = refl; fourth = refl; fifth = refl }
 
-live-same-files : liveByFinisher profile queued 4 liveUncut begin (replicate 98 5) (replicate 16 0) 6 ≡ liveByFive profile queued 2 liveByTwo begin (replicate 147 6) (replicate 16 0) 6
+live-same-files : live_by_finisher profile queued 4 live_uncut begin (replicate 98 5) (replicate 16 0) 6 ≡ live_by_five profile queued 2 live_by_two begin (replicate 147 6) (replicate 16 0) 6
 live-same-files =
-    same-written profile queued (opening ++ reusing ++ closing) 4 2 (plainAll liveUncut) (plainAll liveByTwo) begin
-    (plain-cut profile queued 4 liveUncut begin _ live-cut-uncut) (plain-cut profile queued 2 liveByTwo begin _ live-cut-two) (replicate 16 0) 6
-    (plain-written profile queued 4 liveUncut begin live-cut-uncut.accepted (replicate 16 0) 6 _ (FinishedTo.of-finisher (replicate 98 5) live-passes-uncut))
-    (plain-written profile queued 2 liveByTwo begin live-cut-two.accepted (replicate 16 0) 6 _ (FinishedTo.of-five (replicate 147 6) live-five-two))
+    same-written profile queued (opening ++ reusing ++ closing) 4 2 (plain_all live_uncut) (plain_all live_by_two) begin
+    (plain-cut profile queued 4 live_uncut begin _ live-cut-uncut) (plain-cut profile queued 2 live_by_two begin _ live-cut-two) (replicate 16 0) 6
+    (plain-written profile queued 4 live_uncut begin live-cut-uncut.accepted (replicate 16 0) 6 _ (FinishedTo.of_finisher (replicate 98 5) live-passes-uncut))
+    (plain-written profile queued 2 live_by_two begin live-cut-two.accepted (replicate 16 0) 6 _ (FinishedTo.of_five (replicate 147 6) live-five-two))
 
 -- 23
 
 -- in fragments of one row the second fragment has the second cycle alone
-unfoldable onlyFirst : Fragment
-onlyFirst = record { calls = opening; cells = replicate 49 9 }
+unfoldable only_first : Fragment
+only_first = record { calls = opening; cells = replicate 49 9 }
 
-unfoldable onlySecond : Fragment
-onlySecond = record { calls = reusing; cells = replicate 49 9 }
+unfoldable only_second : Fragment
+only_second = record { calls = reusing; cells = replicate 49 9 }
 
-singles-refused : callRefusal profile queued (opened profile queued (cursorOf profile queued (closed profile queued begin onlyFirst)) onlySecond) (cycleOf inner 1) ≡ 23
-unfolding cycleOf
-singles-refused = first-cycle-refused profile queued (cursorOf profile queued (closed profile queued begin onlyFirst)) onlySecond _
+singles-refused : call_refusal profile queued (opened profile queued (cursor_of profile queued (closed profile queued begin only_first)) only_second) (cycle_of inner 1) ≡ 23
+unfolding cycle_of
+singles-refused = first-cycle-refused profile queued (cursor_of profile queued (closed profile queued begin only_first)) only_second _

@@ -7,48 +7,48 @@ use mathlib.Core.List.{List, [], ◌∷◌}
 use Prim.Native.Nat.{ℕ}
 use native.Mathlib.Omega.{arith}
 use lib.ListN.{replicate}
-use Rattle.field.specs.Inverse.{euclid, inverseOf}
+use Rattle.field.specs.Inverse.{euclid, inverse_of}
 use Rattle.field.specs.Cells.{cell_at, reduced}
-use Rattle.groups.specs.Words.{wordAt}
-use Rattle.groups.specs.Batches.{isBatch, batchAt, startsAt, lentBatches}
-use Rattle.groups.specs.Flags.{flagsUpTo8, batchFlags}
-use Rattle.groups.specs.GroupOfOperation.{falling, place_in, groupFrom, group_of}
-use Rattle.groups.specs.GroupsLeft.{counts, doubled, round_up, groupsOf, sumGroups, anyAbove8, groupSum, pushes}
-use Rattle.groups.specs.Contexts.{tooLarge, consumed, opContext, contextInGroup, contextAtOp, contextAtBatchStart}
-use Rattle.groups.specs.Helpers.{all_below, readRegisters, u32Values, helpersOf, helpersOfCells, helpersAnswer}
+use Rattle.groups.specs.Words.{word_at}
+use Rattle.groups.specs.Batches.{is_batch, batch_at, starts_at, lent_batches}
+use Rattle.groups.specs.Flags.{flags_up_to8, batch_flags}
+use Rattle.groups.specs.GroupOfOperation.{falling, place_in, group_from, group_of}
+use Rattle.groups.specs.GroupsLeft.{counts, doubled, round_up, groups_of, sum_groups, any_above8, group_sum, pushes}
+use Rattle.groups.specs.Contexts.{too_large, consumed, op_context, context_in_group, context_at_op, context_at_batch_start}
+use Rattle.groups.specs.Helpers.{all_below, read_registers, u32_values, helpers_of, helpers_of_cells, helpers_answer}
 use Rattle.groups.specs.declared.helpers.OperationHelperRegisters.{OperationHelperRegisters}
 use Rattle.rows.specs.declared.records.continuation.Continuation.{Continuation}
 use Rattle.rows.specs.declared.records.continuation.LoopCondition.{LoopCondition}
 use Rattle.rows.specs.declared.records.continuation.CalleeWord.{CalleeWord}
 use Rattle.rows.specs.declared.records.continuation.ContextInfo.{ContextInfo}
 use Rattle.field.specs.Bounds.{any_from}
-use Rattle.rows.specs.records.Profiles.{opcodes, isOneOf, twoEqual, lacksBits, profileWrong}
-use Rattle.rows.specs.records.Forests.{Forest, isSlot, nodeId, slotBlock, node_of, nodeAt, digestAt, opcodeAt, block_of}
-use Rattle.rows.specs.records.Addresses.{Queues, entry_at, startedAt, end_at, respanStep, readState}
-use Rattle.rows.specs.records.Captured.{readCaptured}
-use Rattle.rows.specs.records.DecoderRows.{controlFlow, basicBlockBatch, operation, decoderCells}
-use Rattle.rows.specs.records.Built.{builtSystem, builtStack, noSystem, noStack, systemCells, stackCells, readSystem, readStack}
-use Rattle.rows.specs.cycles.Made.{Cursor, startBlock, startTwo, startOne, startDyn, startDyncall, startKind, startNode, callKind, dynKind, blockKind, entryKind, madeEnd, body_of, madeRepeat, finishLoop, operationMade, resumed, madeRespan, made}
-use Rattle.rows.specs.records.Cells.{rowCells, putRow}
-use Rattle.rows.specs.cycles.Scans.{anyBigOpcode, anyLongBlock, anyLargeBatch, forestTooLarge, scanOf}
-use Rattle.rows.specs.records.Cells.{fragmentWrong}
-use Rattle.rows.specs.cycles.Cycles.{fresh, storedIn, cycleWith, cycle, leftAfter, tracerAfter, lastSystem, lastStack, fragmentAfter, finalState, forPasses}
-use Rattle.rows.specs.records.Buffers.{rows_of, flat, onRows, lastRow, addr_of, low_bits, opcode_of, bufferWrong, fewerRows}
-use Rattle.rows.specs.passes.Passes.{withSides, firstRow, laterRows, fixedUp, builtOf, flaggedEnd, bodyEnds, withCounts, anyWithoutBody, multiplied, loopWithoutBody, inverted, haltDecoder, haltStack, haltRow, halted, paddingRow, paddingRows, padded, sum_of, anyAbove, notFull, fragmentsWrong, heightWrong, refusalAll, lastBuilt, allPasses}
+use Rattle.rows.specs.records.Profiles.{opcodes, is_one_of, two_equal, lacks_bits, profile_wrong}
+use Rattle.rows.specs.records.Forests.{Forest, is_slot, node_id, slot_block, node_of, node_at, digest_at, opcode_at, block_of}
+use Rattle.rows.specs.records.Addresses.{Queues, entry_at, started_at, end_at, respan_step, read_state}
+use Rattle.rows.specs.records.Captured.{read_captured}
+use Rattle.rows.specs.records.DecoderRows.{control_flow, basic_block_batch, operation, decoder_cells}
+use Rattle.rows.specs.records.Built.{built_system, built_stack, no_system, no_stack, system_cells, stack_cells, read_system, read_stack}
+use Rattle.rows.specs.cycles.Made.{Cursor, start_block, start_two, start_one, start_dyn, start_dyncall, start_kind, start_node, call_kind, dyn_kind, block_kind, entry_kind, made_end, body_of, made_repeat, finish_loop, operation_made, resumed, made_respan, made}
+use Rattle.rows.specs.records.Cells.{row_cells, put_row}
+use Rattle.rows.specs.cycles.Scans.{any_big_opcode, any_long_block, any_large_batch, forest_too_large, scan_of}
+use Rattle.rows.specs.records.Cells.{fragment_wrong}
+use Rattle.rows.specs.cycles.Cycles.{fresh, stored_in, cycle_with, cycle, left_after, tracer_after, last_system, last_stack, fragment_after, final_state, for_passes}
+use Rattle.rows.specs.records.Buffers.{rows_of, flat, on_rows, last_row, addr_of, low_bits, opcode_of, buffer_wrong, fewer_rows}
+use Rattle.rows.specs.passes.Passes.{with_sides, first_row, later_rows, fixed_up, built_of, flagged_end, body_ends, with_counts, any_without_body, multiplied, loop_without_body, inverted, halt_decoder, halt_stack, halt_row, halted, padding_row, padding_rows, padded, sum_of, any_above, not_full, fragments_wrong, height_wrong, refusal_all, last_built, all_passes}
 use Rattle.groups.specs.Answer.{first_of}
-use Rattle.theory_readings.specs.Tokens.{OneChild, controls, controlOpcodes, isOpOpcode, count_of}
+use Rattle.theory_readings.specs.Tokens.{OneChild, controls, control_opcodes, is_op_opcode, count_of}
 use Rattle.theory_readings.specs.Readings.{Ops, Block, Passes, depth_of, all_rows, Trace}
 use Rattle.theory_readings.proofs.Examples.{profile}
-use Rattle.theory_runs.specs.Calls.{Call, store, finish, Fragment, after, callRefusal, afterAll, Accepted, AllAccepted, finalStates, cells_of, countsOf, builtCells, OneSize}
-use Rattle.theory_runs.specs.Happened.{nothingStored, start_of, operationAt, finishOf, didBy, didStored, usedBy, positionsAfter, stored, leftBy, inForceAfter, inForceAfterAll, cyclesIn, cyclesOf}
-use Rattle.theory_runs.specs.ProperRuns.{Holds, HasOperations, HasOpcode, Child, withLoop, loopStarts, endingOf, InBlock, Run, RunPasses, opsFrom, treeFrom}
-use Rattle.theory_runs.specs.Overflow.{b0Cell, helperCell}
-use Rattle.theory_runs.specs.Finished.{Runs, nesting, finisherBuffer, writtenByFinisher, FinisherPasses}
+use Rattle.theory_runs.specs.Calls.{Call, store, finish, Fragment, after, call_refusal, after_all, Accepted, AllAccepted, final_states, cells_of, counts_of, built_cells, OneSize}
+use Rattle.theory_runs.specs.Happened.{nothing_stored, start_of, operation_at, finish_of, did_by, did_stored, used_by, positions_after, stored, left_by, in_force_after, in_force_after_all, cycles_in, cycles_of}
+use Rattle.theory_runs.specs.ProperRuns.{Holds, HasOperations, HasOpcode, Child, with_loop, loop_starts, ending_of, InBlock, Run, RunPasses, ops_from, tree_from}
+use Rattle.theory_runs.specs.Overflow.{b0_cell, helper_cell}
+use Rattle.theory_runs.specs.Finished.{Runs, nesting, finisher_buffer, written_by_finisher, FinisherPasses}
 use Rattle.theory_runs.proofs.TraceOfRun.{finisher-trace}
 
 -- 0 Join of 1 and 2; 1 Split of 3 and 7; 2 Loop of 5; 3 Call of 4; 4 a block of two batches; 5 Call of 6; 6 Dyn; 7 a digest alone
-unfoldable forestA : Forest
-forestA = record {
+unfoldable forest_a : Forest
+forest_a = record {
   nodes =
       3 ∷ 1 ∷ 2 ∷ 0 ∷ 0 ∷ 0
       ∷ 4 ∷ 3 ∷ 7 ∷ 0 ∷ 0 ∷ 0
@@ -78,8 +78,8 @@ forestA = record {
 }
 
 -- 0 Dyncall; 1 a block with a PUSH
-unfoldable forestB : Forest
-forestB = record {
+unfoldable forest_b : Forest
+forest_b = record {
   nodes = 9 ∷ 0 ∷ 0 ∷ 0 ∷ 0 ∷ 0 ∷ 2 ∷ 0 ∷ 0 ∷ 2 ∷ 0 ∷ 1 ∷ [];
   digests = 200 ∷ 201 ∷ 202 ∷ 203 ∷ 204 ∷ 205 ∷ 206 ∷ 207 ∷ [];
   batches = 2 ∷ 0 ∷ 1 ∷ 1 ∷ 1 ∷ 1 ∷ 1 ∷ 1 ∷ 1 ∷ 1 ∷ 1 ∷ 0 ∷ [];
@@ -106,8 +106,8 @@ unfoldable store_of : Continuation → Bool → LoopCondition → CalleeWord →
 store_of continuation flag condition callee info =
     store (record { continuation = continuation; is_loop_body = flag; captured = record { finish_loop_condition = condition; dyn_callee_hash = callee; ctx_info = info } })
 
-unfoldable cycleOf : Forest → (n : ℕ) → Call
-cycleOf f n = finish (record {
+unfoldable cycle_of : Forest → (n : ℕ) → Call
+cycle_of f n = finish (record {
   forest = f;
   system = record { clk = record { 0 = n }; ctx = record { 0 = 0 }; fn_hash = (0, 0, 0, 0) };
   stack = record { stack_top = replicate 16 0; stack_depth = 18; overflow_addr = 3 };
@@ -122,56 +122,56 @@ info = ContextInfo.Is (record { stack_depth = 20; next_overflow_addr = 7 })
 
 unfoldable part1 : List Call
 part1 =
-    store_of (Continuation.StartNode (nodeId 0)) false LoopCondition.Absent CalleeWord.Absent ContextInfo.Absent ∷ cycleOf forestA 0
-    ∷ store_of (Continuation.StartNode (nodeId 1)) false LoopCondition.Absent CalleeWord.Absent ContextInfo.Absent ∷ cycleOf forestA 1
-    ∷ store_of (Continuation.StartNode (nodeId 3)) false LoopCondition.Absent CalleeWord.Absent ContextInfo.Absent ∷ cycleOf forestA 2
-    ∷ store_of (Continuation.StartNode (nodeId 4)) false LoopCondition.Absent CalleeWord.Absent ContextInfo.Absent ∷ cycleOf forestA 3
-    ∷ store_of (Continuation.ResumeBasicBlock (nodeId 4) 0 0) false LoopCondition.Absent CalleeWord.Absent ContextInfo.Absent ∷ cycleOf forestA 4 ∷ []
+    store_of (Continuation.StartNode (node_id 0)) false LoopCondition.Absent CalleeWord.Absent ContextInfo.Absent ∷ cycle_of forest_a 0
+    ∷ store_of (Continuation.StartNode (node_id 1)) false LoopCondition.Absent CalleeWord.Absent ContextInfo.Absent ∷ cycle_of forest_a 1
+    ∷ store_of (Continuation.StartNode (node_id 3)) false LoopCondition.Absent CalleeWord.Absent ContextInfo.Absent ∷ cycle_of forest_a 2
+    ∷ store_of (Continuation.StartNode (node_id 4)) false LoopCondition.Absent CalleeWord.Absent ContextInfo.Absent ∷ cycle_of forest_a 3
+    ∷ store_of (Continuation.ResumeBasicBlock (node_id 4) 0 0) false LoopCondition.Absent CalleeWord.Absent ContextInfo.Absent ∷ cycle_of forest_a 4 ∷ []
 
 unfoldable part2 : List Call
 part2 =
-    store_of (Continuation.Respan (nodeId 4) 1) false LoopCondition.Absent CalleeWord.Absent ContextInfo.Absent ∷ cycleOf forestA 5
-    ∷ store_of (Continuation.ResumeBasicBlock (nodeId 4) 1 0) false LoopCondition.Absent CalleeWord.Absent ContextInfo.Absent ∷ cycleOf forestA 6
-    ∷ store_of (Continuation.FinishBasicBlock (nodeId 4)) false LoopCondition.Absent CalleeWord.Absent ContextInfo.Absent ∷ cycleOf forestA 7
-    ∷ store_of (Continuation.FinishCall (nodeId 3)) false LoopCondition.Absent CalleeWord.Absent ContextInfo.Absent ∷ cycleOf forestA 8
-    ∷ store_of (Continuation.FinishSplit (nodeId 1)) false LoopCondition.Absent CalleeWord.Absent ContextInfo.Absent ∷ cycleOf forestA 9 ∷ []
+    store_of (Continuation.Respan (node_id 4) 1) false LoopCondition.Absent CalleeWord.Absent ContextInfo.Absent ∷ cycle_of forest_a 5
+    ∷ store_of (Continuation.ResumeBasicBlock (node_id 4) 1 0) false LoopCondition.Absent CalleeWord.Absent ContextInfo.Absent ∷ cycle_of forest_a 6
+    ∷ store_of (Continuation.FinishBasicBlock (node_id 4)) false LoopCondition.Absent CalleeWord.Absent ContextInfo.Absent ∷ cycle_of forest_a 7
+    ∷ store_of (Continuation.FinishCall (node_id 3)) false LoopCondition.Absent CalleeWord.Absent ContextInfo.Absent ∷ cycle_of forest_a 8
+    ∷ store_of (Continuation.FinishSplit (node_id 1)) false LoopCondition.Absent CalleeWord.Absent ContextInfo.Absent ∷ cycle_of forest_a 9 ∷ []
 
 unfoldable part3 : List Call
 part3 =
-    store_of (Continuation.StartNode (nodeId 2)) false LoopCondition.Absent CalleeWord.Absent ContextInfo.Absent ∷ cycleOf forestA 10
-    ∷ store_of (Continuation.StartNode (nodeId 5)) false LoopCondition.Absent CalleeWord.Absent ContextInfo.Absent ∷ cycleOf forestA 11
-    ∷ store_of (Continuation.StartNode (nodeId 6)) false LoopCondition.Absent word ContextInfo.Absent ∷ cycleOf forestA 12
-    ∷ store_of (Continuation.StartNode (nodeId 0)) false LoopCondition.Absent word info ∷ cycleOf forestB 13
-    ∷ store_of (Continuation.StartNode (nodeId 1)) false LoopCondition.Absent CalleeWord.Absent ContextInfo.Absent ∷ cycleOf forestB 14 ∷ []
+    store_of (Continuation.StartNode (node_id 2)) false LoopCondition.Absent CalleeWord.Absent ContextInfo.Absent ∷ cycle_of forest_a 10
+    ∷ store_of (Continuation.StartNode (node_id 5)) false LoopCondition.Absent CalleeWord.Absent ContextInfo.Absent ∷ cycle_of forest_a 11
+    ∷ store_of (Continuation.StartNode (node_id 6)) false LoopCondition.Absent word ContextInfo.Absent ∷ cycle_of forest_a 12
+    ∷ store_of (Continuation.StartNode (node_id 0)) false LoopCondition.Absent word info ∷ cycle_of forest_b 13
+    ∷ store_of (Continuation.StartNode (node_id 1)) false LoopCondition.Absent CalleeWord.Absent ContextInfo.Absent ∷ cycle_of forest_b 14 ∷ []
 
 unfoldable part4 : List Call
 part4 =
-    store_of (Continuation.ResumeBasicBlock (nodeId 1) 0 0) false LoopCondition.Absent CalleeWord.Absent ContextInfo.Absent ∷ cycleOf forestB 15
-    ∷ store_of (Continuation.FinishBasicBlock (nodeId 1)) false LoopCondition.Absent CalleeWord.Absent ContextInfo.Absent ∷ cycleOf forestB 16
-    ∷ store_of (Continuation.FinishDyn (nodeId 0)) false LoopCondition.Absent CalleeWord.Absent ContextInfo.Absent ∷ cycleOf forestB 17
-    ∷ store_of (Continuation.FinishDyn (nodeId 6)) false LoopCondition.Absent CalleeWord.Absent ContextInfo.Absent ∷ cycleOf forestA 18
-    ∷ store_of (Continuation.FinishCall (nodeId 5)) true LoopCondition.Absent CalleeWord.Absent ContextInfo.Absent ∷ cycleOf forestA 19 ∷ []
+    store_of (Continuation.ResumeBasicBlock (node_id 1) 0 0) false LoopCondition.Absent CalleeWord.Absent ContextInfo.Absent ∷ cycle_of forest_b 15
+    ∷ store_of (Continuation.FinishBasicBlock (node_id 1)) false LoopCondition.Absent CalleeWord.Absent ContextInfo.Absent ∷ cycle_of forest_b 16
+    ∷ store_of (Continuation.FinishDyn (node_id 0)) false LoopCondition.Absent CalleeWord.Absent ContextInfo.Absent ∷ cycle_of forest_b 17
+    ∷ store_of (Continuation.FinishDyn (node_id 6)) false LoopCondition.Absent CalleeWord.Absent ContextInfo.Absent ∷ cycle_of forest_a 18
+    ∷ store_of (Continuation.FinishCall (node_id 5)) true LoopCondition.Absent CalleeWord.Absent ContextInfo.Absent ∷ cycle_of forest_a 19 ∷ []
 
 unfoldable part5 : List Call
 part5 =
-    store_of (Continuation.FinishLoop (nodeId 2)) false (LoopCondition.Is true) CalleeWord.Absent ContextInfo.Absent ∷ cycleOf forestA 20
-    ∷ store_of (Continuation.StartNode (nodeId 5)) false LoopCondition.Absent CalleeWord.Absent ContextInfo.Absent ∷ cycleOf forestA 21
-    ∷ store_of (Continuation.StartNode (nodeId 6)) false LoopCondition.Absent word ContextInfo.Absent ∷ cycleOf forestA 22
-    ∷ store_of (Continuation.StartNode (nodeId 0)) false LoopCondition.Absent word info ∷ cycleOf forestB 23
-    ∷ store_of (Continuation.StartNode (nodeId 1)) false LoopCondition.Absent CalleeWord.Absent ContextInfo.Absent ∷ cycleOf forestB 24 ∷ []
+    store_of (Continuation.FinishLoop (node_id 2)) false (LoopCondition.Is true) CalleeWord.Absent ContextInfo.Absent ∷ cycle_of forest_a 20
+    ∷ store_of (Continuation.StartNode (node_id 5)) false LoopCondition.Absent CalleeWord.Absent ContextInfo.Absent ∷ cycle_of forest_a 21
+    ∷ store_of (Continuation.StartNode (node_id 6)) false LoopCondition.Absent word ContextInfo.Absent ∷ cycle_of forest_a 22
+    ∷ store_of (Continuation.StartNode (node_id 0)) false LoopCondition.Absent word info ∷ cycle_of forest_b 23
+    ∷ store_of (Continuation.StartNode (node_id 1)) false LoopCondition.Absent CalleeWord.Absent ContextInfo.Absent ∷ cycle_of forest_b 24 ∷ []
 
 unfoldable part6 : List Call
 part6 =
-    store_of (Continuation.ResumeBasicBlock (nodeId 1) 0 0) false LoopCondition.Absent CalleeWord.Absent ContextInfo.Absent ∷ cycleOf forestB 25
-    ∷ store_of (Continuation.FinishBasicBlock (nodeId 1)) false LoopCondition.Absent CalleeWord.Absent ContextInfo.Absent ∷ cycleOf forestB 26
-    ∷ store_of (Continuation.FinishDyn (nodeId 0)) false LoopCondition.Absent CalleeWord.Absent ContextInfo.Absent ∷ cycleOf forestB 27
-    ∷ store_of (Continuation.FinishDyn (nodeId 6)) false LoopCondition.Absent CalleeWord.Absent ContextInfo.Absent ∷ cycleOf forestA 28
-    ∷ store_of (Continuation.FinishCall (nodeId 5)) true LoopCondition.Absent CalleeWord.Absent ContextInfo.Absent ∷ cycleOf forestA 29 ∷ []
+    store_of (Continuation.ResumeBasicBlock (node_id 1) 0 0) false LoopCondition.Absent CalleeWord.Absent ContextInfo.Absent ∷ cycle_of forest_b 25
+    ∷ store_of (Continuation.FinishBasicBlock (node_id 1)) false LoopCondition.Absent CalleeWord.Absent ContextInfo.Absent ∷ cycle_of forest_b 26
+    ∷ store_of (Continuation.FinishDyn (node_id 0)) false LoopCondition.Absent CalleeWord.Absent ContextInfo.Absent ∷ cycle_of forest_b 27
+    ∷ store_of (Continuation.FinishDyn (node_id 6)) false LoopCondition.Absent CalleeWord.Absent ContextInfo.Absent ∷ cycle_of forest_a 28
+    ∷ store_of (Continuation.FinishCall (node_id 5)) true LoopCondition.Absent CalleeWord.Absent ContextInfo.Absent ∷ cycle_of forest_a 29 ∷ []
 
 unfoldable part7 : List Call
 part7 =
-    store_of (Continuation.FinishLoop (nodeId 2)) false (LoopCondition.Is false) CalleeWord.Absent ContextInfo.Absent ∷ cycleOf forestA 30
-    ∷ store_of (Continuation.FinishJoin (nodeId 0)) false LoopCondition.Absent CalleeWord.Absent ContextInfo.Absent ∷ cycleOf forestA 31 ∷ []
+    store_of (Continuation.FinishLoop (node_id 2)) false (LoopCondition.Is false) CalleeWord.Absent ContextInfo.Absent ∷ cycle_of forest_a 30
+    ∷ store_of (Continuation.FinishJoin (node_id 0)) false LoopCondition.Absent CalleeWord.Absent ContextInfo.Absent ∷ cycle_of forest_a 31 ∷ []
 
 unfoldable fragments : List Fragment
 fragments =
@@ -184,34 +184,34 @@ fragments =
     ∷ record { calls = part7; cells = replicate 245 9 } ∷ []
 
 free : AllAccepted profile queued fragments begin
-unfolding forestA forestB queued begin store_of cycleOf part1 part2 part3 part4 part5 part6 part7 fragments AllAccepted Accepted callRefusal after afterAll finalState cycle cycleWith scanOf anyBigOpcode forestTooLarge anyLongBlock anyLargeBatch readRegisters helpersOfCells systemCells stackCells any_from profileWrong opcodes twoEqual isOneOf lacksBits fragmentWrong made startNode startKind startBlock startTwo startOne startDyn startDyncall madeEnd madeRepeat finishLoop body_of callKind dynKind blockKind entryKind operationMade resumed madeRespan respanStep nodeAt node_of isSlot digestAt opcodeAt block_of startedAt entry_at end_at batchAt isBatch startsAt batchFlags flagsUpTo8 contextAtOp contextAtBatchStart lentBatches group_of falling groupFrom place_in contextInGroup consumed counts doubled round_up groupsOf sumGroups anyAbove8 groupSum pushes opContext tooLarge helpersAnswer all_below u32Values helpersOf tracerAfter leftAfter storedIn fragmentAfter putRow rowCells decoderCells fresh builtSystem builtStack noSystem noStack lastSystem lastStack controlFlow basicBlockBatch operation wordAt cell_at reduced readSystem readStack readState readCaptured
+unfolding forest_a forest_b queued begin store_of cycle_of part1 part2 part3 part4 part5 part6 part7 fragments AllAccepted Accepted call_refusal after after_all final_state cycle cycle_with scan_of any_big_opcode forest_too_large any_long_block any_large_batch read_registers helpers_of_cells system_cells stack_cells any_from profile_wrong opcodes two_equal is_one_of lacks_bits fragment_wrong made start_node start_kind start_block start_two start_one start_dyn start_dyncall made_end made_repeat finish_loop body_of call_kind dyn_kind block_kind entry_kind operation_made resumed made_respan respan_step node_at node_of is_slot digest_at opcode_at block_of started_at entry_at end_at batch_at is_batch starts_at batch_flags flags_up_to8 context_at_op context_at_batch_start lent_batches group_of falling group_from place_in context_in_group consumed counts doubled round_up groups_of sum_groups any_above8 group_sum pushes op_context too_large helpers_answer all_below u32_values helpers_of tracer_after left_after stored_in fragment_after put_row row_cells decoder_cells fresh built_system built_stack no_system no_stack last_system last_stack control_flow basic_block_batch operation word_at cell_at reduced read_system read_stack read_state read_captured
 free = ((refl, (refl, (refl, (refl, (refl, (refl, (refl, (refl, (refl, (refl, refl)))))))))), ((refl, (refl, (refl, (refl, (refl, (refl, (refl, (refl, (refl, (refl, refl)))))))))), ((refl, (refl, (refl, (refl, (refl, (refl, (refl, (refl, (refl, (refl, refl)))))))))), ((refl, (refl, (refl, (refl, (refl, (refl, (refl, (refl, (refl, (refl, refl)))))))))), ((refl, (refl, (refl, (refl, (refl, (refl, (refl, (refl, (refl, (refl, refl)))))))))), ((refl, (refl, (refl, (refl, (refl, (refl, (refl, (refl, (refl, (refl, refl)))))))))), ((refl, (refl, (refl, (refl, refl)))), tt)))))))
 
-run : Run profile forestA 0 false 0 1 99 (cyclesOf queued fragments begin.at) []
-unfolding forestA forestB queued begin store_of cycleOf part1 part2 part3 part4 part5 part6 part7 fragments cyclesOf cyclesIn didStored didBy start_of operationAt finishOf nothingStored stored leftBy usedBy positionsAfter leftAfter inForceAfterAll inForceAfter nodeAt node_of isSlot opcodeAt block_of startedAt entry_at end_at batchAt isBatch wordAt Holds HasOperations HasOpcode isOpOpcode controlOpcodes controls isOneOf Child endingOf cell_at reduced readSystem readStack readState readCaptured
+run : Run profile forest_a 0 false 0 1 99 (cycles_of queued fragments begin.at) []
+unfolding forest_a forest_b queued begin store_of cycle_of part1 part2 part3 part4 part5 part6 part7 fragments cycles_of cycles_in did_stored did_by start_of operation_at finish_of nothing_stored stored left_by used_by positions_after left_after in_force_after_all in_force_after node_at node_of is_slot opcode_at block_of started_at entry_at end_at batch_at is_batch word_at Holds HasOperations HasOpcode is_op_opcode control_opcodes controls is_one_of Child ending_of cell_at reduced read_system read_stack read_state read_captured
 run =
     Run.join (_, refl)
-    (Run.one OneChild.split (nodeId 3, nodeId 7, (_, refl), refl, inl refl) (Run.one OneChild.call (nodeId 4, (_, refl), refl, refl)
-    (Run.block {block = slotBlock forestA.nodes 4} (_, refl) (InBlock.operation 5 (_, refl, refl) refl (InBlock.respan {index = 0} (_, refl, refl) (omega arith) (InBlock.operation 6 (_, refl, refl) refl (InBlock.ended (_, refl, refl) refl)))))))
+    (Run.one OneChild.split (node_id 3, node_id 7, (_, refl), refl, inl refl) (Run.one OneChild.call (node_id 4, (_, refl), refl, refl)
+    (Run.block {block = slot_block forest_a.nodes 4} (_, refl) (InBlock.operation 5 (_, refl, refl) refl (InBlock.respan {index = 0} (_, refl, refl) (omega arith) (InBlock.operation 6 (_, refl, refl) refl (InBlock.ended (_, refl, refl) refl)))))))
     (Run.loop (_, refl)
     (RunPasses.again
-    (Run.one OneChild.call (nodeId 6, (_, refl), refl, refl) (Run.one {child = forestB} {m = 0} OneChild.dyn (_, refl) (Run.one {child = forestB} {m = 1} OneChild.dyncall (_, refl)
+    (Run.one OneChild.call (node_id 6, (_, refl), refl, refl) (Run.one {child = forest_b} {m = 0} OneChild.dyn (_, refl) (Run.one {child = forest_b} {m = 1} OneChild.dyncall (_, refl)
     (Run.block (_, refl) (InBlock.operation 91 (_, refl, refl) refl (InBlock.ended (_, refl, refl) refl))))))
     (RunPasses.ended
-    (Run.one OneChild.call (nodeId 6, (_, refl), refl, refl) (Run.one {child = forestB} {m = 0} OneChild.dyn (_, refl) (Run.one {child = forestB} {m = 1} OneChild.dyncall (_, refl)
+    (Run.one OneChild.call (node_id 6, (_, refl), refl, refl) (Run.one {child = forest_b} {m = 0} OneChild.dyn (_, refl) (Run.one {child = forest_b} {m = 1} OneChild.dyncall (_, refl)
     (Run.block (_, refl) (InBlock.operation 91 (_, refl, refl) refl (InBlock.ended (_, refl, refl) refl)))))))))
 
 runs : Runs profile queued 5 fragments begin
-unfolding forestA forestB queued begin store_of cycleOf part1 part2 part3 part4 part5 part6 part7 fragments AllAccepted Accepted callRefusal after afterAll finalState cycle cycleWith scanOf anyBigOpcode forestTooLarge anyLongBlock anyLargeBatch readRegisters helpersOfCells systemCells stackCells any_from profileWrong opcodes twoEqual isOneOf lacksBits fragmentWrong made startNode startKind startBlock startTwo startOne startDyn startDyncall madeEnd madeRepeat finishLoop body_of callKind dynKind blockKind entryKind operationMade resumed madeRespan respanStep nodeAt node_of isSlot digestAt opcodeAt block_of startedAt entry_at end_at batchAt isBatch startsAt batchFlags flagsUpTo8 contextAtOp contextAtBatchStart lentBatches group_of falling groupFrom place_in contextInGroup consumed counts doubled round_up groupsOf sumGroups anyAbove8 groupSum pushes opContext tooLarge helpersAnswer all_below u32Values helpersOf tracerAfter leftAfter storedIn fragmentAfter putRow rowCells decoderCells fresh builtSystem builtStack noSystem noStack lastSystem lastStack controlFlow basicBlockBatch operation wordAt finalStates countsOf forPasses OneSize cyclesOf cyclesIn didStored didBy start_of operationAt finishOf nothingStored stored leftBy usedBy positionsAfter inForceAfterAll inForceAfter withLoop loopStarts run treeFrom depth_of cell_at reduced readSystem readStack readState readCaptured
+unfolding forest_a forest_b queued begin store_of cycle_of part1 part2 part3 part4 part5 part6 part7 fragments AllAccepted Accepted call_refusal after after_all final_state cycle cycle_with scan_of any_big_opcode forest_too_large any_long_block any_large_batch read_registers helpers_of_cells system_cells stack_cells any_from profile_wrong opcodes two_equal is_one_of lacks_bits fragment_wrong made start_node start_kind start_block start_two start_one start_dyn start_dyncall made_end made_repeat finish_loop body_of call_kind dyn_kind block_kind entry_kind operation_made resumed made_respan respan_step node_at node_of is_slot digest_at opcode_at block_of started_at entry_at end_at batch_at is_batch starts_at batch_flags flags_up_to8 context_at_op context_at_batch_start lent_batches group_of falling group_from place_in context_in_group consumed counts doubled round_up groups_of sum_groups any_above8 group_sum pushes op_context too_large helpers_answer all_below u32_values helpers_of tracer_after left_after stored_in fragment_after put_row row_cells decoder_cells fresh built_system built_stack no_system no_stack last_system last_stack control_flow basic_block_batch operation word_at final_states counts_of for_passes OneSize cycles_of cycles_in did_stored did_by start_of operation_at finish_of nothing_stored stored left_by used_by positions_after in_force_after_all in_force_after with_loop loop_starts run tree_from depth_of cell_at reduced read_system read_stack read_state read_captured
 runs = record {
-  forest = forestA;
+  forest = forest_a;
   root = 0;
   parent = 0;
   own = 1;
   third = 99;
   proper = run;
   accepted = free;
-  loops-apart = refl;
+  loops_apart = refl;
   shallow = omega arith;
   one_size = (refl, refl, (refl, refl, (refl, refl, (refl, refl, (refl, refl, (refl, refl, tt))))));
 }
@@ -224,15 +224,15 @@ tree : nesting runs ≡ Block.join 0
     (Passes.ended
     (Block.one OneChild.call 21 (Block.one OneChild.dyn 22 (Block.one OneChild.dyncall 23 (Block.span 24 (Ops.op 25 91 (Ops.ended 26))) 27) 28) 29) 30)))
     31
-unfolding runs run treeFrom opsFrom
+unfolding runs run tree_from ops_from
 tree = refl
 
 -- the finisher, with height 34, does not refuse
 passes : FinisherPasses profile queued 5 fragments begin [] (replicate 16 0) 34
-unfolding forestA forestB queued begin store_of cycleOf part1 part2 part3 part4 part5 part6 part7 fragments AllAccepted Accepted callRefusal after afterAll finalState cycle cycleWith scanOf anyBigOpcode forestTooLarge anyLongBlock anyLargeBatch readRegisters helpersOfCells systemCells stackCells any_from profileWrong opcodes twoEqual isOneOf lacksBits fragmentWrong made startNode startKind startBlock startTwo startOne startDyn startDyncall madeEnd madeRepeat finishLoop body_of callKind dynKind blockKind entryKind operationMade resumed madeRespan respanStep nodeAt node_of isSlot digestAt opcodeAt block_of startedAt entry_at end_at batchAt isBatch startsAt batchFlags flagsUpTo8 contextAtOp contextAtBatchStart lentBatches group_of falling groupFrom place_in contextInGroup consumed counts doubled round_up groupsOf sumGroups anyAbove8 groupSum pushes opContext tooLarge helpersAnswer all_below u32Values helpersOf tracerAfter leftAfter storedIn fragmentAfter putRow rowCells decoderCells fresh builtSystem builtStack noSystem noStack lastSystem lastStack controlFlow basicBlockBatch operation wordAt finalStates countsOf forPasses builtCells cells_of refusalAll first_of sum_of fragmentsWrong bufferWrong fewerRows anyAbove heightWrong notFull loopWithoutBody anyWithoutBody bodyEnds rows_of opcode_of low_bits flaggedEnd cell_at reduced readSystem readStack readState readCaptured
+unfolding forest_a forest_b queued begin store_of cycle_of part1 part2 part3 part4 part5 part6 part7 fragments AllAccepted Accepted call_refusal after after_all final_state cycle cycle_with scan_of any_big_opcode forest_too_large any_long_block any_large_batch read_registers helpers_of_cells system_cells stack_cells any_from profile_wrong opcodes two_equal is_one_of lacks_bits fragment_wrong made start_node start_kind start_block start_two start_one start_dyn start_dyncall made_end made_repeat finish_loop body_of call_kind dyn_kind block_kind entry_kind operation_made resumed made_respan respan_step node_at node_of is_slot digest_at opcode_at block_of started_at entry_at end_at batch_at is_batch starts_at batch_flags flags_up_to8 context_at_op context_at_batch_start lent_batches group_of falling group_from place_in context_in_group consumed counts doubled round_up groups_of sum_groups any_above8 group_sum pushes op_context too_large helpers_answer all_below u32_values helpers_of tracer_after left_after stored_in fragment_after put_row row_cells decoder_cells fresh built_system built_stack no_system no_stack last_system last_stack control_flow basic_block_batch operation word_at final_states counts_of for_passes built_cells cells_of refusal_all first_of sum_of fragments_wrong buffer_wrong fewer_rows any_above height_wrong not_full loop_without_body any_without_body body_ends rows_of opcode_of low_bits flagged_end cell_at reduced read_system read_stack read_state read_captured
 passes = refl
 
-trace : Trace profile (writtenByFinisher profile queued 5 fragments begin [] (replicate 16 0) 34) (nesting runs)
+trace : Trace profile (written_by_finisher profile queued 5 fragments begin [] (replicate 16 0) 34) (nesting runs)
 trace = finisher-trace profile queued 5 fragments begin runs [] (replicate 16 0) 34 passes
 
 -- opcode, address and count of each row
@@ -243,10 +243,10 @@ fields (row ∷ rows) = (opcode_of row, addr_of row, count_of row) ∷ fields ro
 -- depth and helper of each row
 unfoldable stacks : List (List ℕ) → List (ℕ × ℕ)
 stacks [] = []
-stacks (row ∷ rows) = (b0Cell row, helperCell row) ∷ stacks rows
+stacks (row ∷ rows) = (b0_cell row, helper_cell row) ∷ stacks rows
 
 abbrev written : List (List ℕ)
-written = all_rows (writtenByFinisher profile queued 5 fragments begin [] (replicate 16 0) 34)
+written = all_rows (written_by_finisher profile queued 5 fragments begin [] (replicate 16 0) 34)
 
 -- depth and helper are 16 and 0 in row 0, then 18 and the inverse of 2, in the HALT rows as in the others (N4)
 listing : ◌≡◌ {A = List (ℕ × ℕ × ℕ) × List (ℕ × ℕ)} (fields written, stacks written) (
@@ -256,5 +256,5 @@ listing : ◌≡◌ {A = List (ℕ × ℕ × ℕ) × List (ℕ × ℕ)} (fields 
       ∷ (112, 11, 0) ∷ (112, 1, 0) ∷ (124, 0, 0) ∷ (124, 0, 0) ∷ [],
   (16, 0) ∷ replicate 33 (18, 9223372034707292161),
 )
-unfolding forestA forestB queued begin store_of cycleOf part1 part2 part3 part4 part5 part6 part7 fragments AllAccepted Accepted callRefusal after afterAll finalState cycle cycleWith scanOf anyBigOpcode forestTooLarge anyLongBlock anyLargeBatch readRegisters helpersOfCells systemCells stackCells any_from profileWrong opcodes twoEqual isOneOf lacksBits fragmentWrong made startNode startKind startBlock startTwo startOne startDyn startDyncall madeEnd madeRepeat finishLoop body_of callKind dynKind blockKind entryKind operationMade resumed madeRespan respanStep nodeAt node_of isSlot digestAt opcodeAt block_of startedAt entry_at end_at batchAt isBatch startsAt batchFlags flagsUpTo8 contextAtOp contextAtBatchStart lentBatches group_of falling groupFrom place_in contextInGroup consumed counts doubled round_up groupsOf sumGroups anyAbove8 groupSum pushes opContext tooLarge helpersAnswer all_below u32Values helpersOf tracerAfter leftAfter storedIn fragmentAfter putRow rowCells decoderCells fresh builtSystem builtStack noSystem noStack lastSystem lastStack controlFlow basicBlockBatch operation wordAt finalStates countsOf forPasses builtCells cells_of refusalAll first_of sum_of fragmentsWrong bufferWrong fewerRows anyAbove heightWrong notFull loopWithoutBody anyWithoutBody bodyEnds rows_of opcode_of low_bits flaggedEnd finisherBuffer allPasses onRows flat fixedUp firstRow withSides laterRows builtOf multiplied withCounts inverted inverseOf euclid lastBuilt halted lastRow haltRow haltDecoder haltStack padded paddingRows paddingRow all_rows fields stacks cell_at reduced readSystem readStack readState readCaptured
+unfolding forest_a forest_b queued begin store_of cycle_of part1 part2 part3 part4 part5 part6 part7 fragments AllAccepted Accepted call_refusal after after_all final_state cycle cycle_with scan_of any_big_opcode forest_too_large any_long_block any_large_batch read_registers helpers_of_cells system_cells stack_cells any_from profile_wrong opcodes two_equal is_one_of lacks_bits fragment_wrong made start_node start_kind start_block start_two start_one start_dyn start_dyncall made_end made_repeat finish_loop body_of call_kind dyn_kind block_kind entry_kind operation_made resumed made_respan respan_step node_at node_of is_slot digest_at opcode_at block_of started_at entry_at end_at batch_at is_batch starts_at batch_flags flags_up_to8 context_at_op context_at_batch_start lent_batches group_of falling group_from place_in context_in_group consumed counts doubled round_up groups_of sum_groups any_above8 group_sum pushes op_context too_large helpers_answer all_below u32_values helpers_of tracer_after left_after stored_in fragment_after put_row row_cells decoder_cells fresh built_system built_stack no_system no_stack last_system last_stack control_flow basic_block_batch operation word_at final_states counts_of for_passes built_cells cells_of refusal_all first_of sum_of fragments_wrong buffer_wrong fewer_rows any_above height_wrong not_full loop_without_body any_without_body body_ends rows_of opcode_of low_bits flagged_end finisher_buffer all_passes on_rows flat fixed_up first_row with_sides later_rows built_of multiplied with_counts inverted inverse_of euclid last_built halted last_row halt_row halt_decoder halt_stack padded padding_rows padding_row all_rows fields stacks cell_at reduced read_system read_stack read_state read_captured
 listing = refl

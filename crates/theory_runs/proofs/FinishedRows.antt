@@ -14,18 +14,18 @@ use Rattle.groups.specs.Answer.{pick}
 use Rattle.rows.specs.declared.records.profile.Profile.{Profile}
 use Rattle.rows.specs.declared.records.address_state.DecoderState.{DecoderState}
 use Rattle.rows.specs.records.Forests.{Forest}
-use Rattle.rows.specs.records.Profiles.{twoEqual, profileWrong}
-use Rattle.rows.specs.records.Buffers.{lastRow, h4Of, opcode_of}
-use Rattle.rows.specs.passes.Passes.{fixedUp, multiplied, inverted, haltRow, halted, paddingRows, padded}
+use Rattle.rows.specs.records.Profiles.{two_equal, profile_wrong}
+use Rattle.rows.specs.records.Buffers.{last_row, h4_of, opcode_of}
+use Rattle.rows.specs.passes.Passes.{fixed_up, multiplied, inverted, halt_row, halted, padding_rows, padded}
 use Rattle.rows.proofs.passes.RowLists.{Wide, wide-app}
 use Rattle.rows.proofs.passes.FirstRows.{Cells25, fixed-wide, fixed-length}
 use Rattle.rows.proofs.passes.Written.{multiplied-wide, multiplied-length}
-use Rattle.theory_readings.specs.Tokens.{Token, count_of, tokenOf, tokensOf}
+use Rattle.theory_readings.specs.Tokens.{Token, count_of, token_of, tokens_of}
 use Rattle.theory_readings.specs.Readings.{numbered, OnlyHalts, Halts, WordOf, depth_of, Ask, asks, Meets, AllMet, Reading}
 use Rattle.theory_runs.specs.Happened.{Cycle}
-use Rattle.theory_runs.specs.ProperRuns.{Run, treeFrom, loopStarts}
+use Rattle.theory_runs.specs.ProperRuns.{Run, tree_from, loop_starts}
 use Rattle.theory_runs.proofs.Looks.{none, flag, count, Seen, seen, mark_of, look, looks, looks-app, laid}
-use Rattle.theory_runs.proofs.Spelled.{tokensIn, at, run-spell}
+use Rattle.theory_runs.proofs.Spelled.{tokens_in, at, run-spell}
 use Rattle.theory_runs.proofs.Tallied.{hits, counted, shows, shown}
 use Rattle.theory_runs.proofs.Counted.{whole-counts, run-shown}
 use Rattle.theory_runs.proofs.PassLooks.{fixed-looks, multiplied-looks, inverted-looks, inverted-wide, inverted-length, AllHalting, halting-halt, halting-paddings, halting-wide, length-paddings}
@@ -39,15 +39,15 @@ HaltSeen (x ∷ l) = (x ≡ seen Token.halt 0 none) × HaltSeen l
 halting-seen : (p : Profile) (rows : List (List ℕ)) → AllHalting p rows → HaltSeen (looks p rows)
 unfolding AllHalting looks HaltSeen
 halting-seen p [] h = tt
-halting-seen p (row ∷ rows) h = (h.0.shows-halt, halting-seen p rows h.1)
+halting-seen p (row ∷ rows) h = (h.0.shows_halt, halting-seen p rows h.1)
 
-only-halts : (l : List Seen) (n : ℕ) → HaltSeen l → OnlyHalts (numbered n (tokensIn l))
-unfolding HaltSeen OnlyHalts numbered tokensIn
+only-halts : (l : List Seen) (n : ℕ) → HaltSeen l → OnlyHalts (numbered n (tokens_in l))
+unfolding HaltSeen OnlyHalts numbered tokens_in
 only-halts [] n h = tt
 only-halts (seen token addr mark ∷ l) n h = let e = h.0 in ((cc), only-halts l (suc n) h.1)
 
-some-halts : (x : Seen) (l : List Seen) (n : ℕ) → HaltSeen (x ∷ l) → Halts (numbered n (tokensIn (x ∷ l)))
-unfolding HaltSeen Halts numbered tokensIn
+some-halts : (x : Seen) (l : List Seen) (n : ℕ) → HaltSeen (x ∷ l) → Halts (numbered n (tokens_in (x ∷ l)))
+unfolding HaltSeen Halts numbered tokens_in
 some-halts (seen token addr mark) l n h = let e = h.0 in ((cc), only-halts l (suc n) h.1)
 
 shown-halts : (l : List Seen) (n : ℕ) → HaltSeen l → shown n l ≡ []
@@ -62,19 +62,19 @@ shown-app (seen token addr mark ∷ l) m n h = ap (shows n mark) (shown-app l m 
 
 -- TOKENS
 
-tokens-looks : (p : Profile) (rows : List (List ℕ)) → tokensOf p rows ≡ tokensIn (looks p rows)
-unfolding tokensOf tokensIn looks look
+tokens-looks : (p : Profile) (rows : List (List ℕ)) → tokens_of p rows ≡ tokens_in (looks p rows)
+unfolding tokens_of tokens_in looks look
 tokens-looks p [] = refl
-tokens-looks p (row ∷ rows) = ap (λ y. tokenOf p row ∷ y) (tokens-looks p rows)
+tokens-looks p (row ∷ rows) = ap (λ y. token_of p row ∷ y) (tokens-looks p rows)
 
-tokens-counted : (m : ℕ → ℕ) (l q : List Seen) → tokensIn (counted m l ++ q) ≡ tokensIn (l ++ q)
-unfolding tokensIn counted
+tokens-counted : (m : ℕ → ℕ) (l q : List Seen) → tokens_in (counted m l ++ q) ≡ tokens_in (l ++ q)
+unfolding tokens_in counted
 tokens-counted m [] q = refl
 tokens-counted m (seen token addr mark ∷ l) q = ap (λ y. token ∷ y) (tokens-counted m l q)
 
 -- FLAGS AND COUNTS
 
-met-flag : (all : List (List ℕ)) (n v : ℕ) (r : List Ask) → h4Of (get_or all n []) ≡ v → AllMet all r → AllMet all (Ask.flag n v ∷ r)
+met-flag : (all : List (List ℕ)) (n v : ℕ) (r : List Ask) → h4_of (get_or all n []) ≡ v → AllMet all r → AllMet all (Ask.flag n v ∷ r)
 unfolding AllMet Meets
 met-flag all n v r e h = λ a m. ⊎_elim (λ i. rw i e) (λ j. h a j) (Memᴰ.cases_cons m)
 
@@ -82,9 +82,9 @@ met-count : (all : List (List ℕ)) (n v : ℕ) (r : List Ask) → count_of (get
 unfolding AllMet Meets
 met-count all n v r e h = λ a m. ⊎_elim (λ i. rw i e) (λ j. h a j) (Memᴰ.cases_cons m)
 
-met-mark : (all : List (List ℕ)) (n : ℕ) (row : List ℕ) (e l : Bool) (r : List Ask) → get_or all n [] ≡ row → AllMet all r → AllMet all (shows n (pick e (flag (h4Of row)) (pick l (count (count_of row)) none)) r)
+met-mark : (all : List (List ℕ)) (n : ℕ) (row : List ℕ) (e l : Bool) (r : List Ask) → get_or all n [] ≡ row → AllMet all r → AllMet all (shows n (pick e (flag (h4_of row)) (pick l (count (count_of row)) none)) r)
 unfolding shows
-met-mark all n row true l r i h = met-flag all n (h4Of row) r (ap (λ (x : List ℕ). h4Of x) i) h
+met-mark all n row true l r i h = met-flag all n (h4_of row) r (ap (λ (x : List ℕ). h4_of x) i) h
 met-mark all n row false true r i h = met-count all n (count_of row) r (ap (λ (x : List ℕ). count_of x) i) h
 met-mark all n row false false r i h = h
 
@@ -97,48 +97,48 @@ shown-met p all (row ∷ rows) n h =
 
 -- THE LAST ROW
 
-pub last_snoc : (rows : List (List ℕ)) (x : List ℕ) → lastRow (rows ++ (x ∷ [])) ≡ x
-unfolding lastRow
+pub last_snoc : (rows : List (List ℕ)) (x : List ℕ) → last_row (rows ++ (x ∷ [])) ≡ x
+unfolding last_row
 last_snoc [] x = refl
 last_snoc (row ∷ []) x = refl
 last_snoc (row ∷ next ∷ rows) x = last_snoc (next ∷ rows) x
 
-module _ (p : Profile) (right : profileWrong p ≡ false) (size : ℕ) (top : List ℕ) (lasts : List (List ℕ)) (built : List ℕ) (height : ℕ) (rows : List (List ℕ))
+module _ (p : Profile) (right : profile_wrong p ≡ false) (size : ℕ) (top : List ℕ) (lasts : List (List ℕ)) (built : List ℕ) (height : ℕ) (rows : List (List ℕ))
     (lasts-wide : Cells25 lasts) (built-wide : length built ≡ 25) (rows-wide : Wide rows) (room : length rows < height) where
   -- the rows after three passes, and after all
   abbrev pub counted-rows : List (List ℕ)
-  counted-rows = inverted (multiplied p (fixedUp size top lasts rows))
+  counted-rows = inverted (multiplied p (fixed_up size top lasts rows))
 
   abbrev pub all-rows : List (List ℕ)
   all-rows = padded p height (halted p built counted-rows)
 
   abbrev halt-row : List ℕ
-  halt-row = haltRow p built (lastRow counted-rows)
+  halt-row = halt_row p built (last_row counted-rows)
 
   abbrev halt-rows : List (List ℕ)
-  halt-rows = halt-row ∷ paddingRows p (height - length (halted p built counted-rows)) (length (halted p built counted-rows)) halt-row
+  halt-rows = halt-row ∷ padding_rows p (height - length (halted p built counted-rows)) (length (halted p built counted-rows)) halt-row
 
   all_split : all-rows ≡ counted-rows ++ halt-rows
   unfolding padded halted
   all_split =
-      ap (λ x. (counted-rows ++ (halt-row ∷ [])) ++ paddingRows p (height - length (counted-rows ++ (halt-row ∷ []))) (length (counted-rows ++ (halt-row ∷ []))) x) (last_snoc counted-rows halt-row)
+      ap (λ x. (counted-rows ++ (halt-row ∷ [])) ++ padding_rows p (height - length (counted-rows ++ (halt-row ∷ []))) (length (counted-rows ++ (halt-row ∷ []))) x) (last_snoc counted-rows halt-row)
       ∙ append_assoc counted-rows (halt-row ∷ []) _
 
   three-wide : Wide counted-rows
-  three-wide = inverted-wide (multiplied p (fixedUp size top lasts rows)) (multiplied-wide p (fixedUp size top lasts rows) (fixed-wide rows lasts size top lasts-wide rows-wide))
+  three-wide = inverted-wide (multiplied p (fixed_up size top lasts rows)) (multiplied-wide p (fixed_up size top lasts rows) (fixed-wide rows lasts size top lasts-wide rows-wide))
 
   pub three-length : length counted-rows ≡ length rows
-  three-length = inverted-length (multiplied p (fixedUp size top lasts rows)) ∙ multiplied-length p (fixedUp size top lasts rows) ∙ fixed-length rows lasts size top
+  three-length = inverted-length (multiplied p (fixed_up size top lasts rows)) ∙ multiplied-length p (fixed_up size top lasts rows) ∙ fixed-length rows lasts size top
 
   halts-halting : AllHalting p halt-rows
   unfolding AllHalting
   halts-halting =
-      let h = halting-halt p right built (lastRow counted-rows) built-wide in
+      let h = halting-halt p right built (last_row counted-rows) built-wide in
       (h, halting-paddings p right (height - length (halted p built counted-rows)) (length (halted p built counted-rows)) halt-row h.wide)
 
   pub halted-wide : Wide (halted p built counted-rows)
   unfolding halted Wide
-  halted-wide = wide-app counted-rows (halt-row ∷ []) three-wide ((halting-halt p right built (lastRow counted-rows) built-wide).wide, tt)
+  halted-wide = wide-app counted-rows (halt-row ∷ []) three-wide ((halting-halt p right built (last_row counted-rows) built-wide).wide, tt)
 
   pub halted-length : length (halted p built counted-rows) ≡ length rows + 1
   unfolding halted
@@ -158,7 +158,7 @@ module _ (p : Profile) (right : profileWrong p ≡ false) (size : ℕ) (top : Li
 
     three-looks : looks p counted-rows ≡ counted counts (laid p cycles state)
     three-looks =
-        let fixed : List (List ℕ) = fixedUp size top lasts rows in
+        let fixed : List (List ℕ) = fixed_up size top lasts rows in
         let same = fixed-looks p rows lasts size top lasts-wide rows-wide ∙ shows-laid in
         inverted-looks p (multiplied p fixed) ∙ multiplied-looks p right fixed (omega (arith, few, fixed-length rows lasts size top)) (fixed-wide rows lasts size top lasts-wide rows-wide)
         ∙ ap (λ (l : List Seen). counted (λ x. hits x l) l) same
@@ -166,25 +166,25 @@ module _ (p : Profile) (right : profileWrong p ≡ false) (size : ℕ) (top : Li
     all-looks : looks p all-rows ≡ counted counts (laid p cycles state) ++ looks p halt-rows
     all-looks = ap (looks p) all_split ∙ looks-app p counted-rows halt-rows ∙ ap (λ y. y ++ looks p halt-rows) three-looks
 
-    module _ {forest : Forest} {id a b g : ℕ} (d : Run p forest id false a b g cycles []) (apart : twoEqual (reduced (loopStarts cycles)) ≡ false) (shallow : depth_of (treeFrom p 0 d).0 ≤ 64) where
-      word : WordOf (tokensOf p all-rows) (treeFrom p 0 d).0
+    module _ {forest : Forest} {id a b g : ℕ} (d : Run p forest id false a b g cycles []) (apart : two_equal (reduced (loop_starts cycles)) ≡ false) (shallow : depth_of (tree_from p 0 d).0 ≤ 64) where
+      word : WordOf (tokens_of p all-rows) (tree_from p 0 d).0
       unfolding WordOf laid looks
       word = (
-        numbered (treeFrom p 0 d).1 (tokensIn (looks p halt-rows)),
-        ap (numbered 0) (tokens-looks p all-rows ∙ ap tokensIn all-looks ∙ tokens-counted counts (laid p cycles state) (looks p halt-rows)) ∙ run-spell p (looks p halt-rows) 0 state d,
-        some-halts (look p halt-row) (looks p (paddingRows p (height - length (halted p built counted-rows)) (length (halted p built counted-rows)) halt-row)) (treeFrom p 0 d).1 (halting-seen p halt-rows halts-halting),
+        numbered (tree_from p 0 d).1 (tokens_in (looks p halt-rows)),
+        ap (numbered 0) (tokens-looks p all-rows ∙ ap tokens_in all-looks ∙ tokens-counted counts (laid p cycles state) (looks p halt-rows)) ∙ run-spell p (looks p halt-rows) 0 state d,
+        some-halts (look p halt-row) (looks p (padding_rows p (height - length (halted p built counted-rows)) (length (halted p built counted-rows)) halt-row)) (tree_from p 0 d).1 (halting-seen p halt-rows halts-halting),
       )
 
-      shown-asks : shown 0 (looks p all-rows) ≡ asks (treeFrom p 0 d).0
+      shown-asks : shown 0 (looks p all-rows) ≡ asks (tree_from p 0 d).0
       unfolding asks laid counted shown
       shown-asks =
           ap (shown 0) all-looks ∙ shown-app (counted counts (laid p cycles state)) (looks p halt-rows) 0 (halting-seen p halt-rows halts-halting)
           ∙ run-shown p counts 0 state d [] (whole-counts p d state apart)
 
-      met : AllMet all-rows (asks (treeFrom p 0 d).0)
+      met : AllMet all-rows (asks (tree_from p 0 d).0)
       met = rw shown-asks at (shown-met p all-rows all-rows 0 (λ i h. ap (λ (k : ℕ). get_or all-rows k []) (omega arith)))
 
       -- the rows are those of a trace, and its reading is the nesting that ran
-      pub all-reading : Reading p all-rows (treeFrom p 0 d).0
+      pub all-reading : Reading p all-rows (tree_from p 0 d).0
       unfolding Reading
       all-reading = (word, shallow, met)

@@ -15,36 +15,36 @@ use Rattle.theory_runs.specs.ProperRuns.{moved, Run}
 use Rattle.theory_runs.proofs.ExactRuns.{from_start, grove, forest, other, spanned, under, passing, large-exact, join-exact, split-exact, call-exact, syscall-exact, loop-exact, large-proper, join-proper, split-proper, call-proper, syscall-proper, loop-proper}
 
 -- What tells cycles apart: the forest, and the numbers of what was done.
-abbrev flagNumber : Bool → ℕ
-flagNumber true = 1
-flagNumber false = 0
+abbrev flag_number : Bool → ℕ
+flag_number true = 1
+flag_number false = 0
 
-abbrev endingNumber : Ending → ℕ
-endingNumber Ending.FinishBasicBlock = 0
-endingNumber Ending.FinishJoin = 1
-endingNumber Ending.FinishSplit = 2
-endingNumber Ending.FinishLoop = 3
-endingNumber Ending.FinishCall = 4
-endingNumber Ending.FinishDyn = 5
+abbrev ending_number : Ending → ℕ
+ending_number Ending.FinishBasicBlock = 0
+ending_number Ending.FinishJoin = 1
+ending_number Ending.FinishSplit = 2
+ending_number Ending.FinishLoop = 3
+ending_number Ending.FinishCall = 4
+ending_number Ending.FinishDyn = 5
 
-abbrev numbersOf : Did → List ℕ
-numbersOf (started kind id b a) = id ∷ b ∷ a ∷ []
-numbersOf (operated id i j opcode) = id ∷ i ∷ j ∷ opcode ∷ []
-numbersOf (respanned id i) = id ∷ i ∷ []
-numbersOf (repeated id) = id ∷ []
-numbersOf (finished ending id flag b a g) = id ∷ flagNumber flag ∷ b ∷ a ∷ g ∷ endingNumber ending ∷ []
-numbersOf Did.nothing = []
+abbrev numbers_of : Did → List ℕ
+numbers_of (started kind id b a) = id ∷ b ∷ a ∷ []
+numbers_of (operated id i j opcode) = id ∷ i ∷ j ∷ opcode ∷ []
+numbers_of (respanned id i) = id ∷ i ∷ []
+numbers_of (repeated id) = id ∷ []
+numbers_of (finished ending id flag b a g) = id ∷ flag_number flag ∷ b ∷ a ∷ g ∷ ending_number ending ∷ []
+numbers_of Did.nothing = []
 
-abbrev cycleAt : (n : ℕ) → List Cycle → Cycle
-cycleAt n [] = (forest, Did.nothing)
-cycleAt zero (c ∷ cycles) = c
-cycleAt (suc n) (c ∷ cycles) = cycleAt n cycles
+abbrev cycle_at : (n : ℕ) → List Cycle → Cycle
+cycle_at n [] = (forest, Did.nothing)
+cycle_at zero (c ∷ cycles) = c
+cycle_at (suc n) (c ∷ cycles) = cycle_at n cycles
 
 abbrev number_at : (n i : ℕ) → List Cycle → ℕ
-number_at n i cycles = get_or (numbersOf (cycleAt n cycles).1) i 0
+number_at n i cycles = get_or (numbers_of (cycle_at n cycles).1) i 0
 
-abbrev forestAt : (n : ℕ) → List Cycle → Forest
-forestAt n cycles = (cycleAt n cycles).0
+abbrev forest_at : (n : ℕ) → List Cycle → Forest
+forest_at n cycles = (cycle_at n cycles).0
 
 -- Lists of cycles with one thing or another in them, of nodes at 1 under 0.
 
@@ -94,28 +94,28 @@ module _ (p : Profile) (f : Forest) (id : ℕ) (body : Bool) (a b g : ℕ) (rest
   abbrev Proper : List Cycle → Type 0
   Proper cycles = Run p f id body a b g cycles rest
 
-  joined-only : (h : Forest) (m n x t : ℕ) (flag : Bool) → Proper (joined h m n x t flag) → (h ≡ forest) × (m ≡ 1) × (n ≡ 2) × (x ≡ 1) × (t ≡ 0) × (flagNumber flag ≡ 0)
+  joined-only : (h : Forest) (m n x t : ℕ) (flag : Bool) → Proper (joined h m n x t flag) → (h ≡ forest) × (m ≡ 1) × (n ≡ 2) × (x ≡ 1) × (t ≡ 0) × (flag_number flag ≡ 0)
   joined-only h m n x t flag r =
       let (c, d, e) = join-exact (from_start r) in
-      (ap (forestAt 1) e, ap (number_at 1 0) e, ap (number_at 5 0) e, ap (number_at 1 2) e, ap (number_at 4 4) e, ap (number_at 4 1) e)
+      (ap (forest_at 1) e, ap (number_at 1 0) e, ap (number_at 5 0) e, ap (number_at 1 2) e, ap (number_at 4 4) e, ap (number_at 4 1) e)
 
   split-only : (h : Forest) (m : ℕ) → Proper (above split Ending.FinishSplit 4 h m) → (h ≡ forest) × ((m ≡ 1) ⊎ (m ≡ 2))
   split-only h m r =
-      let (n, c, own, e) = split-exact (from_start r) in let k : m ≡ n = ap (number_at 1 0) e in (ap (forestAt 1) e, rw k own)
+      let (n, c, own, e) = split-exact (from_start r) in let k : m ≡ n = ap (number_at 1 0) e in (ap (forest_at 1) e, rw k own)
 
   call-only : (h : Forest) (m : ℕ) → Proper (above call Ending.FinishCall 6 h m) → (h ≡ forest) × (m ≡ 1)
-  call-only h m r = let (n, c, own, e) = call-exact (from_start r) in (ap (forestAt 1) e, ap (number_at 1 0) e ∙ own)
+  call-only h m r = let (n, c, own, e) = call-exact (from_start r) in (ap (forest_at 1) e, ap (number_at 1 0) e ∙ own)
 
   syscall-only : (h : Forest) (m : ℕ) → Proper (above syscall Ending.FinishCall 7 h m) → (h ≡ forest) × (m ≡ 1)
-  syscall-only h m r = let (n, c, own, e) = syscall-exact (from_start r) in (ap (forestAt 1) e, ap (number_at 1 0) e ∙ own)
+  syscall-only h m r = let (n, c, own, e) = syscall-exact (from_start r) in (ap (forest_at 1) e, ap (number_at 1 0) e ∙ own)
 
   looped_by : (h : Forest) (m j : ℕ) (flag : Bool) (c : ℕ) (others : List ℕ) → looped h m j flag ≡ (forest, started Kind.loop 5 1 0) ∷ passing body 0 1 g c others rest →
-      (h ≡ forest) × (m ≡ 1) × (j ≡ 5) × (flagNumber flag ≡ 1)
+      (h ≡ forest) × (m ≡ 1) × (j ≡ 5) × (flag_number flag ≡ 1)
   unfolding passing
   looped_by h m j flag c [] e = let n = ap (number_at 5 2) e in absurd (omega arith)
-  looped_by h m j flag c (d ∷ others) e = (ap (forestAt 1) e, ap (number_at 1 0) e, ap (number_at 5 0) e, ap (number_at 4 1) e)
+  looped_by h m j flag c (d ∷ others) e = (ap (forest_at 1) e, ap (number_at 1 0) e, ap (number_at 5 0) e, ap (number_at 4 1) e)
 
-  looped-only : (h : Forest) (m j : ℕ) (flag : Bool) → Proper (looped h m j flag) → (h ≡ forest) × (m ≡ 1) × (j ≡ 5) × (flagNumber flag ≡ 1)
+  looped-only : (h : Forest) (m j : ℕ) (flag : Bool) → Proper (looped h m j flag) → (h ≡ forest) × (m ≡ 1) × (j ≡ 5) × (flag_number flag ≡ 1)
   looped-only h m j flag r = let (c, others, e) = loop-exact (from_start r) in looped_by h m j flag c others e
 
   batched-only : (i x : ℕ) → Proper (batched (operated 8 0 0 5 ∷ operated 8 0 1 6 ∷ []) i x) → (i ≡ 1) × (x ≡ moved p 1)

@@ -4,23 +4,23 @@ use Prim.Native.Nat.{ℕ}
 use Rattle.rows.specs.declared.records.profile.Profile.{Profile}
 use Rattle.rows.specs.records.Addresses.{Queues}
 use Rattle.rows.specs.cycles.Made.{Cursor}
-use Rattle.theory_runs.specs.LiveCalls.{LiveFragment, plainAll, AllLiveAccepted}
-use Rattle.theory_runs.specs.Finished.{writtenByFive, writtenByFinisher, FivePass, FinisherPasses}
-use Rattle.theory_runs.specs.LiveFinished.{liveByFive, liveByFinisher, LiveFivePass, LiveFinisherPasses}
+use Rattle.theory_runs.specs.LiveCalls.{LiveFragment, plain_all, AllLiveAccepted}
+use Rattle.theory_runs.specs.Finished.{written_by_five, written_by_finisher, FivePass, FinisherPasses}
+use Rattle.theory_runs.specs.LiveFinished.{live_by_five, live_by_finisher, LiveFivePass, LiveFinisherPasses}
 use Rattle.theory_runs.proofs.LiveRuns.{live-as-calls}
 
 -- what holds of the cells that are written without tallies holds of those that are written with them, no call being refused
-module _ (p : Profile) (q : Queues) (size : ℕ) (fragments : List LiveFragment) (here : Cursor) (none-refused : AllLiveAccepted p q fragments here) (others top : List ℕ) (height : ℕ) (Q : List ℕ → Type 0) where
+module _ (p : Profile) (q : Queues) (size : ℕ) (fragments : List LiveFragment) (here : Cursor) (none_refused : AllLiveAccepted p q fragments here) (others top : List ℕ) (height : ℕ) (Q : List ℕ → Type 0) where
   -- by the finisher
-  pub live_written : (FinisherPasses p q size (plainAll fragments) here others top height → Q (writtenByFinisher p q size (plainAll fragments) here others top height)) →
-      LiveFinisherPasses p q size fragments here others top height → Q (liveByFinisher p q size fragments here others top height)
+  pub live_written : (FinisherPasses p q size (plain_all fragments) here others top height → Q (written_by_finisher p q size (plain_all fragments) here others top height)) →
+      LiveFinisherPasses p q size fragments here others top height → Q (live_by_finisher p q size fragments here others top height)
   live_written h e =
-      let same = live-as-calls p q fragments here none-refused in
-      rw (same.same-finals, same.same-cells) (h (rw (same.same-finals, same.same-cells) at e))
+      let same = live-as-calls p q fragments here none_refused in
+      rw (same.same_finals, same.same_cells) (h (rw (same.same_finals, same.same_cells) at e))
 
   -- and by the five calls, one after another
-  pub live-written-by-five : (FivePass p q size (plainAll fragments) here others top height → Q (writtenByFive p q size (plainAll fragments) here others top height)) →
-      LiveFivePass p q size fragments here others top height → Q (liveByFive p q size fragments here others top height)
+  pub live-written-by-five : (FivePass p q size (plain_all fragments) here others top height → Q (written_by_five p q size (plain_all fragments) here others top height)) →
+      LiveFivePass p q size fragments here others top height → Q (live_by_five p q size fragments here others top height)
   live-written-by-five h e =
-      let same = live-as-calls p q fragments here none-refused in
-      rw (same.same-finals, same.same-cells) (h (rw (same.same-finals, same.same-cells) at e))
+      let same = live-as-calls p q fragments here none_refused in
+      rw (same.same_finals, same.same_cells) (h (rw (same.same_finals, same.same_cells) at e))

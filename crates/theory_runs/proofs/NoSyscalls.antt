@@ -7,7 +7,7 @@ use Prim.Native.Nat.{ℕ, zero, suc, ◌/◌, ◌<◌}
 use native.Mathlib.Omega.{arith}
 use lib.ListN.{length}
 use Rattle.groups.specs.Answer.{accepted, refused}
-use Rattle.groups.specs.Constants.{syscallStart}
+use Rattle.groups.specs.Constants.{syscall_start}
 use Rattle.groups.specs.declared.batch.BasicBlockNode.{BasicBlockNode}
 use Rattle.groups.specs.declared.helpers.OperationHelperRegisters.{OperationHelperRegisters}
 use Rattle.rows.specs.declared.records.ids.MastNodeId.{MastNodeId}
@@ -18,26 +18,26 @@ use Rattle.rows.specs.declared.records.continuation.Continuation.{Continuation}
 use Rattle.rows.specs.declared.records.continuation.Captured.{Captured}
 use Rattle.rows.specs.declared.records.decoder_row.DecoderRow.{DecoderRow}
 use Rattle.rows.specs.records.Forests.{Forest}
-use Rattle.rows.specs.records.Addresses.{Queues, startedAt}
-use Rattle.rows.specs.cycles.Made.{Cursor, startKind, startNode, made}
+use Rattle.rows.specs.records.Addresses.{Queues, started_at}
+use Rattle.rows.specs.cycles.Made.{Cursor, start_kind, start_node, made}
 use Rattle.rows.specs.cycles.Cycles.{fresh}
 use Rattle.rows.proofs.passes.RowLists.{length-rows}
-use Rattle.theory_readings.specs.Tokens.{OneChild, Kind, Token, tokenOf, tokensOf}
-use Rattle.theory_readings.specs.Readings.{Ops, Block, Passes, Row, numbered, spellOps, spell, spellPasses, OnlyHalts, Halts, WordOf, row_at, Reading, all_rows, Trace}
-use Rattle.theory_runs.specs.Calls.{Call, store, finish, Fragment, Held, after, callRefusal, Accepted, opened, closed, cursorOf, AllAccepted}
-use Rattle.theory_runs.specs.Happened.{Did, Cycle, nothingStored, did, inForceAfterAll, cyclesIn, cyclesOf}
-use Rattle.theory_runs.specs.ProperRuns.{Holds, InBlock, Run, RunPasses, treeFrom, passesFrom}
+use Rattle.theory_readings.specs.Tokens.{OneChild, Kind, Token, token_of, tokens_of}
+use Rattle.theory_readings.specs.Readings.{Ops, Block, Passes, Row, numbered, spell_ops, spell, spell_passes, OnlyHalts, Halts, WordOf, row_at, Reading, all_rows, Trace}
+use Rattle.theory_runs.specs.Calls.{Call, store, finish, Fragment, Held, after, call_refusal, Accepted, opened, closed, cursor_of, AllAccepted}
+use Rattle.theory_runs.specs.Happened.{Did, Cycle, nothing_stored, did, in_force_after_all, cycles_in, cycles_of}
+use Rattle.theory_runs.specs.ProperRuns.{Holds, InBlock, Run, RunPasses, tree_from, passes_from}
 use Rattle.theory_runs.specs.Finished.{Runs, nesting}
 use Rattle.theory_runs.specs.WithoutSyscall.{NoSyscallStarts, WithoutSyscall, PassesWithoutSyscall, NoSyscallRows}
 use Rattle.theory_runs.proofs.CycleLaws.{NotSyscall, RowBy}
-use Rattle.theory_runs.proofs.Folded.{inForce, stepped, after-force, force-stored, force-at}
+use Rattle.theory_runs.proofs.Folded.{in_force, stepped, after-force, force-stored, force-at}
 
 -- THE CYCLES
 
 -- "It refuses with 31 at StartNode of a SYSCALL node": where 20 and 21 do not refuse and the node is there, whatever its callee
 pub start-refused : (f : Forest) (q : Queues) (p : Profile) (registers : OperationHelperRegisters) (id callee : MastNodeId) (flag : Bool) (captured : Captured) (here : Cursor) (s : DecoderState) →
-    startedAt q.addresses q.parents here.at ≡ accepted s → Holds f id.0 (MastNode.Syscall callee) → made f q p registers (Continuation.StartNode id) flag captured here ≡ refused syscallStart
-unfolding made startNode startKind Holds
+    started_at q.addresses q.parents here.at ≡ accepted s → Holds f id.0 (MastNode.Syscall callee) → made f q p registers (Continuation.StartNode id) flag captured here ≡ refused syscall_start
+unfolding made start_node start_kind Holds
 start-refused f q p registers id callee flag captured here s e (digest, h) = rw (e, h)
 
 -- a cycle that wrote a row
@@ -56,24 +56,24 @@ starts-append [] m h k = k
 starts-append (c ∷ l) m h k = (h.0, starts-append l m h.1 k)
 
 module _ (p : Profile) (q : Queues) where
-  calls-start : (calls : List Call) (z : Held) → Accepted p q calls z → NoSyscallStarts (cyclesIn q calls (inForce z.tracer))
-  unfolding Accepted callRefusal cyclesIn NoSyscallStarts
+  calls-start : (calls : List Call) (z : Held) → Accepted p q calls z → NoSyscallStarts (cycles_in q calls (in_force z.tracer))
+  unfolding Accepted call_refusal cycles_in NoSyscallStarts
   calls-start [] z a = tt
   calls-start (store values ∷ calls) z a = rw (force-stored p q z values a.0) at (calls-start calls (after p q z (store values)) a.1)
   calls-start (finish i ∷ calls) z a =
       let s = stepped p q z i a.0 in
-      let d : Did = did q i.forest (inForce z.tracer) in
+      let d : Did = did q i.forest (in_force z.tracer) in
       let k = after-force p q z i s.m s.answer d z.tracer.decoder_state s.law in
       (row-start p d z.tracer.decoder_state s.m.row s.law.row_is, rw k at (calls-start calls (after p q z (finish i)) a.1))
 
   -- of all fragments, where no call is refused: no cycle starts a SYSCALL node
-  pub none-started : (fragments : List Fragment) (here : Cursor) → AllAccepted p q fragments here → NoSyscallStarts (cyclesOf q fragments here.at)
-  unfolding cyclesOf AllAccepted NoSyscallStarts inForce fresh nothingStored
+  pub none-started : (fragments : List Fragment) (here : Cursor) → AllAccepted p q fragments here → NoSyscallStarts (cycles_of q fragments here.at)
+  unfolding cycles_of AllAccepted NoSyscallStarts in_force fresh nothing_stored
   none-started [] here a = tt
   none-started (fragment ∷ fragments) here a =
-      let there : Cursor = cursorOf p q (closed p q here fragment) in
-      let k : there.at ≡ (inForceAfterAll q fragment.calls (nothingStored here.at)).at = force-at p q here fragment a.0 in
-      starts-append (cyclesIn q fragment.calls (nothingStored here.at)) _
+      let there : Cursor = cursor_of p q (closed p q here fragment) in
+      let k : there.at ≡ (in_force_after_all q fragment.calls (nothing_stored here.at)).at = force-at p q here fragment a.0 in
+      starts-append (cycles_in q fragment.calls (nothing_stored here.at)) _
       (calls-start fragment.calls (opened p q here fragment) a.0) (rw k at (none-started fragments there a.1))
 
 -- THE NESTING
@@ -92,24 +92,24 @@ module _ (p : Profile) where
   block-rest (InBlock.respan size more d) h = block-rest d h.1
 
   mutual
-    unfolding NoSyscallStarts treeFrom passesFrom WithoutSyscall PassesWithoutSyscall
+    unfolding NoSyscallStarts tree_from passes_from WithoutSyscall PassesWithoutSyscall
 
     tree-without : {f : Forest} {id : ℕ} {body : Bool} {a b g : ℕ} {cycles rest : List Cycle} (n : ℕ) (d : Run p f id body a b g cycles rest) → NoSyscallStarts cycles →
-        WithoutSyscall (treeFrom p n d).0 × NoSyscallStarts rest
+        WithoutSyscall (tree_from p n d).0 × NoSyscallStarts rest
     tree-without n (Run.block holds d) h = (tt, block-rest d h.1)
     tree-without n (Run.join holds d e) h =
         let (x, h1) = tree-without (suc n) d h.1 in
-        let (y, h2) = tree-without (treeFrom p (suc n) d).1 e h1 in
+        let (y, h2) = tree-without (tree_from p (suc n) d).1 e h1 in
         ((x, y), h2.1)
     tree-without n (Run.one kind child d) h = let (x, h1) = tree-without (suc n) d h.1 in ((kind-started kind _ _ _ h.0, x), h1.1)
     tree-without n (Run.loop holds d) h = passes-without (suc n) d h.1
 
     passes-without : {f : Forest} {id child : ℕ} {body : Bool} {a b g : ℕ} {cycles rest : List Cycle} (n : ℕ) (d : RunPasses p f id child body a b g cycles rest) → NoSyscallStarts cycles →
-        PassesWithoutSyscall (passesFrom p n d).0 × NoSyscallStarts rest
+        PassesWithoutSyscall (passes_from p n d).0 × NoSyscallStarts rest
     passes-without n (RunPasses.ended d) h = let (x, h1) = tree-without n d h in (x, h1.1)
     passes-without n (RunPasses.again d e) h =
         let (x, h1) = tree-without n d h in
-        let (y, h2) = passes-without (suc (treeFrom p n d).1) e h1.1 in
+        let (y, h2) = passes-without (suc (tree_from p n d).1) e h1.1 in
         ((x, y), h2)
 
 -- the nesting of a run has no SYSCALL Block
@@ -140,24 +140,24 @@ unfoldable AllPlain : List Row → Type 0
 AllPlain [] = Unit {0}
 AllPlain (x ∷ rows) = Plain x.1 × AllPlain rows
 
-ops-plain : (o : Ops) (rest : List Row) → AllPlain rest → AllPlain (spellOps o rest)
-unfolding spellOps AllPlain Plain
+ops-plain : (o : Ops) (rest : List Row) → AllPlain rest → AllPlain (spell_ops o rest)
+unfolding spell_ops AllPlain Plain
 ops-plain (Ops.ended m) rest h = (tt, h)
 ops-plain (Ops.op m opcode o) rest h = (tt, ops-plain o rest h)
 ops-plain (Ops.respan m o) rest h = (tt, ops-plain o rest h)
 
 mutual
-  unfolding spell spellPasses WithoutSyscall PassesWithoutSyscall AllPlain Plain NotSyscall
+  unfolding spell spell_passes WithoutSyscall PassesWithoutSyscall AllPlain Plain NotSyscall
 
   spelled-plain : (b : Block) (rest : List Row) → WithoutSyscall b → AllPlain rest → AllPlain (spell b rest)
   spelled-plain (Block.span m ops) rest w h = (tt, ops-plain ops rest h)
-  spelled-plain (Block.join m a b endRow) rest w h = (tt, spelled-plain a _ w.0 (spelled-plain b _ w.1 (tt, h)))
-  spelled-plain (Block.one kind m a endRow) rest w h = (one_plain kind w.0, spelled-plain a _ w.1 (tt, h))
+  spelled-plain (Block.join m a b end_row) rest w h = (tt, spelled-plain a _ w.0 (spelled-plain b _ w.1 (tt, h)))
+  spelled-plain (Block.one kind m a end_row) rest w h = (one_plain kind w.0, spelled-plain a _ w.1 (tt, h))
   spelled-plain (Block.loop m passes) rest w h = (tt, passes-plain passes rest w h)
 
-  passes-plain : (own : Passes) (rest : List Row) → PassesWithoutSyscall own → AllPlain rest → AllPlain (spellPasses own rest)
-  passes-plain (Passes.ended a endRow) rest w h = spelled-plain a _ w (tt, h)
-  passes-plain (Passes.repeated a repeatRow more) rest w h = spelled-plain a _ w.0 (tt, passes-plain more rest w.1 h)
+  passes-plain : (own : Passes) (rest : List Row) → PassesWithoutSyscall own → AllPlain rest → AllPlain (spell_passes own rest)
+  passes-plain (Passes.ended a end_row) rest w h = spelled-plain a _ w (tt, h)
+  passes-plain (Passes.repeated a repeat_row more) rest w h = spelled-plain a _ w.0 (tt, passes-plain more rest w.1 h)
 
 halts-plain : (rest : List Row) → OnlyHalts rest → AllPlain rest
 unfolding OnlyHalts AllPlain Plain
@@ -169,8 +169,8 @@ unfolding Halts OnlyHalts
 some-halts [] h = tt
 some-halts (x ∷ rest) h = h
 
-row_plain : (p : Profile) (rows : List (List ℕ)) (m n : ℕ) → AllPlain (numbered m (tokensOf p rows)) → n < length rows → Plain (tokenOf p (row_at rows n))
-unfolding numbered tokensOf AllPlain
+row_plain : (p : Profile) (rows : List (List ℕ)) (m n : ℕ) → AllPlain (numbered m (tokens_of p rows)) → n < length rows → Plain (token_of p (row_at rows n))
+unfolding numbered tokens_of AllPlain
 row_plain p [] m n h low = absurd (omega arith)
 row_plain p (row ∷ rows) m zero h low = h.0
 row_plain p (row ∷ rows) m (suc n) h low = row_plain p rows (suc m) n h.1 (omega arith)
@@ -180,6 +180,6 @@ pub none-in-rows : (p : Profile) (cells : List ℕ) (b : Block) → Trace p cell
 unfolding Trace Reading WordOf NoSyscallRows all_rows Plain NotSyscall
 none-in-rows p cells b t w n low e =
     let (rest, spelled, halts) = t.1.0 in
-    let plain : AllPlain (numbered 0 (tokensOf p (all_rows cells))) = rw spelled (spelled-plain b rest w (halts-plain rest (some-halts rest halts))) in
-    let h : Plain (tokenOf p (row_at (all_rows cells) n)) = row_plain p (all_rows cells) 0 n plain (omega (arith, length-rows (length cells / 49) cells)) in
+    let plain : AllPlain (numbered 0 (tokens_of p (all_rows cells))) = rw spelled (spelled-plain b rest w (halts-plain rest (some-halts rest halts))) in
+    let h : Plain (token_of p (row_at (all_rows cells) n)) = row_plain p (all_rows cells) 0 n plain (omega (arith, length-rows (length cells / 49) cells)) in
     rw e at h

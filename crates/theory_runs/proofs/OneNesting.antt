@@ -10,14 +10,14 @@ use Rattle.rows.specs.cycles.Made.{Cursor}
 use Rattle.theory_readings.proofs.OneReading.{one-tree}
 use Rattle.theory_runs.specs.Calls.{Fragment}
 use Rattle.theory_runs.specs.Happened.{Cycle}
-use Rattle.theory_runs.specs.ProperRuns.{Run, treeFrom}
+use Rattle.theory_runs.specs.ProperRuns.{Run, tree_from}
 use Rattle.theory_runs.specs.Finished.{Runs, nesting}
 use Rattle.theory_runs.proofs.Spelled.{at, rows_from, run-spell}
 
 pub one-tree-ran : (p : Profile) {f f' : Forest} {id id' : ℕ} {body body' : Bool} {a a' b b' g g' : ℕ} {cycles rest rest' : List Cycle} (n : ℕ) (d : Run p f id body a b g cycles rest) (d' : Run p f' id' body' a' b' g' cycles rest') →
-    (treeFrom p n d).0 ≡ (treeFrom p n d').0
+    (tree_from p n d).0 ≡ (tree_from p n d').0
 one-tree-ran p {a = a} {a' = a'} {g = g} {g' = g'} {rest = rest} {rest' = rest'} n d d' =
-    (one-tree (treeFrom p n d).0 (treeFrom p n d').0 (rows_from p [] (treeFrom p n d).1 rest (at a g)) (rows_from p [] (treeFrom p n d').1 rest' (at a' g'))
+    (one-tree (tree_from p n d).0 (tree_from p n d').0 (rows_from p [] (tree_from p n d).1 rest (at a g)) (rows_from p [] (tree_from p n d').1 rest' (at a' g'))
     (sym (run-spell p [] n (at 0 0) d) ∙ run-spell p [] n (at 0 0) d')).0
 
 pub one-nesting : {p : Profile} {q : Queues} {size size' : ℕ} {fragments : List Fragment} {here : Cursor} (runs : Runs p q size fragments here) (runs' : Runs p q size' fragments here) → nesting runs ≡ nesting runs'

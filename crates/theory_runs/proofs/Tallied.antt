@@ -7,7 +7,7 @@ use native.Mathlib.Omega.{arith}
 use borrow.Author.Tests.{eq-eqb, eqb-false, ne_eqb}
 use lib.Dec.{eqb}
 use Rattle.groups.specs.Answer.{pick}
-use Rattle.rows.specs.records.Profiles.{isOneOf, twoEqual}
+use Rattle.rows.specs.records.Profiles.{is_one_of, two_equal}
 use Rattle.rows.specs.records.DecoderRows.{bit}
 use Rattle.rows.proofs.passes.Checks.{neither}
 use Rattle.theory_readings.specs.Readings.{Ask}
@@ -23,15 +23,15 @@ heads x [] = 0
 heads x (seen token addr mark ∷ l) = same addr x
 
 -- k for a flag that is exactly 1, else 0
-unfoldable pub ifFlag : Mark → ℕ → ℕ
-ifFlag none k = 0
-ifFlag (flag h) k = pick (eqb h 1) k 0
-ifFlag (count c) k = 0
+unfoldable pub if_flag : Mark → ℕ → ℕ
+if_flag none k = 0
+if_flag (flag h) k = pick (eqb h 1) k 0
+if_flag (count c) k = 0
 
 -- the number of flagged END rows, not last, whose successor has the address x
 unfoldable pub hits : ℕ → List Seen → ℕ
 hits x [] = 0
-hits x (seen token addr mark ∷ l) = ifFlag mark (heads x l) + hits x l
+hits x (seen token addr mark ∷ l) = if_flag mark (heads x l) + hits x l
 
 -- m of the first row's address, c if there is none
 unfoldable pub behind : (ℕ → ℕ) → ℕ → List Seen → ℕ
@@ -98,11 +98,11 @@ times_zero (suc n) = omega (arith, times_zero n)
 other_way : (m n : ℕ) → eqb m n ≡ false → eqb n m ≡ false
 other_way m n e = ne_eqb n m (λ z. eqb-false m n e (sym z))
 
-total-absent : (x : ℕ) (q : List Looped) → isOneOf x (addresses q) ≡ false → total x q ≡ 0
-unfolding total addresses isOneOf
+total-absent : (x : ℕ) (q : List Looped) → is_one_of x (addresses q) ≡ false → total x q ≡ 0
+unfolding total addresses is_one_of
 total-absent x [] h = refl
 total-absent x (y ∷ q) h =
-    let (a, b) = neither (eqb x y.0) (isOneOf x (addresses q)) h in
+    let (a, b) = neither (eqb x y.0) (is_one_of x (addresses q)) h in
     rw (other_way x y.0 a, times_zero) (omega (arith, total-absent x q b))
 
 -- e is 0 at each of the addresses
@@ -110,11 +110,11 @@ unfoldable Zero : (ℕ → ℕ) → List ℕ → Type 0
 Zero e [] = Unit {0}
 Zero e (x ∷ l) = (e x ≡ 0) × Zero e l
 
-zero_more : (e : ℕ → ℕ) (b t : ℕ) (l : List ℕ) → Zero e l → isOneOf b l ≡ false → Zero (λ x. e x + times t (same b x)) l
-unfolding Zero isOneOf
+zero_more : (e : ℕ → ℕ) (b t : ℕ) (l : List ℕ) → Zero e l → is_one_of b l ≡ false → Zero (λ x. e x + times t (same b x)) l
+unfolding Zero is_one_of
 zero_more e b t [] z h = tt
 zero_more e b t (x ∷ l) z h =
-    let (i, j) = neither (eqb b x) (isOneOf b l) h in
+    let (i, j) = neither (eqb b x) (is_one_of b l) h in
     (rw (i, times_zero, z.0), zero_more e b t l z.1 j)
 
 pub counts-ext : (m k : ℕ → ℕ) (q : List Looped) → ((x : ℕ) → m x ≡ k x) → Counts m q → Counts k q
@@ -122,11 +122,11 @@ unfolding Counts
 counts-ext m k [] h c = tt
 counts-ext m k (y ∷ q) h c = (sym (h y.0) ∙ c.0, counts-ext m k q h c.1)
 
-counts-from : (q : List Looped) (e : ℕ → ℕ) → Zero e (addresses q) → twoEqual (addresses q) ≡ false → Counts (λ x. e x + total x q) q
-unfolding Counts twoEqual addresses total Zero
+counts-from : (q : List Looped) (e : ℕ → ℕ) → Zero e (addresses q) → two_equal (addresses q) ≡ false → Counts (λ x. e x + total x q) q
+unfolding Counts two_equal addresses total Zero
 counts-from [] e z h = tt
 counts-from (y ∷ q) e z h =
-    let (i, j) = neither (isOneOf y.0 (addresses q)) (twoEqual (addresses q)) h in (
+    let (i, j) = neither (is_one_of y.0 (addresses q)) (two_equal (addresses q)) h in (
       rw (same_refl y.0, times-one, total-absent y.0 q i, z.0) (omega arith),
       counts-ext _ _ q (λ x. omega arith) (counts-from q (λ x. e x + times y.1 (same y.0 x)) (zero_more e y.0 y.1 (addresses q) z.1 i) j),
     )
@@ -137,11 +137,11 @@ zero-zero [] = tt
 zero-zero (x ∷ l) = (refl, zero-zero l)
 
 -- with no two loops at one address the sum at each of these is its passes
-pub counts-total : (q : List Looped) → twoEqual (addresses q) ≡ false → Counts (λ x. 0 + total x q) q
+pub counts-total : (q : List Looped) → two_equal (addresses q) ≡ false → Counts (λ x. 0 + total x q) q
 counts-total q h = counts-from q (λ x. 0) (zero-zero (addresses q)) h
 
 -- a flag counts only what is behind it
-pub flag-zero : (body : Bool) → ifFlag (flag (bit body)) 0 ≡ 0
-unfolding ifFlag
+pub flag-zero : (body : Bool) → if_flag (flag (bit body)) 0 ≡ 0
+unfolding if_flag
 flag-zero true = refl
 flag-zero false = refl

@@ -12,27 +12,27 @@ use lib.Seq.{get_or-append_seam, get_or-set_same, get_or-set_other}
 use Rattle.field.specs.Modulus.{P}
 use Rattle.field.specs.Cells.{cell_at}
 use Rattle.rows.specs.ways.Order.{hit, occurrences}
-use Rattle.rows.specs.cycles.LentTally.{countIn, isFree, is_of, firstFrom, first, placeFor, countedAt, cannotCount}
+use Rattle.rows.specs.cycles.LentTally.{count_in, is_free, is_of, first_from, first, place_for, counted_at, cannot_count}
 use Rattle.rows.proofs.records.Occurrences.{hit_same, hit_other, occurrences-append}
 use Rattle.rows.proofs.cycles.Tallying.{place-in-use, place-free, place-left}
 use Rattle.theory_runs.specs.LiveCalls.{Zeros}
-use Rattle.theory_runs.specs.TallyClaims.{withNew, onceFrom, onceEach, Tells, talliedAt}
+use Rattle.theory_runs.specs.TallyClaims.{with_new, once_from, once_each, Tells, tallied_at}
 
 -- THE FIRST PLACE
 
-first-or : (test : ℕ → Bool) (i from n : ℕ) → Dec (from ≡ i) → test i ≡ true → ((from ≡ i → ⊥) → test from ≡ false) → ((from ≡ i → ⊥) → firstFrom test (suc from) n ≡ i) → firstFrom test from (suc n) ≡ i
-unfolding firstFrom
+first-or : (test : ℕ → Bool) (i from n : ℕ) → Dec (from ≡ i) → test i ≡ true → ((from ≡ i → ⊥) → test from ≡ false) → ((from ≡ i → ⊥) → first_from test (suc from) n ≡ i) → first_from test from (suc n) ≡ i
+unfolding first_from
 first-or test i from n (yes e) here other later = let h : test from ≡ true = ap test e ∙ here in rw h e
 first-or test i from n (no d) here other later = rw (other d) (later d)
 
-first-is : (test : ℕ → Bool) (i from n : ℕ) → ((j : ℕ) → j < i → test j ≡ false) → test i ≡ true → from ≤ i → i < from + n → firstFrom test from n ≡ i
+first-is : (test : ℕ → Bool) (i from n : ℕ) → ((j : ℕ) → j < i → test j ≡ false) → test i ≡ true → from ≤ i → i < from + n → first_from test from n ≡ i
 first-is test i from zero none here l h = absurd (omega arith)
 first-is test i from (suc n) none here l h =
     first-or test i from n (ℕ_discrete from i) here (λ d. none from (omega arith)) (λ d. first-is test i (suc from) n none here (omega arith) (omega arith))
 
 -- none before i: from i on, or all n
-first_past : (test : ℕ → Bool) (i from n : ℕ) → ((j : ℕ) → j < i → test j ≡ false) → from + n ≤ i → firstFrom test from n ≡ from + n
-unfolding firstFrom
+first_past : (test : ℕ → Bool) (i from n : ℕ) → ((j : ℕ) → j < i → test j ≡ false) → from + n ≤ i → first_from test from n ≡ from + n
+unfolding first_from
 first_past test i from zero none h = omega arith
 first_past test i from (suc n) none h = rw (none from (omega arith)) (first_past test i (suc from) n none (omega arith) ∙ omega arith)
 
@@ -68,10 +68,10 @@ unfolding occurrences
 occurs-not [] x n = refl
 occurs-not (y ∷ l) x n = omega (arith, hit_other y x (n 0 (omega arith)), occurs-not l x (λ i h e. n (suc i) (omega arith) e))
 
-once-snoc : (seen addrs : List ℕ) (x : ℕ) → onceFrom seen (addrs ++ (x ∷ [])) ≡ withNew (onceFrom seen addrs) x
-unfolding onceFrom
+once-snoc : (seen addrs : List ℕ) (x : ℕ) → once_from seen (addrs ++ (x ∷ [])) ≡ with_new (once_from seen addrs) x
+unfolding once_from
 once-snoc seen [] x = refl
-once-snoc seen (y ∷ addrs) x = once-snoc (withNew seen y) addrs x
+once-snoc seen (y ∷ addrs) x = once-snoc (with_new seen y) addrs x
 
 occurs-snoc : (y x : ℕ) (addrs : List ℕ) → occurrences y (addrs ++ (x ∷ [])) ≡ occurrences y addrs + hit x y
 unfolding occurrences
@@ -104,17 +104,17 @@ standing-none tally zeros = record {
   zeros = λ i h. zeros i;
 }
 
-pub standing-tells : (addrs tally : List ℕ) → Standing (onceEach addrs) addrs tally → Tells addrs tally
+pub standing-tells : (addrs tally : List ℕ) → Standing (once_each addrs) addrs tally → Tells addrs tally
 standing-tells addrs tally s = record { few = s.few; address = s.address; number = s.number; zeros = s.zeros }
 
 module _ (l addrs tally : List ℕ) (s : Standing l addrs tally) where
-  in_use : (k : ℕ) → k < length l → isFree tally k ≡ false
-  unfolding isFree
-  in_use k h = ne_eqb (countIn tally k) 0 (λ e. omega (arith, s.number k h, s.from k h))
+  in_use : (k : ℕ) → k < length l → is_free tally k ≡ false
+  unfolding is_free
+  in_use k h = ne_eqb (count_in tally k) 0 (λ e. omega (arith, s.number k h, s.from k h))
 
-  free-behind : (k : ℕ) → length l ≤ k → k < 256 → isFree tally k ≡ true
-  unfolding isFree
-  free-behind k h g = eq-eqb (countIn tally k) 0 (s.zeros (2 * k + 1) (omega arith) (omega arith))
+  free-behind : (k : ℕ) → length l ≤ k → k < 256 → is_free tally k ≡ true
+  unfolding is_free
+  free-behind k h g = eq-eqb (count_in tally k) 0 (s.zeros (2 * k + 1) (omega arith) (omega arith))
 
   cell-is : (k : ℕ) → k < length l → cell_at tally (2 * k) ≡ get_or l k 0
   unfolding cell_at
@@ -139,30 +139,30 @@ module _ (l addrs tally : List ℕ) (s : Standing l addrs tally) where
     first_of =
         first-is (is_of tally x) i 0 256 (λ j k. of_other x j (omega arith) (λ d. omega (arith, s.apart j i (omega arith) h (d ∙ sym e)))) (of-here x i h e) (omega arith) (omega (arith, s.few))
 
-    there-tallied : talliedAt x tally ≡ occurrences x addrs
-    unfolding talliedAt
+    there-tallied : tallied_at x tally ≡ occurrences x addrs
+    unfolding tallied_at
     there-tallied = rw (first_of, lt-ltb i 256 (omega (arith, s.few))) (s.number i h ∙ ap (λ y. occurrences y addrs) e)
 
-    there-place : placeFor tally x ≡ i
+    there-place : place_for tally x ≡ i
     there-place = place-in-use tally x i first_of (omega (arith, s.few))
 
-    there-seen : withNew l x ≡ l
-    unfolding withNew
+    there-seen : with_new l x ≡ l
+    unfolding with_new
     there-seen = rw (lt-ltb 0 (occurrences x l) (occurs l x i h e))
 
     abbrev raised : List ℕ
-    raised = set tally (2 * i + 1) (countIn tally i + 1)
+    raised = set tally (2 * i + 1) (count_in tally i + 1)
 
-    there-counted : countedAt tally x i ≡ raised
-    unfolding countedAt
+    there-counted : counted_at tally x i ≡ raised
+    unfolding counted_at
     there-counted = rw (in_use i h)
 
     raised-number : 512 ≤ length tally → (k : ℕ) → k < length l → Dec (k ≡ i) → get_or raised (2 * k + 1) 0 ≡ occurrences (get_or l k 0) (addrs ++ (x ∷ []))
     raised-number long k g (yes d) =
-        rw (d, get_or-set_same tally (2 * i + 1) (countIn tally i + 1) 0 (omega (arith, s.few)))
+        rw (d, get_or-set_same tally (2 * i + 1) (count_in tally i + 1) 0 (omega (arith, s.few)))
         (omega (arith, s.number i h, occurs-snoc (get_or l i 0) x addrs, hit_same x (get_or l i 0) (sym e)))
     raised-number long k g (no d) =
-        get_or-set_other tally (2 * i + 1) (2 * k + 1) (countIn tally i + 1) 0 (λ y. d (omega arith))
+        get_or-set_other tally (2 * i + 1) (2 * k + 1) (count_in tally i + 1) 0 (λ y. d (omega arith))
         ∙ omega (arith, s.number k g, occurs-snoc (get_or l k 0) x addrs, hit_other x (get_or l k 0) (λ y. d (s.apart k i g h (sym y ∙ sym e))))
 
     there-stands : 512 ≤ length tally → Standing l (addrs ++ (x ∷ [])) raised
@@ -172,9 +172,9 @@ module _ (l addrs tally : List ℕ) (s : Standing l addrs tally) where
       all = λ y n. omega (arith, s.all y n, occurs-snoc y x addrs, hit_other x y (λ d. n i h (e ∙ d)));
       cells = s.cells;
       few = s.few;
-      address = λ k g. get_or-set_other tally (2 * i + 1) (2 * k) (countIn tally i + 1) 0 (λ y. omega arith) ∙ s.address k g;
+      address = λ k g. get_or-set_other tally (2 * i + 1) (2 * k) (count_in tally i + 1) 0 (λ y. omega arith) ∙ s.address k g;
       number = λ k g. raised-number long k g (ℕ_discrete k i);
-      zeros = λ j g m. get_or-set_other tally (2 * i + 1) j (countIn tally i + 1) 0 (λ y. omega arith) ∙ s.zeros j g m;
+      zeros = λ j g m. get_or-set_other tally (2 * i + 1) j (count_in tally i + 1) 0 (λ y. omega arith) ∙ s.zeros j g m;
     }
 
   -- A NEW ADDRESS
@@ -187,33 +187,33 @@ module _ (l addrs tally : List ℕ) (s : Standing l addrs tally) where
     none_of : first (is_of tally x) ≡ 256
     none_of = first_past (is_of tally x) 256 0 256 (λ k g. of_none k g (dec_lt k (length l))) (omega arith) ∙ omega arith
 
-    none-tallied : talliedAt x tally ≡ occurrences x addrs
-    unfolding talliedAt
+    none-tallied : tallied_at x tally ≡ occurrences x addrs
+    unfolding tallied_at
     none-tallied = rw (none_of, s.all x new)
 
-    new-place : placeFor tally x ≡ first (isFree tally)
+    new-place : place_for tally x ≡ first (is_free tally)
     new-place = place-free tally x none_of
 
-    new-seen : withNew l x ≡ l ++ (x ∷ [])
-    unfolding withNew
+    new-seen : with_new l x ≡ l ++ (x ∷ [])
+    unfolding with_new
     new-seen = rw (le-ltb 0 (occurrences x l) (omega (arith, occurs-not l x new)))
 
     -- there is room for it
-    new-room : cannotCount tally (placeFor tally x) ≡ false → Dec (length l < 256) → length l < 256
+    new-room : cannot_count tally (place_for tally x) ≡ false → Dec (length l < 256) → length l < 256
     new-room left (yes h) = h
     new-room left (no d) =
-        let full : first (isFree tally) ≡ 0 + 256 = first_past (isFree tally) (length l) 0 256 (λ j g. in_use j g) (omega arith) in
-        absurd (omega (arith, (place-left tally (placeFor tally x) left).0, new-place, full))
+        let full : first (is_free tally) ≡ 0 + 256 = first_past (is_free tally) (length l) 0 256 (λ j g. in_use j g) (omega arith) in
+        absurd (omega (arith, (place-left tally (place_for tally x) left).0, new-place, full))
 
     module _ (room : length l < 256) where
-      first-free : first (isFree tally) ≡ length l
-      first-free = first-is (isFree tally) (length l) 0 256 (λ j g. in_use j g) (free-behind (length l) (omega arith) room) (omega arith) (omega arith)
+      first-free : first (is_free tally) ≡ length l
+      first-free = first-is (is_free tally) (length l) 0 256 (λ j g. in_use j g) (free-behind (length l) (omega arith) room) (omega arith) (omega arith)
 
       abbrev taken : List ℕ
       taken = set (set tally (2 * length l) x) (2 * length l + 1) 1
 
-      new-counted : countedAt tally x (length l) ≡ taken
-      unfolding countedAt
+      new-counted : counted_at tally x (length l) ≡ taken
+      unfolding counted_at
       new-counted = rw (free-behind (length l) (omega arith) room)
 
       module _ (long : 512 ≤ length tally) (cell : x % P ≡ x) where
@@ -260,26 +260,26 @@ module _ (l addrs tally : List ℕ) (s : Standing l addrs tally) where
 
   -- ONE ADDRESS MORE
 
-  step : (x : ℕ) → 512 ≤ length tally → x % P ≡ x → cannotCount tally (placeFor tally x) ≡ false → In l x ⊎ NotIn l x →
-      Standing (withNew l x) (addrs ++ (x ∷ [])) (countedAt tally x (placeFor tally x))
+  step : (x : ℕ) → 512 ≤ length tally → x % P ≡ x → cannot_count tally (place_for tally x) ≡ false → In l x ⊎ NotIn l x →
+      Standing (with_new l x) (addrs ++ (x ∷ [])) (counted_at tally x (place_for tally x))
   step x long cell left (inl (i, h, e)) = rw (there-place x i h e, there-seen x i h e, there-counted x i h e) (there-stands x i h e long)
   step x long cell left (inr new) =
       let room = new-room x new left (dec_lt (length l) 256) in
-      let at : placeFor tally x ≡ length l = new-place x new ∙ first-free x new room in
+      let at : place_for tally x ≡ length l = new-place x new ∙ first-free x new room in
       rw (at, new-seen x new, new-counted x new room) (new-stands x new room long cell)
 
-  pub standing-more : (x : ℕ) → 512 ≤ length tally → x % P ≡ x → cannotCount tally (placeFor tally x) ≡ false → Standing (withNew l x) (addrs ++ (x ∷ [])) (countedAt tally x (placeFor tally x))
+  pub standing-more : (x : ℕ) → 512 ≤ length tally → x % P ≡ x → cannot_count tally (place_for tally x) ≡ false → Standing (with_new l x) (addrs ++ (x ∷ [])) (counted_at tally x (place_for tally x))
   standing-more x long cell left = step x long cell left (find l x)
 
-  told : (x : ℕ) → In l x ⊎ NotIn l x → talliedAt x tally ≡ occurrences x addrs
+  told : (x : ℕ) → In l x ⊎ NotIn l x → tallied_at x tally ≡ occurrences x addrs
   told x (inl (i, h, e)) = there-tallied x i h e
   told x (inr new) = none-tallied x new
 
   -- the count of an address is its number
-  pub standing-count : (x : ℕ) → talliedAt x tally ≡ occurrences x addrs
+  pub standing-count : (x : ℕ) → tallied_at x tally ≡ occurrences x addrs
   standing-count x = told x (find l x)
 
 -- the same with each address once
-pub standing-once : (addrs tally : List ℕ) (x : ℕ) → Standing (onceEach addrs) addrs tally → 512 ≤ length tally → x % P ≡ x → cannotCount tally (placeFor tally x) ≡ false →
-    Standing (onceEach (addrs ++ (x ∷ []))) (addrs ++ (x ∷ [])) (countedAt tally x (placeFor tally x))
-standing-once addrs tally x s long cell left = rw (once-snoc [] addrs x) (standing-more (onceEach addrs) addrs tally s x long cell left)
+pub standing-once : (addrs tally : List ℕ) (x : ℕ) → Standing (once_each addrs) addrs tally → 512 ≤ length tally → x % P ≡ x → cannot_count tally (place_for tally x) ≡ false →
+    Standing (once_each (addrs ++ (x ∷ []))) (addrs ++ (x ∷ [])) (counted_at tally x (place_for tally x))
+standing-once addrs tally x s long cell left = rw (once-snoc [] addrs x) (standing-more (once_each addrs) addrs tally s x long cell left)

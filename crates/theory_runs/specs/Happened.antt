@@ -2,7 +2,7 @@
 -- positions. No row is looked at.
 use Rattle.std.specs.Prelude.{Bool, false, List, [], ◌∷◌, ◌++◌, ℕ}
 use Rattle.groups.specs.Answer.{Answer, accepted, refused, and_then, pick}
-use Rattle.groups.specs.Batches.{batchAt}
+use Rattle.groups.specs.Batches.{batch_at}
 use Rattle.rows.specs.declared.records.forest.MastNode.{MastNode}
 use Rattle.rows.specs.declared.records.address_state.Positions.{Positions}
 use Rattle.rows.specs.declared.records.continuation.Continuation.{Continuation}
@@ -13,11 +13,11 @@ use Rattle.rows.specs.declared.records.continuation.ContextInfo.{ContextInfo}
 use Rattle.rows.specs.declared.records.continuation.StoredValues.{StoredValues}
 use Rattle.rows.specs.declared.records.continuation.Used.{Used}
 use Rattle.rows.specs.declared.cycles.tracer.StoredContinuation.{StoredContinuation}
-use Rattle.rows.specs.records.Forests.{Forest, nodeAt, opcodeAt, block_of}
-use Rattle.rows.specs.records.Addresses.{Queues, startedAt, afterStart, end_at, after_end}
-use Rattle.rows.specs.records.Captured.{readCaptured}
-use Rattle.rows.specs.cycles.Made.{conditionOf}
-use Rattle.rows.specs.cycles.Cycles.{leftAfter}
+use Rattle.rows.specs.records.Forests.{Forest, node_at, opcode_at, block_of}
+use Rattle.rows.specs.records.Addresses.{Queues, started_at, after_start, end_at, after_end}
+use Rattle.rows.specs.records.Captured.{read_captured}
+use Rattle.rows.specs.cycles.Made.{condition_of}
+use Rattle.rows.specs.cycles.Cycles.{left_after}
 use Rattle.theory_readings.specs.Tokens.{split, call, syscall, dyn, dyncall, Kind}
 use Rattle.theory_runs.specs.Calls.{Call, store, finish, Fragment}
 
@@ -47,23 +47,23 @@ Cycle = Forest × Did
 -- what is in force at a cycle: the stored values, without those that are used up, and the queue positions
 pub record InForce : Type 0 where
   pub stored : StoredContinuation
-  pub isLoopBody : Bool
+  pub is_loop_body : Bool
   pub captured : Captured
   pub at : Positions
 
 -- nothing stored
-unfoldable pub nothingStored : Positions → InForce
-nothingStored at = record {
+unfoldable pub nothing_stored : Positions → InForce
+nothing_stored at = record {
   stored = StoredContinuation.Nothing;
-  isLoopBody = false;
+  is_loop_body = false;
   captured = record { finish_loop_condition = LoopCondition.Absent; dyn_callee_hash = CalleeWord.Absent; ctx_info = ContextInfo.Absent };
   at = at;
 }
 
 -- what follows from an answer that is no refusal
-abbrev pub orNothing : {A : Type 0} → Answer A → (A → Did) → Did
-orNothing (accepted x) f = f x
-orNothing (refused n) f = nothing
+abbrev pub or_nothing : {A : Type 0} → Answer A → (A → Did) → Did
+or_nothing (accepted x) f = f x
+or_nothing (refused n) f = nothing
 
 -- StartNode, by the node's kind
 unfoldable pub start_of : MastNode → (id address parent : ℕ) → Did
@@ -78,110 +78,110 @@ start_of MastNode.Dyncall = started (Kind.one dyncall)
 start_of MastNode.External = λ id address parent. nothing
 
 -- the opcode of an operation of a batch of a block
-unfoldable pub operationAt : Forest → (id batch op : ℕ) → Answer ℕ
-operationAt f id index op =
-    and_then (nodeAt f.nodes f.digests id) (λ entry.
+unfoldable pub operation_at : Forest → (id batch op : ℕ) → Answer ℕ
+operation_at f id index op =
+    and_then (node_at f.nodes f.digests id) (λ entry.
     and_then (block_of entry.node) (λ block.
-    and_then (batchAt f.batches f.groups block index) (λ batch.
-    opcodeAt f.ops batch op)))
+    and_then (batch_at f.batches f.groups block index) (λ batch.
+    opcode_at f.ops batch op)))
 
 -- a finish cycle, with its entry of the end queue
-unfoldable pub finishOf : Queues → InForce → Ending → (id : ℕ) → Did
-finishOf q v ending id =
-    orNothing (end_at q.ends v.at.ends) (λ entry.
-    finished ending id v.isLoopBody entry.ended_node_addr entry.prev_addr entry.prev_parent_addr)
+unfoldable pub finish_of : Queues → InForce → Ending → (id : ℕ) → Did
+finish_of q v ending id =
+    or_nothing (end_at q.ends v.at.ends) (λ entry.
+    finished ending id v.is_loop_body entry.ended_node_addr entry.prev_addr entry.prev_parent_addr)
 
 -- what a cycle does, by the continuation in force
-unfoldable pub didBy : Queues → Forest → InForce → Continuation → Did
-didBy q f v (Continuation.StartNode id) =
-    orNothing (startedAt q.addresses q.parents v.at) (λ state.
-    orNothing (nodeAt f.nodes f.digests id.0) (λ entry.
+unfoldable pub did_by : Queues → Forest → InForce → Continuation → Did
+did_by q f v (Continuation.StartNode id) =
+    or_nothing (started_at q.addresses q.parents v.at) (λ state.
+    or_nothing (node_at f.nodes f.digests id.0) (λ entry.
     start_of entry.node id.0 state.current_addr state.parent_addr))
-didBy q f v (Continuation.FinishJoin id) = finishOf q v Ending.FinishJoin id.0
-didBy q f v (Continuation.FinishSplit id) = finishOf q v Ending.FinishSplit id.0
-didBy q f v (Continuation.FinishLoop id) =
-    orNothing (conditionOf v.captured.finish_loop_condition) (λ again. pick again (repeated id.0) (finishOf q v Ending.FinishLoop id.0))
-didBy q f v (Continuation.FinishCall id) = finishOf q v Ending.FinishCall id.0
-didBy q f v (Continuation.FinishDyn id) = finishOf q v Ending.FinishDyn id.0
-didBy q f v (Continuation.ResumeBasicBlock id index op) =
-    orNothing (operationAt f id.0 index op) (λ opcode. operated id.0 index op opcode)
-didBy q f v (Continuation.Respan id index) = respanned id.0 index
-didBy q f v (Continuation.FinishBasicBlock id) = finishOf q v Ending.FinishBasicBlock id.0
-didBy q f v Continuation.EnterForest = nothing
+did_by q f v (Continuation.FinishJoin id) = finish_of q v Ending.FinishJoin id.0
+did_by q f v (Continuation.FinishSplit id) = finish_of q v Ending.FinishSplit id.0
+did_by q f v (Continuation.FinishLoop id) =
+    or_nothing (condition_of v.captured.finish_loop_condition) (λ again. pick again (repeated id.0) (finish_of q v Ending.FinishLoop id.0))
+did_by q f v (Continuation.FinishCall id) = finish_of q v Ending.FinishCall id.0
+did_by q f v (Continuation.FinishDyn id) = finish_of q v Ending.FinishDyn id.0
+did_by q f v (Continuation.ResumeBasicBlock id index op) =
+    or_nothing (operation_at f id.0 index op) (λ opcode. operated id.0 index op opcode)
+did_by q f v (Continuation.Respan id index) = respanned id.0 index
+did_by q f v (Continuation.FinishBasicBlock id) = finish_of q v Ending.FinishBasicBlock id.0
+did_by q f v Continuation.EnterForest = nothing
 
-unfoldable pub didStored : Queues → Forest → InForce → StoredContinuation → Did
-didStored q f v StoredContinuation.Nothing = nothing
-didStored q f v (StoredContinuation.Is continuation) = didBy q f v continuation
+unfoldable pub did_stored : Queues → Forest → InForce → StoredContinuation → Did
+did_stored q f v StoredContinuation.Nothing = nothing
+did_stored q f v (StoredContinuation.Is continuation) = did_by q f v continuation
 
 abbrev pub did : Queues → Forest → InForce → Did
-did q f v = didStored q f v v.stored
+did q f v = did_stored q f v v.stored
 
 -- what a cycle uses up: FinishLoop the condition, Dyn the word, Dyncall the word and the info
-unfoldable pub usedBy : Did → Used
-usedBy (started Kind.span id b a) = Used.Nothing
-usedBy (started Kind.join id b a) = Used.Nothing
-usedBy (started Kind.loop id b a) = Used.Nothing
-usedBy (started (Kind.one split) id b a) = Used.Nothing
-usedBy (started (Kind.one call) id b a) = Used.Nothing
-usedBy (started (Kind.one syscall) id b a) = Used.Nothing
-usedBy (started (Kind.one dyn) id b a) = Used.Callee
-usedBy (started (Kind.one dyncall) id b a) = Used.CalleeAndInfo
-usedBy (operated id i j opcode) = Used.Nothing
-usedBy (respanned id i) = Used.Nothing
-usedBy (repeated id) = Used.Condition
-usedBy (finished Ending.FinishBasicBlock id flag b a g) = Used.Nothing
-usedBy (finished Ending.FinishJoin id flag b a g) = Used.Nothing
-usedBy (finished Ending.FinishSplit id flag b a g) = Used.Nothing
-usedBy (finished Ending.FinishLoop id flag b a g) = Used.Condition
-usedBy (finished Ending.FinishCall id flag b a g) = Used.Nothing
-usedBy (finished Ending.FinishDyn id flag b a g) = Used.Nothing
-usedBy nothing = Used.Nothing
+unfoldable pub used_by : Did → Used
+used_by (started Kind.span id b a) = Used.Nothing
+used_by (started Kind.join id b a) = Used.Nothing
+used_by (started Kind.loop id b a) = Used.Nothing
+used_by (started (Kind.one split) id b a) = Used.Nothing
+used_by (started (Kind.one call) id b a) = Used.Nothing
+used_by (started (Kind.one syscall) id b a) = Used.Nothing
+used_by (started (Kind.one dyn) id b a) = Used.Callee
+used_by (started (Kind.one dyncall) id b a) = Used.CalleeAndInfo
+used_by (operated id i j opcode) = Used.Nothing
+used_by (respanned id i) = Used.Nothing
+used_by (repeated id) = Used.Condition
+used_by (finished Ending.FinishBasicBlock id flag b a g) = Used.Nothing
+used_by (finished Ending.FinishJoin id flag b a g) = Used.Nothing
+used_by (finished Ending.FinishSplit id flag b a g) = Used.Nothing
+used_by (finished Ending.FinishLoop id flag b a g) = Used.Condition
+used_by (finished Ending.FinishCall id flag b a g) = Used.Nothing
+used_by (finished Ending.FinishDyn id flag b a g) = Used.Nothing
+used_by nothing = Used.Nothing
 
 -- the queue positions after it
-unfoldable pub positionsAfter : Did → Positions → Positions
-positionsAfter (started kind id b a) at = afterStart at
-positionsAfter (operated id i j opcode) at = at
-positionsAfter (respanned id i) at = at
-positionsAfter (repeated id) at = at
-positionsAfter (finished ending id flag b a g) at = after_end at
-positionsAfter nothing at = at
+unfoldable pub positions_after : Did → Positions → Positions
+positions_after (started kind id b a) at = after_start at
+positions_after (operated id i j opcode) at = at
+positions_after (respanned id i) at = at
+positions_after (repeated id) at = at
+positions_after (finished ending id flag b a g) at = after_end at
+positions_after nothing at = at
 
 -- "Storing replaces all of them"; the cells among them are read (N2)
 unfoldable pub stored : InForce → StoredValues → InForce
 stored v values = record {
   stored = StoredContinuation.Is values.continuation;
-  isLoopBody = values.is_loop_body;
-  captured = readCaptured values.captured;
+  is_loop_body = values.is_loop_body;
+  captured = read_captured values.captured;
   at = v.at;
 }
 
 -- "A second finish without a store reuses the continuation, without the condition, word or info already used."
-unfoldable pub leftBy : InForce → Did → InForce
-leftBy v d = record {
+unfoldable pub left_by : InForce → Did → InForce
+left_by v d = record {
   stored = v.stored;
-  isLoopBody = v.isLoopBody;
-  captured = leftAfter (usedBy d) v.captured;
-  at = positionsAfter d v.at;
+  is_loop_body = v.is_loop_body;
+  captured = left_after (used_by d) v.captured;
+  at = positions_after d v.at;
 }
 
 -- what is in force after a call
-unfoldable pub inForceAfter : Queues → InForce → Call → InForce
-inForceAfter q v (store values) = stored v values
-inForceAfter q v (finish i) = leftBy v (did q i.forest v)
+unfoldable pub in_force_after : Queues → InForce → Call → InForce
+in_force_after q v (store values) = stored v values
+in_force_after q v (finish i) = left_by v (did q i.forest v)
 
-unfoldable pub inForceAfterAll : Queues → List Call → InForce → InForce
-inForceAfterAll q [] v = v
-inForceAfterAll q (c ∷ calls) v = inForceAfterAll q calls (inForceAfter q v c)
+unfoldable pub in_force_after_all : Queues → List Call → InForce → InForce
+in_force_after_all q [] v = v
+in_force_after_all q (c ∷ calls) v = in_force_after_all q calls (in_force_after q v c)
 
 -- the cycles of some calls
-unfoldable pub cyclesIn : Queues → List Call → InForce → List Cycle
-cyclesIn q [] v = []
-cyclesIn q (store values ∷ calls) v = cyclesIn q calls (stored v values)
-cyclesIn q (finish i ∷ calls) v = (i.forest, did q i.forest v) ∷ cyclesIn q calls (leftBy v (did q i.forest v))
+unfoldable pub cycles_in : Queues → List Call → InForce → List Cycle
+cycles_in q [] v = []
+cycles_in q (store values ∷ calls) v = cycles_in q calls (stored v values)
+cycles_in q (finish i ∷ calls) v = (i.forest, did q i.forest v) ∷ cycles_in q calls (left_by v (did q i.forest v))
 
 -- the cycles of a run, "(from 0, across fragments)": each fragment begins with nothing stored
-unfoldable pub cyclesOf : Queues → List Fragment → Positions → List Cycle
-cyclesOf q [] at = []
-cyclesOf q (fragment ∷ fragments) at =
-    cyclesIn q fragment.calls (nothingStored at)
-    ++ cyclesOf q fragments (inForceAfterAll q fragment.calls (nothingStored at)).at
+unfoldable pub cycles_of : Queues → List Fragment → Positions → List Cycle
+cycles_of q [] at = []
+cycles_of q (fragment ∷ fragments) at =
+    cycles_in q fragment.calls (nothing_stored at)
+    ++ cycles_of q fragments (in_force_after_all q fragment.calls (nothing_stored at)).at

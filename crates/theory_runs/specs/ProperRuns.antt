@@ -2,30 +2,30 @@
 use Rattle.std.specs.Prelude.{◌≡◌, Bool, true, false, List, [], ◌∷◌, ◌⊎◌, ℕ, suc, ◌+◌, ◌%◌, ◌<◌}
 use Rattle.field.specs.Modulus.{P}
 use Rattle.groups.specs.Answer.{accepted}
-use Rattle.groups.specs.Batches.{batchAt}
+use Rattle.groups.specs.Batches.{batch_at}
 use Rattle.groups.specs.declared.word.Word.{Word}
 use Rattle.groups.specs.declared.batch.BasicBlockNode.{BasicBlockNode}
 use Rattle.groups.specs.declared.batch.OpBatch.{OpBatch}
 use Rattle.rows.specs.declared.records.ids.MastNodeId.{MastNodeId}
 use Rattle.rows.specs.declared.records.profile.Profile.{Profile}
 use Rattle.rows.specs.declared.records.forest.MastNode.{MastNode}
-use Rattle.rows.specs.records.Forests.{Forest, nodeAt, nodeEntry, opcodeAt}
-use Rattle.theory_readings.specs.Tokens.{OneChild, split, call, syscall, dyn, dyncall, Kind, isOpOpcode}
+use Rattle.rows.specs.records.Forests.{Forest, node_at, node_entry, opcode_at}
+use Rattle.theory_readings.specs.Tokens.{OneChild, split, call, syscall, dyn, dyncall, Kind, is_op_opcode}
 use Rattle.theory_readings.specs.Readings as readings
 use Rattle.theory_runs.specs.Happened.{Ending, Did, started, operated, respanned, repeated, finished, Cycle}
 
 -- slot id of a forest holds the node
 unfoldable pub Holds : Forest → (id : ℕ) → MastNode → Type 0
-Holds f id node = (digest : Word) × (nodeAt f.nodes f.digests id ≡ nodeEntry node digest)
+Holds f id node = (digest : Word) × (node_at f.nodes f.digests id ≡ node_entry node digest)
 
 -- batch `index` of a block has n operations
 unfoldable pub HasOperations : Forest → BasicBlockNode → (index n : ℕ) → Type 0
-HasOperations f block index n = (batch : OpBatch) × (batchAt f.batches f.groups block index ≡ accepted batch) × (batch.num_ops ≡ n)
+HasOperations f block index n = (batch : OpBatch) × (batch_at f.batches f.groups block index ≡ accepted batch) × (batch.num_ops ≡ n)
 
 -- operation `op` of batch `index` of a block has the opcode
 unfoldable pub HasOpcode : Forest → BasicBlockNode → (index op opcode : ℕ) → Type 0
 HasOpcode f block index op opcode =
-    (batch : OpBatch) × (batchAt f.batches f.groups block index ≡ accepted batch) × (opcodeAt f.ops batch op ≡ accepted opcode)
+    (batch : OpBatch) × (batch_at f.batches f.groups block index ≡ accepted batch) × (opcode_at f.ops batch op ≡ accepted opcode)
 
 -- the node m of the forest g may run as the one child of the node id of f: "Split: one child; .. Call: the callee; Dyn: some node"; "each
 -- node one forest, shared by its children except a Dyn's"
@@ -38,28 +38,28 @@ Child dyn f id g m = Holds f id MastNode.Dyn
 Child dyncall f id g m = Holds f id MastNode.Dyncall
 
 -- the finish cycle of such a node
-unfoldable pub endingOf : OneChild → Ending
-endingOf split = Ending.FinishSplit
-endingOf call = Ending.FinishCall
-endingOf syscall = Ending.FinishCall
-endingOf dyn = Ending.FinishDyn
-endingOf dyncall = Ending.FinishDyn
+unfoldable pub ending_of : OneChild → Ending
+ending_of split = Ending.FinishSplit
+ending_of call = Ending.FinishCall
+ending_of syscall = Ending.FinishCall
+ending_of dyn = Ending.FinishDyn
+ending_of dyncall = Ending.FinishDyn
 
 -- the block addresses of the LOOP starts: "no two LOOP starts got the same block address"
-unfoldable pub withLoop : Did → List ℕ → List ℕ
-withLoop (started Kind.span id b a) l = l
-withLoop (started Kind.join id b a) l = l
-withLoop (started Kind.loop id b a) l = b ∷ l
-withLoop (started (Kind.one kind) id b a) l = l
-withLoop (operated id i j opcode) l = l
-withLoop (respanned id i) l = l
-withLoop (repeated id) l = l
-withLoop (finished ending id flag b a g) l = l
-withLoop Did.nothing l = l
+unfoldable pub with_loop : Did → List ℕ → List ℕ
+with_loop (started Kind.span id b a) l = l
+with_loop (started Kind.join id b a) l = l
+with_loop (started Kind.loop id b a) l = b ∷ l
+with_loop (started (Kind.one kind) id b a) l = l
+with_loop (operated id i j opcode) l = l
+with_loop (respanned id i) l = l
+with_loop (repeated id) l = l
+with_loop (finished ending id flag b a g) l = l
+with_loop Did.nothing l = l
 
-unfoldable pub loopStarts : List Cycle → List ℕ
-loopStarts [] = []
-loopStarts (c ∷ cycles) = withLoop c.1 (loopStarts cycles)
+unfoldable pub loop_starts : List Cycle → List ℕ
+loop_starts [] = []
+loop_starts (c ∷ cycles) = with_loop c.1 (loop_starts cycles)
 
 -- "moved on by the step for each Respan", modulo p
 abbrev pub moved : Profile → ℕ → ℕ
@@ -74,7 +74,7 @@ module _ (p : Profile) where
         HasOperations f block index op → suc index ≡ block.batches →
         InBlock f id block index op body a x g ((f, finished Ending.FinishBasicBlock id body x a g) ∷ rest) rest
     operation : {index op : ℕ} {body : Bool} {a x g : ℕ} {cycles rest : List Cycle} →
-        (opcode : ℕ) → HasOpcode f block index op opcode → isOpOpcode p opcode ≡ true →
+        (opcode : ℕ) → HasOpcode f block index op opcode → is_op_opcode p opcode ≡ true →
         InBlock f id block index (suc op) body a x g cycles rest →
         InBlock f id block index op body a x g ((f, operated id index op opcode) ∷ cycles) rest
     respan : {index op : ℕ} {body : Bool} {a x g : ℕ} {cycles rest : List Cycle} →
@@ -96,7 +96,7 @@ module _ (p : Profile) where
           Run f id body a b g ((f, started Kind.join id b a) ∷ cycles) rest
       one : {f child : Forest} {id m : ℕ} {body : Bool} {a b g c : ℕ} {cycles rest : List Cycle} →
           (kind : OneChild) → Child kind f id child m →
-          Run child m false b c a cycles ((f, finished (endingOf kind) id body b a g) ∷ rest) →
+          Run child m false b c a cycles ((f, finished (ending_of kind) id body b a g) ∷ rest) →
           Run f id body a b g ((f, started (Kind.one kind) id b a) ∷ cycles) rest
       loop : {f : Forest} {id : ℕ} {body : Bool} {a b g : ℕ} {cycles rest : List Cycle} {child : MastNodeId} →
           Holds f id (MastNode.Loop child) → RunPasses f id child.0 body a b g cycles rest →
@@ -113,20 +113,20 @@ module _ (p : Profile) where
 
   -- "The nesting that ran is a tree as in a reading, cycle n .. being row n": the tree of a run that begins with cycle n, and the number of
   -- the cycle behind it
-  unfoldable pub opsFrom : {f : Forest} {id : ℕ} {block : BasicBlockNode} {index op : ℕ} {body : Bool} {a x g : ℕ} {cycles rest : List Cycle} → (n : ℕ) → InBlock f id block index op body a x g cycles rest → readings.Ops × ℕ
-  opsFrom n (InBlock.ended size most) = (readings.Ops.ended n, suc n)
-  opsFrom n (InBlock.operation opcode has is d) = let x = opsFrom (suc n) d in (readings.Ops.op n opcode x.0, x.1)
-  opsFrom n (InBlock.respan size more d) = let x = opsFrom (suc n) d in (readings.Ops.respan n x.0, x.1)
+  unfoldable pub ops_from : {f : Forest} {id : ℕ} {block : BasicBlockNode} {index op : ℕ} {body : Bool} {a x g : ℕ} {cycles rest : List Cycle} → (n : ℕ) → InBlock f id block index op body a x g cycles rest → readings.Ops × ℕ
+  ops_from n (InBlock.ended size most) = (readings.Ops.ended n, suc n)
+  ops_from n (InBlock.operation opcode has is d) = let x = ops_from (suc n) d in (readings.Ops.op n opcode x.0, x.1)
+  ops_from n (InBlock.respan size more d) = let x = ops_from (suc n) d in (readings.Ops.respan n x.0, x.1)
 
   unfoldable mutual
-    pub treeFrom : {f : Forest} {id : ℕ} {body : Bool} {a b g : ℕ} {cycles rest : List Cycle} → (n : ℕ) → Run f id body a b g cycles rest → readings.Block × ℕ
-    treeFrom n (Run.block holds d) = let x = opsFrom (suc n) d in (readings.Block.span n x.0, x.1)
-    treeFrom n (Run.join holds d e) =
-        let x = treeFrom (suc n) d in let y = treeFrom x.1 e in (readings.Block.join n x.0 y.0 y.1, suc y.1)
-    treeFrom n (Run.one kind child d) = let x = treeFrom (suc n) d in (readings.Block.one kind n x.0 x.1, suc x.1)
-    treeFrom n (Run.loop holds d) = let x = passesFrom (suc n) d in (readings.Block.loop n x.0, x.1)
+    pub tree_from : {f : Forest} {id : ℕ} {body : Bool} {a b g : ℕ} {cycles rest : List Cycle} → (n : ℕ) → Run f id body a b g cycles rest → readings.Block × ℕ
+    tree_from n (Run.block holds d) = let x = ops_from (suc n) d in (readings.Block.span n x.0, x.1)
+    tree_from n (Run.join holds d e) =
+        let x = tree_from (suc n) d in let y = tree_from x.1 e in (readings.Block.join n x.0 y.0 y.1, suc y.1)
+    tree_from n (Run.one kind child d) = let x = tree_from (suc n) d in (readings.Block.one kind n x.0 x.1, suc x.1)
+    tree_from n (Run.loop holds d) = let x = passes_from (suc n) d in (readings.Block.loop n x.0, x.1)
 
-    pub passesFrom : {f : Forest} {id child : ℕ} {body : Bool} {a b g : ℕ} {cycles rest : List Cycle} → (n : ℕ) → RunPasses f id child body a b g cycles rest → readings.Passes × ℕ
-    passesFrom n (RunPasses.ended d) = let x = treeFrom n d in (readings.Passes.ended x.0 x.1, suc x.1)
-    passesFrom n (RunPasses.again d e) =
-        let x = treeFrom n d in let y = passesFrom (suc x.1) e in (readings.Passes.repeated x.0 x.1 y.0, y.1)
+    pub passes_from : {f : Forest} {id child : ℕ} {body : Bool} {a b g : ℕ} {cycles rest : List Cycle} → (n : ℕ) → RunPasses f id child body a b g cycles rest → readings.Passes × ℕ
+    passes_from n (RunPasses.ended d) = let x = tree_from n d in (readings.Passes.ended x.0 x.1, suc x.1)
+    passes_from n (RunPasses.again d e) =
+        let x = tree_from n d in let y = passes_from (suc x.1) e in (readings.Passes.repeated x.0 x.1 y.0, y.1)

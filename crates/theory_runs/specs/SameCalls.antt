@@ -3,29 +3,29 @@ use Rattle.std.specs.Prelude.{◌≡◌, List, [], ◌∷◌, ◌++◌, ℕ, suc
 use Rattle.rows.specs.declared.records.profile.Profile.{Profile}
 use Rattle.rows.specs.records.Addresses.{Queues}
 use Rattle.rows.specs.cycles.Made.{Cursor}
-use Rattle.theory_runs.specs.Calls.{Call, store, finish, Fragment, AllAccepted, finalStates, countsOf, OneSize}
+use Rattle.theory_runs.specs.Calls.{Call, store, finish, Fragment, AllAccepted, final_states, counts_of, OneSize}
 
 -- the calls of some fragments, one after another
-unfoldable pub allCalls : List Fragment → List Call
-allCalls [] = []
-allCalls (fragment ∷ fragments) = fragment.calls ++ allCalls fragments
+unfoldable pub all_calls : List Fragment → List Call
+all_calls [] = []
+all_calls (fragment ∷ fragments) = fragment.calls ++ all_calls fragments
 
 -- N11: "one proper run, cut by two sizes": these calls, cut between calls into fragments that all have this size with only the last one short,
 -- where "no call refuses". The cells that the fragments held before are free
 pub record Cut (p : Profile) (q : Queues) (calls : List Call) (size : ℕ) (fragments : List Fragment) (here : Cursor) : Type 0 where
-  pub calls_are : allCalls fragments ≡ calls
+  pub calls_are : all_calls fragments ≡ calls
   pub accepted : AllAccepted p q fragments here
-  pub one_size : OneSize size fragments (countsOf (finalStates p q fragments here))
+  pub one_size : OneSize size fragments (counts_of (final_states p q fragments here))
 
 -- the same calls in one fragment
-abbrev pub inOne : List Fragment → (cells : List ℕ) → List Fragment
-inOne fragments cells = record { calls = allCalls fragments; cells = cells } ∷ []
+abbrev pub in_one : List Fragment → (cells : List ℕ) → List Fragment
+in_one fragments cells = record { calls = all_calls fragments; cells = cells } ∷ []
 
 -- how many cycles there are among some calls
-unfoldable pub cyclesAmong : List Call → ℕ
-cyclesAmong [] = 0
-cyclesAmong (store values ∷ calls) = cyclesAmong calls
-cyclesAmong (finish i ∷ calls) = suc (cyclesAmong calls)
+unfoldable pub cycles_among : List Call → ℕ
+cycles_among [] = 0
+cycles_among (store values ∷ calls) = cycles_among calls
+cycles_among (finish i ∷ calls) = suc (cycles_among calls)
 
 -- the same calls but for the system and stack states of their cycles
 unfoldable pub AlikeCalls : List Call → List Call → Type 0

@@ -2,28 +2,28 @@
 use Rattle.std.specs.Prelude.{List, ◌++◌, ℕ, ◌*◌, ltb, length, drop}
 use Rattle.std.proofs.Math.Option.{Option, none, some}
 use Rattle.groups.specs.Answer.{Answer, accepted, refused, pick}
-use Rattle.groups.specs.Constants.{rowWidth, mostRows, badLength, noDump}
-use Rattle.rows.specs.records.Buffers.{flat, bufferWrong}
+use Rattle.groups.specs.Constants.{row_width, most_rows, bad_length, no_dump}
+use Rattle.rows.specs.records.Buffers.{flat, buffer_wrong}
 use Rattle.theory_dumps.specs.ways.Undump.{undump}
 
 -- the rows that are read are few enough for a buffer of cells; a text with more is none that the writer gives
-unfoldable pub fewRows : Option (List (List ℕ)) → Option (List (List ℕ))
-fewRows none = none
-fewRows (some rows) = pick (ltb mostRows (length rows)) none (some rows)
+unfoldable pub few_rows : Option (List (List ℕ)) → Option (List (List ℕ))
+few_rows none = none
+few_rows (some rows) = pick (ltb most_rows (length rows)) none (some rows)
 
 unfoldable pub undumping : Option (List (List ℕ)) → (lent : ℕ) → Answer (List (List ℕ))
-undumping none lent = refused noDump
-undumping (some rows) lent = pick (ltb lent (rowWidth * length rows)) (refused badLength) (accepted rows)
+undumping none lent = refused no_dump
+undumping (some rows) lent = pick (ltb lent (row_width * length rows)) (refused bad_length) (accepted rows)
 
-unfoldable pub readingDump : (text : List ℕ) → (lent : ℕ) → Answer (List (List ℕ))
-readingDump text lent = pick (bufferWrong lent) (refused badLength) (undumping (fewRows (undump text)) lent)
+unfoldable pub reading_dump : (text : List ℕ) → (lent : ℕ) → Answer (List (List ℕ))
+reading_dump text lent = pick (buffer_wrong lent) (refused bad_length) (undumping (few_rows (undump text)) lent)
 
 -- how many they are
-unfoldable pub rowsRead : Answer (List (List ℕ)) → ℕ
-rowsRead (accepted rows) = length rows
-rowsRead (refused n) = 0
+unfoldable pub rows_read : Answer (List (List ℕ)) → ℕ
+rows_read (accepted rows) = length rows
+rows_read (refused n) = 0
 
 -- the cells past the rows stay, and on a refusal all
-unfoldable pub cellsAfter : Answer (List (List ℕ)) → (lent : List ℕ) → List ℕ
-cellsAfter (accepted rows) lent = flat rows ++ drop (rowWidth * length rows) lent
-cellsAfter (refused n) lent = lent
+unfoldable pub cells_after : Answer (List (List ℕ)) → (lent : List ℕ) → List ℕ
+cells_after (accepted rows) lent = flat rows ++ drop (row_width * length rows) lent
+cells_after (refused n) lent = lent

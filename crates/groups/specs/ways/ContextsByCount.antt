@@ -2,27 +2,27 @@
 -- names this file.
 use Rattle.std.specs.Prelude.{Bool, ◌||◌, List, ℕ, ◌+◌, ◌-◌, ◌*◌, ◌/◌, ◌^◌, ltb}
 use Rattle.groups.specs.Answer.{Answer, accepted, refused, pick}
-use Rattle.groups.specs.Constants.{overTotal, badLength}
-use Rattle.groups.specs.Contexts.{sumBefore, consumed, groupCell}
+use Rattle.groups.specs.Constants.{over_total, bad_length}
+use Rattle.groups.specs.Contexts.{sum_before, consumed, group_cell}
 use Rattle.groups.specs.declared.batch.BasicBlockNode.{BasicBlockNode}
 use Rattle.groups.specs.declared.group.OpPlace.{OpPlace}
 use Rattle.groups.specs.declared.context.BasicBlockContext.{BasicBlockContext}
 use Rattle.groups.specs.declared.context.ContextFound.{ContextFound}
 
--- `tooLarge` by the batch's group count
-abbrev pub largeBy : BasicBlockNode → (count : ℕ) → (above8 : Bool) → Bool
-largeBy block count above8 = ltb 4096 block.batches || (ltb 8 count || above8)
+-- `too_large` by the batch's group count
+abbrev pub large_by : BasicBlockNode → (count : ℕ) → (above8 : Bool) → Bool
+large_by block count above8 = ltb 4096 block.batches || (ltb 8 count || above8)
 
--- `contextInGroup` by it
-unfoldable pub contextIn : (push : ℕ) → BasicBlockNode → (batches groups : List ℕ) → (index count : ℕ) → OpPlace → Answer BasicBlockContext
-contextIn push block batches groups index count place =
-    pick (ltb block.total (consumed push block batches groups index place)) (refused overTotal)
-    (pick (largeBy block count (sumBefore batches block index).above8) (refused badLength)
+-- `context_in_group` by it
+unfoldable pub context_in : (push : ℕ) → BasicBlockNode → (batches groups : List ℕ) → (index count : ℕ) → OpPlace → Answer BasicBlockContext
+context_in push block batches groups index count place =
+    pick (ltb block.total (consumed push block batches groups index place)) (refused over_total)
+    (pick (large_by block count (sum_before batches block index).above8) (refused bad_length)
     (accepted (record {
-      current_op_group = groupCell groups block index place / 2 ^ (7 * (place.index + 1));
+      current_op_group = group_cell groups block index place / 2 ^ (7 * (place.index + 1));
       group_count_in_block = block.total - consumed push block batches groups index place;
     })))
 
-abbrev pub toldContext : ContextFound → Answer BasicBlockContext
-toldContext (ContextFound.Is context) = accepted context
-toldContext (ContextFound.Refused n) = refused n
+abbrev pub told_context : ContextFound → Answer BasicBlockContext
+told_context (ContextFound.Is context) = accepted context
+told_context (ContextFound.Refused n) = refused n

@@ -7,30 +7,30 @@ use Rattle.index.specs.declared.change.Change.{Change}
 use Rattle.index.specs.declared.fill.Progress.{Progress}
 
 -- the case of a row
-abbrev pub toldChange : Change → rows.Change
-toldChange Change.Begins = begins
-toldChange Change.Ends = ends
-toldChange Change.Stays = stays
+abbrev pub told_change : Change → rows.Change
+told_change Change.Begins = begins
+told_change Change.Ends = ends
+told_change Change.Stays = stays
 
 -- the start row of the innermost open block, or the row itself where none is open
-unfoldable pub aroundIn : (row opened : ℕ) → (stack index : List ℕ) → ℕ
-aroundIn row opened stack index = pick (eqb opened 0) row (get_or index (get_or stack (opened - 1) 0) 0)
+unfoldable pub around_in : (row opened : ℕ) → (stack index : List ℕ) → ℕ
+around_in row opened stack index = pick (eqb opened 0) row (get_or index (get_or stack (opened - 1) 0) 0)
 
-unfoldable pub indexBehind : rows.Change → (row : ℕ) → Progress → (stack index : List ℕ) → List ℕ
-indexBehind begins row s stack index =
-    set (set (set index s.next row) (s.next + 1) 0) (s.next + 2) (aroundIn row s.opened stack index)
-indexBehind ends row s stack index = set index (get_or stack (s.opened - 1) 0 + 1) row
-indexBehind stays row s stack index = index
+unfoldable pub index_behind : rows.Change → (row : ℕ) → Progress → (stack index : List ℕ) → List ℕ
+index_behind begins row s stack index =
+    set (set (set index s.next row) (s.next + 1) 0) (s.next + 2) (around_in row s.opened stack index)
+index_behind ends row s stack index = set index (get_or stack (s.opened - 1) 0 + 1) row
+index_behind stays row s stack index = index
 
-unfoldable pub stackBehind : rows.Change → Progress → (stack : List ℕ) → List ℕ
-stackBehind begins s stack = set stack s.opened s.next
-stackBehind ends s stack = stack
-stackBehind stays s stack = stack
+unfoldable pub stack_behind : rows.Change → Progress → (stack : List ℕ) → List ℕ
+stack_behind begins s stack = set stack s.opened s.next
+stack_behind ends s stack = stack
+stack_behind stays s stack = stack
 
-unfoldable pub progressBehind : rows.Change → Progress → Progress
-progressBehind begins s = record { opened = s.opened + 1; next = s.next + 3 }
-progressBehind ends s = record { opened = s.opened - 1; next = s.next }
-progressBehind stays s = s
+unfoldable pub progress_behind : rows.Change → Progress → Progress
+progress_behind begins s = record { opened = s.opened + 1; next = s.next + 3 }
+progress_behind ends s = record { opened = s.opened - 1; next = s.next }
+progress_behind stays s = s
 
 -- there is room for what the row adds
 unfoldable pub Room : rows.Change → Progress → (stack index : List ℕ) → Type 0

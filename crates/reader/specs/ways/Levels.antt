@@ -4,27 +4,27 @@ use Rattle.reader.specs.declared.token.RowKind.{RowKind}
 use Rattle.reader.specs.declared.token.RowKind.TheVariants.{Span, Join, One, Loop, Op, Respan, Repeat, End, Halt, Nothing}
 
 -- a start row belongs to its block
-unfoldable pub levelAt : RowKind → (c : ℕ) → ℕ
-levelAt Span c = c + 1
-levelAt Join c = c + 1
-levelAt One c = c + 1
-levelAt Loop c = c + 1
-levelAt Op c = c
-levelAt Respan c = c
-levelAt Repeat c = c
-levelAt End c = c
-levelAt Halt c = c
-levelAt Nothing c = c
+unfoldable pub level_at : RowKind → (c : ℕ) → ℕ
+level_at Span c = c + 1
+level_at Join c = c + 1
+level_at One c = c + 1
+level_at Loop c = c + 1
+level_at Op c = c
+level_at Respan c = c
+level_at Repeat c = c
+level_at End c = c
+level_at Halt c = c
+level_at Nothing c = c
 
 -- and so does END
-unfoldable pub levelBehind : RowKind → (c : ℕ) → ℕ
-levelBehind Span c = c
-levelBehind Join c = c
-levelBehind One c = c
-levelBehind Loop c = c
-levelBehind Op c = c
-levelBehind Respan c = c
-levelBehind Repeat c = c
-levelBehind End c = c - 1
-levelBehind Halt c = c
-levelBehind Nothing c = c
+unfoldable pub level_behind : RowKind → (c : ℕ) → ℕ
+level_behind Span c = c
+level_behind Join c = c
+level_behind One c = c
+level_behind Loop c = c
+level_behind Op c = c
+level_behind Respan c = c
+level_behind Repeat c = c
+level_behind End c = c - 1
+level_behind Halt c = c
+level_behind Nothing c = c

@@ -8,18 +8,18 @@ use Rattle.rows.specs.declared.records.continuation.Captured.{Captured}
 use Rattle.rows.specs.records.Forests.{Forest}
 use Rattle.rows.specs.records.Addresses.{Queues}
 use Rattle.rows.specs.cycles.Made.{Cursor, made}
-use Rattle.rows.specs.ways.ContinuationKinds.{continuationKind, madeOfKind}
+use Rattle.rows.specs.ways.ContinuationKinds.{continuation_kind, made_of_kind}
 
-pub made-by-kind : (f : Forest) (q : Queues) (p : Profile) (registers : OperationHelperRegisters) (continuation : Continuation) (isLoopBody : Bool) (captured : Captured) (here : Cursor) →
-    madeOfKind f q p registers (continuationKind continuation) isLoopBody captured here ≡ made f q p registers continuation isLoopBody captured here
+pub made-by-kind : (f : Forest) (q : Queues) (p : Profile) (registers : OperationHelperRegisters) (continuation : Continuation) (is_loop_body : Bool) (captured : Captured) (here : Cursor) →
+    made_of_kind f q p registers (continuation_kind continuation) is_loop_body captured here ≡ made f q p registers continuation is_loop_body captured here
 unfolding made
-made-by-kind f q p registers (Continuation.StartNode id) isLoopBody captured here = refl
-made-by-kind f q p registers (Continuation.FinishJoin id) isLoopBody captured here = refl
-made-by-kind f q p registers (Continuation.FinishSplit id) isLoopBody captured here = refl
-made-by-kind f q p registers (Continuation.FinishLoop id) isLoopBody captured here = refl
-made-by-kind f q p registers (Continuation.FinishCall id) isLoopBody captured here = refl
-made-by-kind f q p registers (Continuation.FinishDyn id) isLoopBody captured here = refl
-made-by-kind f q p registers (Continuation.ResumeBasicBlock id index op) isLoopBody captured here = refl
-made-by-kind f q p registers (Continuation.Respan id index) isLoopBody captured here = refl
-made-by-kind f q p registers (Continuation.FinishBasicBlock id) isLoopBody captured here = refl
-made-by-kind f q p registers Continuation.EnterForest isLoopBody captured here = refl
+made-by-kind f q p registers (Continuation.StartNode id) is_loop_body captured here = refl
+made-by-kind f q p registers (Continuation.FinishJoin id) is_loop_body captured here = refl
+made-by-kind f q p registers (Continuation.FinishSplit id) is_loop_body captured here = refl
+made-by-kind f q p registers (Continuation.FinishLoop id) is_loop_body captured here = refl
+made-by-kind f q p registers (Continuation.FinishCall id) is_loop_body captured here = refl
+made-by-kind f q p registers (Continuation.FinishDyn id) is_loop_body captured here = refl
+made-by-kind f q p registers (Continuation.ResumeBasicBlock id index op) is_loop_body captured here = refl
+made-by-kind f q p registers (Continuation.Respan id index) is_loop_body captured here = refl
+made-by-kind f q p registers (Continuation.FinishBasicBlock id) is_loop_body captured here = refl
+made-by-kind f q p registers Continuation.EnterForest is_loop_body captured here = refl

@@ -11,8 +11,8 @@ use lib.Seq.{get_or-take, get_or-drop}
 use Rattle.field.specs.Bounds.{any_from}
 use Rattle.rows.specs.declared.replay.directory.DirectoryEntry.{DirectoryEntry}
 use Rattle.rows.specs.records.Forests.{Forest}
-use Rattle.rows.specs.cycles.Scans.{anyBigOpcode, anyLongBlock, anyLargeBatch, forestTooLarge}
-use Rattle.rows.specs.replay.Calls.{window, forestIn}
+use Rattle.rows.specs.cycles.Scans.{any_big_opcode, any_long_block, any_large_batch, forest_too_large}
+use Rattle.rows.specs.replay.Calls.{window, forest_in}
 
 pub never : {A : Type 0} → false ≡ true → A
 never e = let z : ◌≡◌ {A = ℕ} 0 1 = cc in absurd (omega arith)
@@ -51,8 +51,8 @@ any-window : (limit width first count : ℕ) (xs : List ℕ) → any_from limit 
 unfolding window
 any-window limit width first count xs e = any-drop limit (width * first) xs (any-take limit (width * count) (drop (width * first) xs) e)
 
-pub part-big : (f : Forest) (w : DirectoryEntry) → anyBigOpcode (forestIn f w).ops ≡ true → anyBigOpcode f.ops ≡ true
-unfolding anyBigOpcode forestIn
+pub part-big : (f : Forest) (w : DirectoryEntry) → any_big_opcode (forest_in f w).ops ≡ true → any_big_opcode f.ops ≡ true
+unfolding any_big_opcode forest_in
 part-big f w = any-window 128 1 w.first_op w.ops f.ops
 
 -- RECORDS THAT PASS A TEST
@@ -99,19 +99,19 @@ module _ (width first count : ℕ) (xs : List ℕ) where
       let h : i < width * count = omega (arith, take_short (width * count) (drop (width * first) xs)) in
       rw (get_or-take, get_or-drop)
 
-abbrev longAt : (nodes : List ℕ) → ℕ → Bool
-longAt nodes k = eqb (get_or nodes (6 * k) 0) 2 && ltb 4096 (get_or nodes (6 * k + 5) 0)
+abbrev long_at : (nodes : List ℕ) → ℕ → Bool
+long_at nodes k = eqb (get_or nodes (6 * k) 0) 2 && ltb 4096 (get_or nodes (6 * k + 5) 0)
 
-any-long : (nodes : List ℕ) (n : ℕ) → anyLongBlock nodes n ≡ any_of (longAt nodes) n
-unfolding anyLongBlock
+any-long : (nodes : List ℕ) (n : ℕ) → any_long_block nodes n ≡ any_of (long_at nodes) n
+unfolding any_long_block
 any-long nodes zero = refl
 any-long nodes (suc k) = rw (any-long nodes k)
 
-abbrev largeAt : (batches : List ℕ) → ℕ → Bool
-largeAt batches k = ltb 8 (get_or batches (12 * k) 0)
+abbrev large_at : (batches : List ℕ) → ℕ → Bool
+large_at batches k = ltb 8 (get_or batches (12 * k) 0)
 
-any-large : (batches : List ℕ) (n : ℕ) → anyLargeBatch batches n ≡ any_of (largeAt batches) n
-unfolding anyLargeBatch
+any-large : (batches : List ℕ) (n : ℕ) → any_large_batch batches n ≡ any_of (large_at batches) n
+unfolding any_large_batch
 any-large batches zero = refl
 any-large batches (suc k) = rw (any-large batches k)
 
@@ -119,15 +119,15 @@ module _ (first count : ℕ) (nodes : List ℕ) where
   abbrev slots : List ℕ
   slots = window 6 first count nodes
 
-  long-moved : (k : ℕ) → k < length slots / 6 → longAt slots k ≡ true → longAt nodes (first + k) ≡ true
+  long-moved : (k : ℕ) → k < length slots / 6 → long_at slots k ≡ true → long_at nodes (first + k) ≡ true
   long-moved k l p =
       let whole : 6 * first + (6 * k + 5) ≡ 6 * (first + k) + 5 = omega arith in
       let start : 6 * first + 6 * k ≡ 6 * (first + k) = omega arith in
       rw (← whole, ← start, ← (window-at 6 first count nodes (6 * k) (omega arith)), ← (window-at 6 first count nodes (6 * k + 5) (omega arith))) p
 
-  part-long : anyLongBlock slots (length slots / 6) ≡ true → anyLongBlock nodes (length nodes / 6) ≡ true
+  part-long : any_long_block slots (length slots / 6) ≡ true → any_long_block nodes (length nodes / 6) ≡ true
   part-long e =
-      rw (any-long nodes (length nodes / 6)) (any-moved (longAt slots) (longAt nodes) first (length slots / 6) (length nodes / 6)
+      rw (any-long nodes (length nodes / 6)) (any-moved (long_at slots) (long_at nodes) first (length slots / 6) (length nodes / 6)
       (λ l. omega (arith, window-end 6 first count nodes (6 * (length slots / 6) - 1) (omega arith)))
       long-moved
       (rw (any-long slots (length slots / 6)) at e))
@@ -136,19 +136,19 @@ module _ (first count : ℕ) (batches : List ℕ) where
   abbrev records : List ℕ
   records = window 12 first count batches
 
-  large-moved : (k : ℕ) → k < length records / 12 → largeAt records k ≡ true → largeAt batches (first + k) ≡ true
+  large-moved : (k : ℕ) → k < length records / 12 → large_at records k ≡ true → large_at batches (first + k) ≡ true
   large-moved k l p =
       let start : 12 * first + 12 * k ≡ 12 * (first + k) = omega arith in
       rw (← start, ← (window-at 12 first count batches (12 * k) (omega arith))) p
 
-  part-large : anyLargeBatch records (length records / 12) ≡ true → anyLargeBatch batches (length batches / 12) ≡ true
+  part-large : any_large_batch records (length records / 12) ≡ true → any_large_batch batches (length batches / 12) ≡ true
   part-large e =
-      rw (any-large batches (length batches / 12)) (any-moved (largeAt records) (largeAt batches) first (length records / 12) (length batches / 12)
+      rw (any-large batches (length batches / 12)) (any-moved (large_at records) (large_at batches) first (length records / 12) (length batches / 12)
       (λ l. omega (arith, window-end 12 first count batches (12 * (length records / 12) - 1) (omega arith)))
       large-moved
       (rw (any-large records (length records / 12)) at e))
 
-pub part-too-large : (f : Forest) (w : DirectoryEntry) → forestTooLarge (forestIn f w).nodes (forestIn f w).batches ≡ true → forestTooLarge f.nodes f.batches ≡ true
-unfolding forestTooLarge forestIn
+pub part-too-large : (f : Forest) (w : DirectoryEntry) → forest_too_large (forest_in f w).nodes (forest_in f w).batches ≡ true → forest_too_large f.nodes f.batches ≡ true
+unfolding forest_too_large forest_in
 part-too-large f w =
     or-both _ _ _ _ (part-long w.first_slot w.slots f.nodes) (part-large w.first_batch w.batches f.batches)

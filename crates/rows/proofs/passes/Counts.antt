@@ -9,9 +9,9 @@ use borrow.Author.Tests.{ltb-true, ltb-false, eqb-false, lt-ltb, le-ltb}
 use lib.Dec.{ltb, eqb}
 use lib.ListN.{length, drop, get_or, drop_of_length-le}
 use lib.Seq.{drop-cons}
-use Rattle.rows.specs.records.Cells.{fragmentWrong}
-use Rattle.rows.specs.passes.Passes.{sum_of, anyAbove, notFull, noFragment, fragmentsWrong, refusal1}
-use Rattle.rows.specs.records.Buffers.{bufferWrong, fewerRows}
+use Rattle.rows.specs.records.Cells.{fragment_wrong}
+use Rattle.rows.specs.passes.Passes.{sum_of, any_above, not_full, no_fragment, fragments_wrong, refusal1}
+use Rattle.rows.specs.records.Buffers.{buffer_wrong, fewer_rows}
 use Rattle.rows.proofs.passes.Checks.{neither, none_first}
 
 -- SUMS
@@ -38,20 +38,20 @@ few-rows : (rows sum : ℕ) → ltb rows (min (rows + 1) sum) ≡ ltb rows sum
 few-rows rows sum = same_test rows (min (rows + 1) sum) rows sum (λ h. omega arith) (λ h. omega arith)
 
 pub fragments-test : (cells size : ℕ) (counts built : List ℕ)
-    → (fragmentWrong cells (min (cells / 49 + 1) (sum_of counts)) || (eqb size 0 || (anyAbove size counts || ltb (length built / 25) (length counts))))
-    ≡ fragmentsWrong cells size counts built
-unfolding fragmentWrong fragmentsWrong bufferWrong fewerRows
+    → (fragment_wrong cells (min (cells / 49 + 1) (sum_of counts)) || (eqb size 0 || (any_above size counts || ltb (length built / 25) (length counts))))
+    ≡ fragments_wrong cells size counts built
+unfolding fragment_wrong fragments_wrong buffer_wrong fewer_rows
 fragments-test cells size counts built =
     rw (few-rows (cells / 49) (sum_of counts), few-built (length built) (length counts)) (simp or_assoc)
 
 -- WHAT THE REFUSALS LEAVE
 
 -- the row with which the last fragment starts is there
-full-sum : (size count : ℕ) (counts : List ℕ) → notFull size (count ∷ counts) ≡ false → length counts * size < sum_of (count ∷ counts)
-unfolding notFull sum_of
+full-sum : (size count : ℕ) (counts : List ℕ) → not_full size (count ∷ counts) ≡ false → length counts * size < sum_of (count ∷ counts)
+unfolding not_full sum_of
 full-sum size count [] e = let h = eqb-false count 0 e in omega arith
 full-sum size count (next ∷ counts) e =
-    let h = neither (ltb count size) (notFull size (next ∷ counts)) e in
+    let h = neither (ltb count size) (not_full size (next ∷ counts)) e in
     omega (arith, ltb-false count size h.0, full-sum size next counts h.1)
 
 pub record Fits (cells size : ℕ) (counts built : List ℕ) : Type 0 where
@@ -59,7 +59,7 @@ pub record Fits (cells size : ℕ) (counts built : List ℕ) : Type 0 where
   pub rows : 0 < sum_of counts
   pub in_rows : (length counts - 1) * size < sum_of counts
   pub in_buffer : 49 * sum_of counts ≤ cells
-  pub in-built : 25 * length counts ≤ length built
+  pub in_built : 25 * length counts ≤ length built
 
 passed-11 : (buffer rows size above built : Bool) → (buffer || (rows || (size || (above || built)))) ≡ false → (rows ≡ false) × (size ≡ false) × (built ≡ false)
 passed-11 buffer rows size above built e =
@@ -68,12 +68,12 @@ passed-11 buffer rows size above built e =
     let d = neither size (above || built) b.1 in
     (b.0, d.0, (neither above built d.1).1)
 
-pub fits : (cells size : ℕ) (counts built : List ℕ) → fragmentsWrong cells size counts built ≡ false → noFragment counts ≡ false → notFull size counts ≡ false → Fits cells size counts built
-unfolding fragmentsWrong fewerRows
+pub fits : (cells size : ℕ) (counts built : List ℕ) → fragments_wrong cells size counts built ≡ false → no_fragment counts ≡ false → not_full size counts ≡ false → Fits cells size counts built
+unfolding fragments_wrong fewer_rows
 fits cells size [] built e none full = let z : ◌≡◌ {A = ℕ} 0 1 = cc in absurd (omega arith)
 fits cells size (count ∷ counts) built e none full =
     let all : List ℕ = count ∷ counts in
-    let p = passed-11 (bufferWrong cells) (fewerRows cells (sum_of all)) (eqb size 0) (anyAbove size all) (ltb (length built) (25 * length all)) e in
+    let p = passed-11 (buffer_wrong cells) (fewer_rows cells (sum_of all)) (eqb size 0) (any_above size all) (ltb (length built) (25 * length all)) e in
     let g = full-sum size count counts full in
     let h = eqb-false size 0 p.1 in
     let k : length all - 1 ≡ length counts = omega arith in
@@ -82,23 +82,23 @@ fits cells size (count ∷ counts) built e none full =
       rows = omega arith;
       in_rows = rw k g;
       in_buffer = omega (arith, ltb-false (cells / 49) (sum_of all) p.0);
-      in-built = omega (arith, ltb-false (length built) (25 * length all) p.2);
+      in_built = omega (arith, ltb-false (length built) (25 * length all) p.2);
     }
 
-pub full-none : (size : ℕ) (counts : List ℕ) → length counts ≡ 0 → notFull size counts ≡ false
-unfolding notFull
+pub full-none : (size : ℕ) (counts : List ℕ) → length counts ≡ 0 → not_full size counts ≡ false
+unfolding not_full
 full-none size [] e = refl
 full-none size (count ∷ counts) e = absurd (omega arith)
 
 -- a fragment but the last
-pub full-cons : (size count : ℕ) (counts : List ℕ) → 0 < length counts → notFull size (count ∷ counts) ≡ (ltb count size || notFull size counts)
-unfolding notFull
+pub full-cons : (size count : ℕ) (counts : List ℕ) → 0 < length counts → not_full size (count ∷ counts) ≡ (ltb count size || not_full size counts)
+unfolding not_full
 full-cons size count [] h = absurd (omega arith)
 full-cons size count (next ∷ counts) h = refl
 
 -- the last fragment
-pub full-last : (size : ℕ) (counts : List ℕ) (i : ℕ) → i + 1 ≡ length counts → notFull size (drop i counts) ≡ eqb (get_or counts i 0) 0
-unfolding notFull
+pub full-last : (size : ℕ) (counts : List ℕ) (i : ℕ) → i + 1 ≡ length counts → not_full size (drop i counts) ≡ eqb (get_or counts i 0) 0
+unfolding not_full
 full-last size counts i e =
     let k : i < length counts = omega arith in
     let j : length counts ≤ suc i = omega arith in
@@ -108,7 +108,7 @@ full-last size counts i e =
 
 -- what a call that is not refused has passed
 pub passed : (buffer : List ℕ) (size : ℕ) (counts built : List ℕ) → refusal1 buffer size counts built ≡ 0
-    → (fragmentsWrong (length buffer) size counts built ≡ false) × (noFragment counts ≡ false) × (notFull size counts ≡ false)
+    → (fragments_wrong (length buffer) size counts built ≡ false) × (no_fragment counts ≡ false) × (not_full size counts ≡ false)
 unfolding refusal1
 passed buffer size counts built e =
     let b = none_first _ 10 _ e in

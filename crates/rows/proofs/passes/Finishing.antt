@@ -8,19 +8,19 @@ use borrow.Author.Tests.{ltb-false, leb-false}
 use lib.Dec.{ltb, leb}
 use lib.ListN.{length, take, drop, length-take, length-drop}
 use Rattle.rows.specs.declared.records.profile.Profile.{Profile}
-use Rattle.rows.specs.passes.Passes.{sum_of, notFull, noFragment, fragmentsWrong, heightWrong, refusal2, refusalAll}
-use Rattle.rows.specs.records.Buffers.{bufferWrong, fewerRows}
+use Rattle.rows.specs.passes.Passes.{sum_of, not_full, no_fragment, fragments_wrong, height_wrong, refusal2, refusal_all}
+use Rattle.rows.specs.records.Buffers.{buffer_wrong, fewer_rows}
 use Rattle.rows.specs.ways.Finisher.{Passed}
 use Rattle.rows.proofs.passes.Checks.{neither, none_first}
 use Rattle.rows.proofs.passes.Counts.{fits}
 
 -- the rows of a buffer that is not refused are at most 2^24
-few-rows : (cells : ℕ) → bufferWrong cells ≡ false → cells / 49 ≤ 16777216
-unfolding bufferWrong
+few-rows : (cells : ℕ) → buffer_wrong cells ≡ false → cells / 49 ≤ 16777216
+unfolding buffer_wrong
 few-rows cells e = ltb-false 16777216 (cells / 49) (neither (ltb 0 (cells % 49)) (ltb 16777216 (cells / 49)) e).1
 
-pub enough : (cells n : ℕ) → fewerRows cells n ≡ false → n ≤ cells / 49
-unfolding fewerRows
+pub enough : (cells n : ℕ) → fewer_rows cells n ≡ false → n ≤ cells / 49
+unfolding fewer_rows
 enough cells n e = ltb-false (cells / 49) n e
 
 -- where pass 2 refuses neither 2 nor 11
@@ -28,9 +28,9 @@ pub record Held (cells rows : ℕ) : Type 0 where
   pub in_buffer : 49 * rows ≤ cells
   pub few : rows ≤ 16777216
 
-pub held : (cells rows : ℕ) → (bufferWrong cells || fewerRows cells rows) ≡ false → Held cells rows
+pub held : (cells rows : ℕ) → (buffer_wrong cells || fewer_rows cells rows) ≡ false → Held cells rows
 held cells rows e =
-    let a = neither (bufferWrong cells) (fewerRows cells rows) e in
+    let a = neither (buffer_wrong cells) (fewer_rows cells rows) e in
     let f = few-rows cells a.0 in
     let g = enough cells rows a.1 in
     record { in_buffer = omega arith; few = omega arith }
@@ -47,32 +47,32 @@ pub record Ready (cells rows height : ℕ) (counts built : List ℕ) : Type 0 wh
   pub in_buffer : 49 * sum_of counts ≤ cells
   pub below : sum_of counts < height
   pub tall : 49 * height ≤ cells
-  pub in-built : 25 * length counts ≤ length built
+  pub in_built : 25 * length counts ≤ length built
 
-pub fragments-sum : (cells size : ℕ) (counts built : List ℕ) → fragmentsWrong cells size counts built ≡ false → (sum_of counts ≤ cells / 49) × (cells / 49 ≤ 16777216)
-unfolding fragmentsWrong
+pub fragments-sum : (cells size : ℕ) (counts built : List ℕ) → fragments_wrong cells size counts built ≡ false → (sum_of counts ≤ cells / 49) × (cells / 49 ≤ 16777216)
+unfolding fragments_wrong
 fragments-sum cells size counts built e =
-    let a = neither (bufferWrong cells) _ e in
-    let b = neither (fewerRows cells (sum_of counts)) _ a.1 in
+    let a = neither (buffer_wrong cells) _ e in
+    let b = neither (fewer_rows cells (sum_of counts)) _ a.1 in
     (enough cells (sum_of counts) b.0, few-rows cells a.0)
 
 -- the sum, capped at one more than the buffer's rows, is the sum
-pub sum-uncapped : (cells size : ℕ) (counts built : List ℕ) → fragmentsWrong cells size counts built ≡ false → min (cells / 49 + 1) (sum_of counts) ≡ sum_of counts
+pub sum-uncapped : (cells size : ℕ) (counts built : List ℕ) → fragments_wrong cells size counts built ≡ false → min (cells / 49 + 1) (sum_of counts) ≡ sum_of counts
 sum-uncapped cells size counts built e = let f = fragments-sum cells size counts built e in omega arith
 
-pub sum-held : (cells size : ℕ) (counts built : List ℕ) → fragmentsWrong cells size counts built ≡ false → Held cells (sum_of counts)
+pub sum-held : (cells size : ℕ) (counts built : List ℕ) → fragments_wrong cells size counts built ≡ false → Held cells (sum_of counts)
 sum-held cells size counts built e =
     let f = fragments-sum cells size counts built e in
     record { in_buffer = omega arith; few = omega arith }
 
-pub ready : (cells size rows height : ℕ) (counts built : List ℕ) → fragmentsWrong cells size counts built ≡ false → heightWrong cells (sum_of counts) height ≡ false → noFragment counts ≡ false → notFull size counts ≡ false → rows ≡ min (cells / 49 + 1) (sum_of counts) → Ready cells rows height counts built
-unfolding heightWrong
+pub ready : (cells size rows height : ℕ) (counts built : List ℕ) → fragments_wrong cells size counts built ≡ false → height_wrong cells (sum_of counts) height ≡ false → no_fragment counts ≡ false → not_full size counts ≡ false → rows ≡ min (cells / 49 + 1) (sum_of counts) → Ready cells rows height counts built
+unfolding height_wrong
 ready cells size rows height [] built e f none full s = let z : ◌≡◌ {A = ℕ} 0 1 = cc in absurd (omega arith)
 ready cells size rows height (count ∷ counts) built e f none full s =
     let all : List ℕ = count ∷ counts in
     let k = fits cells size all built e none full in
     let g = fragments-sum cells size all built e in
-    let h = neither (leb height (sum_of all)) (fewerRows cells height) f in
+    let h = neither (leb height (sum_of all)) (fewer_rows cells height) f in
     let below = leb-false height (sum_of all) h.0 in
     let tall = enough cells height h.1 in
     record {
@@ -82,18 +82,18 @@ ready cells size rows height (count ∷ counts) built e f none full s =
       in_buffer = k.in_buffer;
       below = below;
       tall = omega arith;
-      in-built = k.in-built;
+      in_built = k.in_built;
     }
 
-pub passed-all : (p : Profile) (buffer : List ℕ) (size : ℕ) (counts built : List ℕ) (height : ℕ) → refusalAll p buffer size counts built height ≡ 0 → Passed p (length buffer) size height counts built
-unfolding refusalAll
+pub passed-all : (p : Profile) (buffer : List ℕ) (size : ℕ) (counts built : List ℕ) (height : ℕ) → refusal_all p buffer size counts built height ≡ 0 → Passed p (length buffer) size height counts built
+unfolding refusal_all
 passed-all p buffer size counts built height e =
     let a = none_first _ _ _ e in
     let b = none_first _ _ _ a.1 in
-    let d = neither (fragmentsWrong (length buffer) size counts built) (heightWrong (length buffer) (sum_of counts) height) b.0 in
+    let d = neither (fragments_wrong (length buffer) size counts built) (height_wrong (length buffer) (sum_of counts) height) b.0 in
     let f = none_first _ _ _ b.1 in
     let g = none_first _ _ _ f.1 in
-    record { profile-right = a.0; fragments = d.0; height-right = d.1; fragment = f.0; full = g.0 }
+    record { profile_right = a.0; fragments = d.0; height_right = d.1; fragment = f.0; full = g.0 }
 
 -- the built cells of the last of n fragments
 pub last-part : (n : ℕ) → 25 * (n - 1) + 25 - 25 * (n - 1) ≡ 25

@@ -7,9 +7,9 @@ use native.Mathlib.Omega.{arith}
 use lib.ListN.{length}
 use Rattle.rows.specs.declared.records.profile.Profile.{Profile}
 use Rattle.rows.specs.declared.cycles.tracer.TracerFinalState.{TracerFinalState}
-use Rattle.rows.specs.records.Profiles.{profileWrong}
-use Rattle.rows.specs.cycles.Cycles.{forPasses}
-use Rattle.rows.specs.passes.Passes.{sum_of, fragmentsWrong, refusal1, refusalAll}
+use Rattle.rows.specs.records.Profiles.{profile_wrong}
+use Rattle.rows.specs.cycles.Cycles.{for_passes}
+use Rattle.rows.specs.passes.Passes.{sum_of, fragments_wrong, refusal1, refusal_all}
 use Rattle.groups.specs.Answer.{first_of}
 use Rattle.rows.proofs.passes.Finishing.{fragments-sum}
 
@@ -25,18 +25,18 @@ holds false h = absurd (h refl)
 module _ (final : TracerFinalState) (many : 16777216 < final.num_rows_written) (before after : List ℕ) where
   -- among the counts of any other fragments
   abbrev counts : List ℕ
-  counts = before ++ ((forPasses final).count ∷ after)
+  counts = before ++ ((for_passes final).count ∷ after)
 
-  many-wrong : (cells size : ℕ) (built : List ℕ) → fragmentsWrong cells size counts built ≡ true
+  many-wrong : (cells size : ℕ) (built : List ℕ) → fragments_wrong cells size counts built ≡ true
   many-wrong cells size built =
-      let handed : 16777216 < (forPasses final).count = unfold forPasses in omega arith in
-      let part = in_sum before after (forPasses final).count in
+      let handed : 16777216 < (for_passes final).count = unfold for_passes in omega arith in
+      let part = in_sum before after (for_passes final).count in
       holds _ (λ e. let sum = fragments-sum cells size counts built e in omega arith)
 
   pub pass1-refuses-many : (buffer : List ℕ) (size : ℕ) (built : List ℕ) → refusal1 buffer size counts built ≡ 11
   unfolding refusal1 first_of
   pass1-refuses-many buffer size built = rw (many-wrong (length buffer) size built) refl
 
-  pub finisher-refuses-many : (p : Profile) (buffer : List ℕ) (size : ℕ) (built : List ℕ) (height : ℕ) → profileWrong p ≡ false → refusalAll p buffer size counts built height ≡ 11
-  unfolding refusalAll first_of
+  pub finisher-refuses-many : (p : Profile) (buffer : List ℕ) (size : ℕ) (built : List ℕ) (height : ℕ) → profile_wrong p ≡ false → refusal_all p buffer size counts built height ≡ 11
+  unfolding refusal_all first_of
   finisher-refuses-many p buffer size built height right = rw (right, many-wrong (length buffer) size built) refl

@@ -10,13 +10,13 @@ use lib.Dec.{ltb, leb, eqb}
 use lib.ListN.{length}
 use Rattle.rows.specs.declared.records.profile.Profile.{Profile}
 use Rattle.rows.proofs.passes.Checks.{neither, none_first}
-use Rattle.rows.specs.passes.Passes.{refusal3, refusal4, refusal5, unlessRefused}
-use Rattle.rows.specs.records.Buffers.{bufferWrong, fewerRows}
+use Rattle.rows.specs.passes.Passes.{refusal3, refusal4, refusal5, unless_refused}
+use Rattle.rows.specs.records.Buffers.{buffer_wrong, fewer_rows}
 use Rattle.rows.proofs.passes.Finishing.{enough, held}
 
 -- fewer than one row more
-pub fewer-more : (cells n : ℕ) → fewerRows cells (n + 1) ≡ leb (cells / 49) n
-unfolding fewerRows
+pub fewer-more : (cells n : ℕ) → fewer_rows cells (n + 1) ≡ leb (cells / 49) n
+unfolding fewer_rows
 fewer-more cells n = go (dec_lt n (cells / 49))
   where
     go : Dec (n < cells / 49) → ltb (cells / 49) (n + 1) ≡ leb (cells / 49) n
@@ -40,8 +40,8 @@ pub record Room (b : List ℕ) (n height : ℕ) : Type 0 where
 pub fits5 : (p : Profile) (b : List ℕ) (n height : ℕ) → refusal5 p b n height ≡ 0 → Room b n height
 unfolding refusal5
 fits5 p b n height e =
-    let wrong : Bool = bufferWrong (length b) in
-    let fewer : Bool = fewerRows (length b) height in
+    let wrong : Bool = buffer_wrong (length b) in
+    let fewer : Bool = fewer_rows (length b) height in
     let low : Bool = ltb height n in
     let lengths : (wrong || (eqb n 0 || (low || fewer))) ≡ false = (none_first _ _ _ (none_first _ _ _ e).1).0 in
     let rows : (eqb n 0 ≡ false) × ((low || fewer) ≡ false) = neither (eqb n 0) (low || fewer) (neither wrong (eqb n 0 || (low || fewer)) lengths).1 in
@@ -51,9 +51,9 @@ fits5 p b n height e =
 
 -- A PASS THAT IS REFUSED answers the number and leaves the buffer; one that is not answers 0 and leaves what the pass makes
 
-pub refused-pass : (r number : ℕ) (before after : List ℕ) → r ≡ number → (r ≡ 0 → ⊥) → (r ≡ number) × (before ≡ unlessRefused number before after)
+pub refused-pass : (r number : ℕ) (before after : List ℕ) → r ≡ number → (r ≡ 0 → ⊥) → (r ≡ number) × (before ≡ unless_refused number before after)
 refused-pass r zero before after e h = absurd (h e)
 refused-pass r (suc n) before after e h = (e, refl)
 
-pub made-pass : (r number : ℕ) (before after left : List ℕ) → r ≡ number → r ≡ 0 → left ≡ after → (0 ≡ number) × (left ≡ unlessRefused number before after)
+pub made-pass : (r number : ℕ) (before after left : List ℕ) → r ≡ number → r ≡ 0 → left ≡ after → (0 ≡ number) × (left ≡ unless_refused number before after)
 made-pass r number before after left e z f = rw (← e, z) (refl, f)

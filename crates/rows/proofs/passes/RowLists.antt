@@ -5,8 +5,8 @@ use Prim.Native.Nat.{ℕ, zero, suc, ◌+◌, ◌*◌, ◌≤◌, ◌<◌}
 use native.Mathlib.Omega.{arith}
 use lib.ListN.{length, take, drop, get_or, set, length-append, length-take, length-drop, take-append-drop}
 use lib.Seq.{take_at, drop_at, drop-drop, take-add, take-append-add, drop-append-add, get_or-take, get_or-drop}
-use Rattle.rows.specs.records.Cells.{putRow}
-use Rattle.rows.specs.records.Buffers.{rows_of, flat, onRows, lastRow}
+use Rattle.rows.specs.records.Cells.{put_row}
+use Rattle.rows.specs.records.Buffers.{rows_of, flat, on_rows, last_row}
 
 -- each row has 49 cells
 unfoldable pub Wide : List (List ℕ) → Type 0
@@ -54,8 +54,8 @@ row-at (row ∷ rows) rest (suc i) w h =
     rw (append_assoc, e, drop-row row (flat rows ++ rest) w.0 i 0, f) (row-at rows rest i w.1 (omega arith))
 
 -- cells in the place of row i
-pub put-set : (rows : List (List ℕ)) (rest : List ℕ) (i : ℕ) (cells : List ℕ) → Wide rows → i < length rows → putRow (flat rows ++ rest) i cells ≡ flat (set rows i cells) ++ rest
-unfolding flat Wide putRow
+pub put-set : (rows : List (List ℕ)) (rest : List ℕ) (i : ℕ) (cells : List ℕ) → Wide rows → i < length rows → put_row (flat rows ++ rest) i cells ≡ flat (set rows i cells) ++ rest
+unfolding flat Wide put_row
 put-set [] rest i cells w h = absurd (omega arith)
 put-set (row ∷ rows) rest zero cells w h =
     rw (append_assoc row (flat rows) rest, drop_at row (flat rows ++ rest) 49 w.0, append_assoc)
@@ -83,12 +83,12 @@ pub as_rows : (n : ℕ) (buffer : List ℕ) → buffer ≡ flat (rows_of n buffe
 as_rows n buffer = sym (ap (λ y. y ++ drop (49 * n) buffer) (flat_rows n buffer) ∙ take-append-drop (49 * n) buffer)
 
 -- where f keeps the number of rows, the cells behind them stay
-pub on-rows : (n : ℕ) (f : List (List ℕ) → List (List ℕ)) (buffer : List ℕ) → length (f (rows_of n buffer)) ≡ n → onRows n f buffer ≡ flat (f (rows_of n buffer)) ++ drop (49 * n) buffer
-unfolding onRows
+pub on-rows : (n : ℕ) (f : List (List ℕ) → List (List ℕ)) (buffer : List ℕ) → length (f (rows_of n buffer)) ≡ n → on_rows n f buffer ≡ flat (f (rows_of n buffer)) ++ drop (49 * n) buffer
+unfolding on_rows
 on-rows n f buffer e = rw e
 
-pub on-flat : (rows : List (List ℕ)) (rest : List ℕ) (f : List (List ℕ) → List (List ℕ)) → Wide rows → length (f rows) ≡ length rows → onRows (length rows) f (flat rows ++ rest) ≡ flat (f rows) ++ rest
-unfolding onRows
+pub on-flat : (rows : List (List ℕ)) (rest : List ℕ) (f : List (List ℕ) → List (List ℕ)) → Wide rows → length (f rows) ≡ length rows → on_rows (length rows) f (flat rows ++ rest) ≡ flat (f rows) ++ rest
+unfolding on_rows
 on-flat rows rest f w e = rw (rows-flat rows rest w, e, drop-flat rows rest w)
 
 pub wide-app : (l q : List (List ℕ)) → Wide l → Wide q → Wide (l ++ q)
@@ -105,21 +105,21 @@ flat-app (r ∷ l) q = ap (λ (y : List ℕ). r ++ y) (flat-app l q) ∙ sym (ap
 pub drop-rows : (n : ℕ) (buffer : List ℕ) → drop (49 * n) (drop 49 buffer) ≡ drop (49 * suc n) buffer
 drop-rows n buffer = let e : 49 + 49 * n ≡ 49 * suc n = omega arith in drop-drop (49 * n) 49 buffer ∙ ap (λ (k : ℕ). drop k buffer) e
 
-pub last-rows : (n : ℕ) (b : List ℕ) → lastRow (rows_of (suc n) b) ≡ take 49 (drop (49 * n) b)
-unfolding rows_of lastRow
+pub last-rows : (n : ℕ) (b : List ℕ) → last_row (rows_of (suc n) b) ≡ take 49 (drop (49 * n) b)
+unfolding rows_of last_row
 last-rows zero b = refl
 last-rows (suc n) b = last-rows n (drop 49 b) ∙ ap (take 49) (drop-rows n b)
 
-pub length_last : (n : ℕ) (b : List ℕ) → 0 < n → 49 * n ≤ length b → length (lastRow (rows_of n b)) ≡ 49
+pub length_last : (n : ℕ) (b : List ℕ) → 0 < n → 49 * n ≤ length b → length (last_row (rows_of n b)) ≡ 49
 length_last zero b some h = absurd (omega arith)
 length_last (suc n) b some h = rw (last-rows n b, length-take, length-drop) (omega arith)
 
-pub last-cell : (n : ℕ) (b : List ℕ) (i : ℕ) → i < 49 → get_or (lastRow (rows_of (suc n) b)) i 0 ≡ get_or b (49 * n + i) 0
+pub last-cell : (n : ℕ) (b : List ℕ) (i : ℕ) → i < 49 → get_or (last_row (rows_of (suc n) b)) i 0 ≡ get_or b (49 * n + i) 0
 last-cell n b i h = rw (last-rows n b, get_or-take 49 (drop (49 * n) b) i 0 h) (get_or-drop (49 * n) b i 0)
 
 -- the row x written behind the rows is one more of them
-pub put-behind : (rows : List (List ℕ)) (x buffer : List ℕ) → Wide rows → putRow (flat rows ++ drop (49 * length rows) buffer) (length rows) x ≡ flat (rows ++ (x ∷ [])) ++ drop (49 * length (rows ++ (x ∷ []))) buffer
-unfolding putRow flat
+pub put-behind : (rows : List (List ℕ)) (x buffer : List ℕ) → Wide rows → put_row (flat rows ++ drop (49 * length rows) buffer) (length rows) x ≡ flat (rows ++ (x ∷ [])) ++ drop (49 * length (rows ++ (x ∷ []))) buffer
+unfolding put_row flat
 put-behind rows x buffer w =
     let m : ℕ = 49 * length rows in
     let rest : List ℕ = drop m buffer in
@@ -128,6 +128,6 @@ put-behind rows x buffer w =
     let back : drop (m + 49) (flat rows ++ rest) ≡ drop (m + 49) buffer = rw (← (drop-drop 49 m (flat rows ++ rest)), drop-flat rows rest w) (drop-drop 49 m buffer) in
     rw (n, flat-app rows (x ∷ []), append-nil) (ap₂ (λ (y z : List ℕ). y ++ x ++ z) front back)
 
-pub length-put : (b : List ℕ) (r : ℕ) (x : List ℕ) → length x ≡ 49 → 49 * r + 49 ≤ length b → length (putRow b r x) ≡ length b
-unfolding putRow
+pub length-put : (b : List ℕ) (r : ℕ) (x : List ℕ) → length x ≡ 49 → 49 * r + 49 ≤ length b → length (put_row b r x) ≡ length b
+unfolding put_row
 length-put b r x e h = simp (length-append, length-take, length-drop) (omega arith)

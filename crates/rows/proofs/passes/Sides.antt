@@ -6,8 +6,8 @@ use native.Mathlib.Nat.{zero-add, suc-add}
 use native.Mathlib.Omega.{arith}
 use lib.ListN.{length, take, drop, length-append, length-drop}
 use lib.Seq.{paste, length_paste_head, take-length, take-take, take-add, take-nil, drop-nil, drop-drop, take-append-add, drop-append-add, length-take-le}
-use Rattle.rows.specs.records.Cells.{putRow}
-use Rattle.rows.specs.passes.Passes.{withSides}
+use Rattle.rows.specs.records.Cells.{put_row}
+use Rattle.rows.specs.passes.Passes.{with_sides}
 
 drop-take : (i n : ℕ) (l : List ℕ) → drop i (take (i + n) l) ≡ take n (drop i l)
 drop-take zero n l = ap (λ k. take k l) (zero-add n)
@@ -19,8 +19,8 @@ decoder : (l : List ℕ) → take 24 (drop 6 (take 49 l)) ≡ take 24 (drop 6 l)
 decoder l = ap (take 24) (drop-take 6 43 l) ∙ take-take 24 43 (drop 6 l) (omega arith)
 
 -- row 0 with other stack cells
-pub stack-copied : (buffer stack : List ℕ) → length stack ≡ 19 → paste buffer 30 stack (length stack) ≡ putRow buffer 0 (withSides (take 6 (take 49 buffer)) stack (take 49 buffer))
-unfolding putRow withSides
+pub stack-copied : (buffer stack : List ℕ) → length stack ≡ 19 → paste buffer 30 stack (length stack) ≡ put_row buffer 0 (with_sides (take 6 (take 49 buffer)) stack (take 49 buffer))
+unfolding put_row with_sides
 stack-copied buffer stack e =
     let f : take 6 (take 49 buffer) ++ take 24 (drop 6 (take 49 buffer)) ≡ take 30 buffer =
     sym (take-add 6 24 (take 49 buffer)) ∙ take-take 30 49 buffer (omega arith) in
@@ -29,8 +29,8 @@ stack-copied buffer stack e =
 -- a row with other system and stack cells
 pub sides-copied : (buffer system stack : List ℕ) (row : ℕ) → 49 * row + 49 ≤ length buffer → length system ≡ 6 → length stack ≡ 19
     → paste (paste buffer (49 * row) system (length system)) (49 * row + 30) stack (length stack)
-    ≡ putRow buffer row (withSides system stack (take 49 (drop (49 * row) buffer)))
-unfolding putRow withSides
+    ≡ put_row buffer row (with_sides system stack (take 49 (drop (49 * row) buffer)))
+unfolding put_row with_sides
 sides-copied buffer system stack row h e f =
     let front : List ℕ = take (49 * row) buffer ++ system in
     let behind : List ℕ = drop (49 * row + 6) buffer in

@@ -11,9 +11,9 @@ use Rattle.rows.specs.ways.Order.{hit, occurrences, Ordered, Lower}
 use Rattle.rows.proofs.records.Occurrences.{hit_same, hit_other}
 use Rattle.rows.proofs.sorted.Search.{lower-unique, found_inside, found-is}
 use Rattle.rows.specs.declared.records.profile.Profile.{Profile}
-use Rattle.rows.specs.passes.Passes.{flaggedEnd}
-use Rattle.rows.specs.records.Buffers.{bufferRow}
-use Rattle.rows.specs.ways.LoopCounts.{nextAddr, endsIn, Tallied, Bumped}
+use Rattle.rows.specs.passes.Passes.{flagged_end}
+use Rattle.rows.specs.records.Buffers.{buffer_row}
+use Rattle.rows.specs.ways.LoopCounts.{next_addr, ends_in, Tallied, Bumped}
 use Rattle.rows.proofs.passes.RowsFrom.{ends_more, ends-one}
 
 module _ (keys counts : List ℕ) (x at : ℕ) (place : Lower keys x at) where
@@ -63,15 +63,15 @@ zero-at zero r = refl
 zero-at (suc n) zero = refl
 zero-at (suc n) (suc r) = zero-at n r
 
-pub tally-none : (p : Profile) (c : List ℕ) (keys : List ℕ) (n : ℕ) → Tallied keys (zeros n) (endsIn p (0 + 1) c)
+pub tally-none : (p : Profile) (c : List ℕ) (keys : List ℕ) (n : ℕ) → Tallied keys (zeros n) (ends_in p (0 + 1) c)
 tally-none p c keys n x r u l e = zero-at n r ∙ sym (ends-one p x c)
 
 module _ (p : Profile) (c : List ℕ) (i : ℕ) (keys counts : List ℕ) where
   -- row i is a flagged END, and its address counted
-  pub tally-more : (new : List ℕ) → flaggedEnd p (bufferRow i c) ≡ true → Bumped keys (nextAddr i c) counts new → Tallied keys counts (endsIn p (i + 1) c) → Tallied keys new (endsIn p (i + 1 + 1) c)
+  pub tally-more : (new : List ℕ) → flagged_end p (buffer_row i c) ≡ true → Bumped keys (next_addr i c) counts new → Tallied keys counts (ends_in p (i + 1) c) → Tallied keys new (ends_in p (i + 1 + 1) c)
   unfolding hit
-  tally-more new f b t x r u l e = b.more (endsIn p (i + 1) c) t x r u l e ∙ sym (rw f at (ends_more p x i c))
+  tally-more new f b t x r u l e = b.more (ends_in p (i + 1) c) t x r u l e ∙ sym (rw f at (ends_more p x i c))
 
   -- row i is none
-  pub tally-skip : flaggedEnd p (bufferRow i c) ≡ false → Tallied keys counts (endsIn p (i + 1) c) → Tallied keys counts (endsIn p (i + 1 + 1) c)
+  pub tally-skip : flagged_end p (buffer_row i c) ≡ false → Tallied keys counts (ends_in p (i + 1) c) → Tallied keys counts (ends_in p (i + 1 + 1) c)
   tally-skip f t x r u l e = omega (arith, t x r u l e, rw f at (ends_more p x i c))

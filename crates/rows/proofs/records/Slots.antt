@@ -9,10 +9,10 @@ use borrow.Author.Tests.{ne_eqb}
 use lib.Dec.{leb, ltb}
 use lib.ListN.{get_or}
 use Rattle.groups.specs.Answer.{Answer, accepted, refused, pick}
-use Rattle.groups.specs.Words.{wordAt}
+use Rattle.groups.specs.Words.{word_at}
 use Rattle.groups.specs.declared.batch.BasicBlockNode.{BasicBlockNode}
 use Rattle.groups.specs.declared.word.Word.{Word}
-use Rattle.rows.specs.records.Forests.{isSlot, node_of, nodeAt, digestAt}
+use Rattle.rows.specs.records.Forests.{is_slot, node_of, node_at, digest_at}
 use Rattle.rows.specs.ways.Inner.{kind_at}
 
 -- a number from 2 to 10 names a kind
@@ -48,25 +48,25 @@ no-node-under : (slot : Bool) (k kind first second : ℕ) (block : BasicBlockNod
 no-node-under true k kind first second block digest e h = no_kind k first second block digest (λ j low high q. h j low high (e ∙ q))
 no-node-under false k kind first second block digest e h = refl
 
-pub no_node : (nodes digests : List ℕ) (id kind : ℕ) → kind ≡ kind_at nodes digests id → ((k : ℕ) → 2 ≤ k → k ≤ 10 → kind ≡ k → ⊥) → nodeAt nodes digests id ≡ refused 3
-unfolding kind_at nodeAt
-no_node nodes digests id kind e h = no-node-under (isSlot nodes digests id) (get_or nodes (6 * id) 0) kind _ _ _ _ e h
+pub no_node : (nodes digests : List ℕ) (id kind : ℕ) → kind ≡ kind_at nodes digests id → ((k : ℕ) → 2 ≤ k → k ≤ 10 → kind ≡ k → ⊥) → node_at nodes digests id ≡ refused 3
+unfolding kind_at node_at
+no_node nodes digests id kind e h = no-node-under (is_slot nodes digests id) (get_or nodes (6 * id) 0) kind _ _ _ _ e h
 
 whole-under : (slot : Bool) (k kind : ℕ) → kind ≡ pick slot k 0 → 0 < kind → (slot ≡ true) × (kind ≡ k)
 whole-under true k kind e h = (refl, e)
 whole-under false k kind e h = absurd (omega (arith, e))
 
 -- a slot with a number above 0 is whole
-pub slot_whole : (nodes digests : List ℕ) (id kind : ℕ) → kind ≡ kind_at nodes digests id → 0 < kind → (isSlot nodes digests id ≡ true) × (kind ≡ get_or nodes (6 * id) 0)
+pub slot_whole : (nodes digests : List ℕ) (id kind : ℕ) → kind ≡ kind_at nodes digests id → 0 < kind → (is_slot nodes digests id ≡ true) × (kind ≡ get_or nodes (6 * id) 0)
 unfolding kind_at
-slot_whole nodes digests id kind e h = whole-under (isSlot nodes digests id) (get_or nodes (6 * id) 0) kind e h
+slot_whole nodes digests id kind e h = whole-under (is_slot nodes digests id) (get_or nodes (6 * id) 0) kind e h
 
 held-under : (slot : Bool) (k kind : ℕ) → kind ≡ pick slot k 0 → (slot && (ltb 0 k && leb k 10)) ≡ (ltb 0 kind && leb kind 10)
 held-under true k kind e = rw e
 held-under false k kind e = rw e
 
 -- the digest of an id, by the slot's number
-pub digest-by-kind : (nodes digests : List ℕ) (id kind : ℕ) → kind ≡ kind_at nodes digests id → digestAt nodes digests id ≡ pick (ltb 0 kind && leb kind 10) (accepted (wordAt digests (4 * id))) (refused 3)
-unfolding kind_at digestAt
+pub digest-by-kind : (nodes digests : List ℕ) (id kind : ℕ) → kind ≡ kind_at nodes digests id → digest_at nodes digests id ≡ pick (ltb 0 kind && leb kind 10) (accepted (word_at digests (4 * id))) (refused 3)
+unfolding kind_at digest_at
 digest-by-kind nodes digests id kind e =
-    ap (λ (t : Bool). pick t (accepted (wordAt digests (4 * id))) (refused 3)) (held-under (isSlot nodes digests id) (get_or nodes (6 * id) 0) kind e)
+    ap (λ (t : Bool). pick t (accepted (word_at digests (4 * id))) (refused 3)) (held-under (is_slot nodes digests id) (get_or nodes (6 * id) 0) kind e)

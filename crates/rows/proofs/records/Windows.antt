@@ -8,11 +8,11 @@ use lib.Seq.{drop-cons, take-take, take_all}
 use Rattle.rows.specs.records.Built.{cells16}
 
 -- n cells from cell i on, 0 past the end
-abbrev pub readFrom : List ℕ → (i n : ℕ) → List ℕ
-readFrom s i zero = []
-readFrom s i (suc n) = get_or s i 0 ∷ readFrom s (suc i) n
+abbrev pub read_from : List ℕ → (i n : ℕ) → List ℕ
+read_from s i zero = []
+read_from s i (suc n) = get_or s i 0 ∷ read_from s (suc i) n
 
-pub read_take : (s : List ℕ) (i n : ℕ) → i + n ≤ length s → readFrom s i n ≡ take n (drop i s)
+pub read_take : (s : List ℕ) (i n : ℕ) → i + n ≤ length s → read_from s i n ≡ take n (drop i s)
 read_take s i zero h = refl
 read_take s i (suc n) h = rw (drop-cons s i 0 (omega arith)) (ap (λ (l : List ℕ). get_or s i 0 ∷ l) (read_take s (suc i) n (omega arith)))
 

@@ -13,32 +13,32 @@ use Rattle.rows.specs.declared.records.continuation.StoredValues.{StoredValues}
 use Rattle.rows.specs.declared.replay.directory.DirectoryEntry.{DirectoryEntry}
 use Rattle.rows.specs.declared.cycles.tracer.CoreTraceGenerationTracer.{CoreTraceGenerationTracer}
 use Rattle.rows.specs.declared.cycles.tracer.TracerFinalState.{TracerFinalState}
-use Rattle.rows.specs.records.Built.{noSystem, noStack, readSystem, readStack}
-use Rattle.rows.specs.cycles.Cycles.{finalState, lastSystem, lastStack}
+use Rattle.rows.specs.records.Built.{no_system, no_stack, read_system, read_stack}
+use Rattle.rows.specs.cycles.Cycles.{final_state, last_system, last_stack}
 use Rattle.rows.specs.records.Forests.{Forest, forest}
-use Rattle.rows.specs.replay.Calls.{directoryEntry, window, forestIn, Setting, callDone, callWritten, through, written, told}
-use Rattle.rows.specs.ways.Inner.{storingDone}
-use Rattle.rows.specs.records.CallRecords.{recordedStoring, call_in, recordAt}
+use Rattle.rows.specs.replay.Calls.{directory_entry, window, forest_in, Setting, call_done, call_written, through, written, told}
+use Rattle.rows.specs.ways.Inner.{storing_done}
+use Rattle.rows.specs.records.CallRecords.{recorded_storing, call_in, record_at}
 use Rattle.rows.proofs.cycles.Picks.{pick_same, pick-step}
 
 -- the parts that are lent to a cycle are the forest's
-pub parts-lent : (all : Forest) (directory : List ℕ) (k : ℕ) (w : DirectoryEntry) {nodes digests batches groups ops : List ℕ} → w ≡ directoryEntry directory k
+pub parts-lent : (all : Forest) (directory : List ℕ) (k : ℕ) (w : DirectoryEntry) {nodes digests batches groups ops : List ℕ} → w ≡ directory_entry directory k
     → nodes ≡ window 6 w.first_slot w.slots all.nodes
     → digests ≡ window 4 w.first_slot w.slots all.digests
     → batches ≡ window 12 w.first_batch w.batches all.batches
     → groups ≡ window 8 w.first_batch w.batches all.groups
     → ops ≡ window 1 w.first_op w.ops all.ops
-    → forestIn all (directoryEntry directory k) ≡ forest nodes digests batches groups ops
-unfolding forestIn
+    → forest_in all (directory_entry directory k) ≡ forest nodes digests batches groups ops
+unfolding forest_in
 parts-lent all directory k w p n d b g o = rw (← p, ← n, ← d, ← b, ← g, ← o)
 
-pub storing-done : (s : Setting) (t : CoreTraceGenerationTracer) (found : Answer StoredValues) → callDone s t (recordedStoring found) ≡ storingDone t found
-unfolding callDone storingDone
+pub storing-done : (s : Setting) (t : CoreTraceGenerationTracer) (found : Answer StoredValues) → call_done s t (recorded_storing found) ≡ storing_done t found
+unfolding call_done storing_done
 storing-done s t (accepted values) = refl
 storing-done s t (refused n) = refl
 
-pub storing-written : (s : Setting) (t : CoreTraceGenerationTracer) (found : Answer StoredValues) (fragment : List ℕ) → callWritten s t (recordedStoring found) fragment ≡ fragment
-unfolding callWritten
+pub storing-written : (s : Setting) (t : CoreTraceGenerationTracer) (found : Answer StoredValues) (fragment : List ℕ) → call_written s t (recorded_storing found) fragment ≡ fragment
+unfolding call_written
 storing-written s t (accepted values) fragment = refl
 storing-written s t (refused n) fragment = refl
 
@@ -55,24 +55,24 @@ module _ (write : Bool) (s : Setting) (records : List ℕ) (t₀ t t' : CoreTrac
   abbrev lent : List ℕ
   lent = take (32 * k + 32 - 32 * k) (drop (32 * k) records)
 
-  lent_is : lent ≡ recordAt records k
-  unfolding recordAt
+  lent_is : lent ≡ record_at records k
+  unfolding record_at
   lent_is = let e : 32 * k + 32 - 32 * k ≡ 32 = omega arith in rw e
 
-  pub ran-more : Ran write s records t₀ f₀ k t f → t' ≡ callDone s t (call_in lent) → f' ≡ pick write (callWritten s t (call_in lent) f) f → Ran write s records t₀ f₀ (k + 1) t' f'
+  pub ran-more : Ran write s records t₀ f₀ k t f → t' ≡ call_done s t (call_in lent) → f' ≡ pick write (call_written s t (call_in lent) f) f → Ran write s records t₀ f₀ (k + 1) t' f'
   unfolding through written
   ran-more ran done put = (
     rw (add-one, ← lent_is, ← ran.0) done,
-    rw (add-one, ← lent_is, ← ran.0) (put ∙ pick-step write (callWritten s t (call_in lent)) f (written s records t₀ f₀ k) f₀ ran.1),
+    rw (add-one, ← lent_is, ← ran.0) (put ∙ pick-step write (call_written s t (call_in lent)) f (written s records t₀ f₀ k) f₀ ran.1),
   )
 
 final-number : (t : CoreTraceGenerationTracer) (same : Bool) → eqb t.refusal 0 ≡ same → (pick {A = TracerFinalState} same
-    (record { refusal = 0; last_system_cols = readSystem (lastSystem t); last_stack_cols = readStack (lastStack t); num_rows_written = t.row_write_index })
-    (record { refusal = t.refusal; last_system_cols = noSystem; last_stack_cols = noStack; num_rows_written = 0 })).refusal ≡ t.refusal
+    (record { refusal = 0; last_system_cols = read_system (last_system t); last_stack_cols = read_stack (last_stack t); num_rows_written = t.row_write_index })
+    (record { refusal = t.refusal; last_system_cols = no_system; last_stack_cols = no_stack; num_rows_written = 0 })).refusal ≡ t.refusal
 final-number t true e = rw (eqb-true t.refusal 0 e)
 final-number t false e = refl
 
 -- the number that is answered is the kept one
 pub told-number : (t : CoreTraceGenerationTracer) → (told t).refusal ≡ t.refusal
-unfolding told finalState
+unfolding told final_state
 told-number t = final-number t (eqb t.refusal 0) refl

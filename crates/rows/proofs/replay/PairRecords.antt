@@ -12,11 +12,11 @@ use Rattle.field.specs.Modulus.{P}
 use Rattle.field.specs.Cells.{read, cell_at, reduced}
 use Rattle.field.proofs.CellLaws.{read_small}
 use Rattle.groups.specs.Answer.{accepted, and_then, pick}
-use Rattle.groups.specs.Words.{wordAt, readWord}
-use Rattle.groups.specs.Batches.{recordOf, batchOf, isBatch, batchAt, startsAt}
-use Rattle.groups.specs.Contexts.{contextAtOp, opCellsOf, cellsAtOp}
-use Rattle.groups.specs.GroupOfOperation.{falling, groupFrom, group_of}
-use Rattle.groups.specs.Helpers.{all_below, readRegisters, u32Values, six, helpersOf, helpersOfCells, helpersAnswer, toldHelpers}
+use Rattle.groups.specs.Words.{word_at, read_word}
+use Rattle.groups.specs.Batches.{record_of, batch_of, is_batch, batch_at, starts_at}
+use Rattle.groups.specs.Contexts.{context_at_op, op_cells_of, cells_at_op}
+use Rattle.groups.specs.GroupOfOperation.{falling, group_from, group_of}
+use Rattle.groups.specs.Helpers.{all_below, read_registers, u32_values, six, helpers_of, helpers_of_cells, helpers_answer, told_helpers}
 use Rattle.groups.specs.declared.batch.BasicBlockNode.{BasicBlockNode}
 use Rattle.groups.specs.declared.batch.OpBatch.{OpBatch}
 use Rattle.groups.specs.declared.group.OpPlace.{OpPlace}
@@ -33,10 +33,10 @@ use Rattle.rows.specs.declared.records.continuation.ContextInfo.{ContextInfo}
 use Rattle.rows.specs.declared.records.state.SystemState.{SystemState}
 use Rattle.rows.specs.declared.replay.pairs.OpStored.{OpStored}
 use Rattle.rows.specs.declared.replay.pairs.OpFound.{OpFound}
-use Rattle.rows.specs.records.Built.{builtSystem, builtStack, stackCells}
-use Rattle.rows.specs.records.CallRecords.{of32, conditionIn, callee_in, infoIn, resumeIn, continuationOn, namesNoKind, continuationIn, namesNothing, storedInRecord, systemIn, stackIn, fewCells, manyCells, registersIn}
-use Rattle.rows.specs.records.Forests.{Forest, nodeId, nodeEntry, node_of, slotBlock, nodeAt, opcodeAt, block_of}
-use Rattle.rows.specs.cycles.Made.{operationMade, resumed}
+use Rattle.rows.specs.records.Built.{built_system, built_stack, stack_cells}
+use Rattle.rows.specs.records.CallRecords.{of32, condition_in, callee_in, info_in, resume_in, continuation_on, names_no_kind, continuation_in, names_nothing, stored_in_record, system_in, stack_in, few_cells, many_cells, registers_in}
+use Rattle.rows.specs.records.Forests.{Forest, node_id, node_entry, node_of, slot_block, node_at, opcode_at, block_of}
+use Rattle.rows.specs.cycles.Made.{operation_made, resumed}
 use Rattle.rows.specs.ways.Inner.{kind_at}
 use Rattle.rows.specs.ways.Pairs.{StoresOperation, OperationIn, HelpersIn, IsPair}
 use Rattle.rows.proofs.records.Slots.{slot_whole}
@@ -56,15 +56,15 @@ read_cell : (r : List ℕ) (i : ℕ) → read (cell_at r i) ≡ cell_at r i
 unfolding cell_at
 read_cell r i = mod-mod (get_or r i 0) P
 
-read_word : (r : List ℕ) (i : ℕ) → readWord (wordAt r i) ≡ wordAt r i
-unfolding wordAt
+read_word : (r : List ℕ) (i : ℕ) → read_word (word_at r i) ≡ word_at r i
+unfolding word_at
 read_word r i = rw (read_cell r i, read_cell r (i + 1), read_cell r (i + 2), read_cell r (i + 3))
 
 -- THE SYSTEM
 
-system-is : (r : List ℕ) (state : SystemState) → systemIn r ≡ accepted state
-    → (get_or r 2 0 < 4294967296) × (state ≡ record { clk = record { 0 = get_or r 2 0 }; ctx = record { 0 = get_or r 3 0 }; fn_hash = wordAt r 4 })
-unfolding systemIn
+system-is : (r : List ℕ) (state : SystemState) → system_in r ≡ accepted state
+    → (get_or r 2 0 < 4294967296) × (state ≡ record { clk = record { 0 = get_or r 2 0 }; ctx = record { 0 = get_or r 3 0 }; fn_hash = word_at r 4 })
+unfolding system_in
 system-is r state e =
     let (clk, e1, e2) = then-accepted (of32 23 (get_or r 2 0)) _ state e in
     let (ctx, e3, e4) = then-accepted (of32 23 (get_or r 3 0)) _ state e2 in
@@ -72,20 +72,20 @@ system-is r state e =
     let (few', is') = small 23 (get_or r 3 0) ctx e3 in
     (few, cc)
 
-pub system-built : (r : List ℕ) (clk : ℕ) → (get_or r 2 0 < 4294967296 → clk ≡ get_or r 2 0 + 1) → (state : SystemState) → systemIn r ≡ accepted state
-    → record { clk = clk; ctx = get_or r 3 0; fn_hash = wordAt r 4 } ≡ builtSystem state
-unfolding builtSystem
-system-built r clk h state e = let (few, is) = system-is r state e in rw (is, h few, read_word r 4)
+pub system_built : (r : List ℕ) (clk : ℕ) → (get_or r 2 0 < 4294967296 → clk ≡ get_or r 2 0 + 1) → (state : SystemState) → system_in r ≡ accepted state
+    → record { clk = clk; ctx = get_or r 3 0; fn_hash = word_at r 4 } ≡ built_system state
+unfolding built_system
+system_built r clk h state e = let (few, is) = system-is r state e in rw (is, h few, read_word r 4)
 
 -- THE STACK
 
 -- the cells of a record that has its depth
-pub stack-built : (r : List ℕ) (depth : ℕ) → of32 23 (get_or r 24 0) ≡ accepted depth →
+pub stack_built : (r : List ℕ) (depth : ℕ) → of32 23 (get_or r 24 0) ≡ accepted depth →
     cell_at r 23 ∷ cell_at r 22 ∷ cell_at r 21 ∷ cell_at r 20 ∷ cell_at r 19 ∷ cell_at r 18 ∷ cell_at r 17 ∷ cell_at r 16
     ∷ cell_at r 15 ∷ cell_at r 14 ∷ cell_at r 13 ∷ cell_at r 12 ∷ cell_at r 11 ∷ cell_at r 10 ∷ cell_at r 9 ∷ cell_at r 8
-    ∷ get_or r 24 0 ∷ cell_at r 25 ∷ (get_or r 24 0 - 16) ∷ [] ≡ reduced (stackCells (builtStack (stackIn r depth)))
-unfolding builtStack stackIn stackCells reduced cell_at
-stack-built r depth e =
+    ∷ get_or r 24 0 ∷ cell_at r 25 ∷ (get_or r 24 0 - 16) ∷ [] ≡ reduced (stack_cells (built_stack (stack_in r depth)))
+unfolding built_stack stack_in stack_cells reduced cell_at
+stack_built r depth e =
     let (few, is) = small 23 (get_or r 24 0) depth e in
     rw (is, read_small depth (omega arith), read_small (depth - 16) (omega arith)) (simp mod-mod)
 
@@ -93,10 +93,10 @@ stack-built r depth e =
 
 -- number 18 names the case that has none
 pub no-helpers : (r : List ℕ) → get_or r 0 0 ≡ 18 → HelpersIn (HelpersFound.Are (six 0 0 0 0 0 0)) r
-unfolding registersIn manyCells fewCells helpersAnswer helpersOfCells readRegisters u32Values all_below helpersOf
+unfolding registers_in many_cells few_cells helpers_answer helpers_of_cells read_registers u32_values all_below helpers_of
 no-helpers r e = (OperationHelperRegisters.Empty, rw e, refl)
 
-pub helpers-of : (r : List ℕ) (registers : OperationHelperRegisters) (found : HelpersFound) → accepted registers ≡ registersIn r → toldHelpers found ≡ helpersAnswer registers → HelpersIn found r
+pub helpers-of : (r : List ℕ) (registers : OperationHelperRegisters) (found : HelpersFound) → accepted registers ≡ registers_in r → told_helpers found ≡ helpers_answer registers → HelpersIn found r
 helpers-of r registers (HelpersFound.Are helpers) e h = (registers, sym e, sym h)
 helpers-of r registers (HelpersFound.Refused n) e h = tt
 
@@ -105,20 +105,20 @@ helpers-of r registers (HelpersFound.Refused n) e h = tt
 module _ (s c : List ℕ) (forest : ℕ) where
   pub a_pair : (ltb (get_or c 24 0) 16 || leb 4294967296 (get_or c 24 0)) ≡ false → (leb 4294967296 (get_or c 2 0) || leb 4294967296 (get_or c 3 0)) ≡ false
       → (eqb (get_or s 0 0) 0 && (not (eqb (get_or c 0 0) 0) && eqb (get_or c 1 0) forest)) ≡ true → IsPair s c forest
-  unfolding systemIn
+  unfolding system_in
   a_pair deep few are =
       let (d, d') = neither (ltb (get_or c 24 0) 16) _ deep in
       let (x, y) = neither (leb 4294967296 (get_or c 2 0)) _ few in
       let (a, b) = both (eqb (get_or s 0 0) 0) _ are in
       let (b1, b2) = both (not (eqb (get_or c 0 0) 0)) _ b in
       record {
-        a-storing = a;
-        a-cycle = not-true (eqb (get_or c 0 0) 0) b1;
-        in-forest = eqb-true (get_or c 1 0) forest b2;
-        system = record { clk = record { 0 = get_or c 2 0 }; ctx = record { 0 = get_or c 3 0 }; fn_hash = wordAt c 4 };
-        a-system = rw (of-32 23 (get_or c 2 0) (leb-false _ _ x), of-32 23 (get_or c 3 0) (leb-false _ _ y));
+        a_storing = a;
+        a_cycle = not-true (eqb (get_or c 0 0) 0) b1;
+        in_forest = eqb-true (get_or c 1 0) forest b2;
+        system = record { clk = record { 0 = get_or c 2 0 }; ctx = record { 0 = get_or c 3 0 }; fn_hash = word_at c 4 };
+        a_system = rw (of-32 23 (get_or c 2 0) (leb-false _ _ x), of-32 23 (get_or c 3 0) (leb-false _ _ y));
         depth = get_or c 24 0;
-        a-depth = of-32 23 (get_or c 24 0) (leb-false _ _ d');
+        a_depth = of-32 23 (get_or c 24 0) (leb-false _ _ d');
         deep = d;
       }
 
@@ -131,26 +131,26 @@ three-of-32 x y z e =
     (leb-false _ _ a, leb-false _ _ b, leb-false _ _ c)
 
 -- context info that has its depth, or is absent
-abbrev infoBy : (s : List ℕ) → (present : Bool) → ContextInfo
-infoBy s present = pick present (ContextInfo.Is (record { stack_depth = get_or s 13 0; next_overflow_addr = cell_at s 14 })) ContextInfo.Absent
+abbrev info_by : (s : List ℕ) → (present : Bool) → ContextInfo
+info_by s present = pick present (ContextInfo.Is (record { stack_depth = get_or s 13 0; next_overflow_addr = cell_at s 14 })) ContextInfo.Absent
 
 info-by : (s : List ℕ) (present : Bool) → (present && leb 4294967296 (get_or s 13 0)) ≡ false
-    → pick present (and_then (of32 23 (get_or s 13 0)) (λ depth. accepted (ContextInfo.Is (record { stack_depth = depth; next_overflow_addr = cell_at s 14 })))) (accepted ContextInfo.Absent) ≡ accepted (infoBy s present)
+    → pick present (and_then (of32 23 (get_or s 13 0)) (λ depth. accepted (ContextInfo.Is (record { stack_depth = depth; next_overflow_addr = cell_at s 14 })))) (accepted ContextInfo.Absent) ≡ accepted (info_by s present)
 info-by s true e = rw (of-32 23 (get_or s 13 0) (leb-false _ _ e))
 info-by s false e = refl
 
 pub stores : (s : List ℕ) → (not (eqb (get_or s 1 0) 7) || (eqb (get_or s 12 0) 1 && leb 4294967296 (get_or s 13 0))) ≡ false
-    → (leb 4294967296 (get_or s 2 0) || (leb 4294967296 (get_or s 3 0) || leb 4294967296 (get_or s 4 0))) ≡ false → namesNothing s ≡ false
-    → StoresOperation (OpStored.Is (nodeId (get_or s 2 0)) (get_or s 3 0) (get_or s 4 0)) s
-unfolding storedInRecord continuationIn namesNoKind continuationOn resumeIn infoIn
+    → (leb 4294967296 (get_or s 2 0) || (leb 4294967296 (get_or s 3 0) || leb 4294967296 (get_or s 4 0))) ≡ false → names_nothing s ≡ false
+    → StoresOperation (OpStored.Is (node_id (get_or s 2 0)) (get_or s 3 0) (get_or s 4 0)) s
+unfolding stored_in_record continuation_in names_no_kind continuation_on resume_in info_in
 stores s resumes few named =
     let (k, n) = neither (not (eqb (get_or s 1 0) 7)) _ resumes in
     let kind = eqb-true (get_or s 1 0) 7 (not-false _ k) in
     let (id, index, op) = three-of-32 (get_or s 2 0) (get_or s 3 0) (get_or s 4 0) few in (
       record {
-        continuation = Continuation.ResumeBasicBlock (nodeId (get_or s 2 0)) (get_or s 3 0) (get_or s 4 0);
+        continuation = Continuation.ResumeBasicBlock (node_id (get_or s 2 0)) (get_or s 3 0) (get_or s 4 0);
         is_loop_body = eqb (get_or s 5 0) 1;
-        captured = record { finish_loop_condition = conditionIn s; dyn_callee_hash = callee_in s; ctx_info = infoBy s (eqb (get_or s 12 0) 1) };
+        captured = record { finish_loop_condition = condition_in s; dyn_callee_hash = callee_in s; ctx_info = info_by s (eqb (get_or s 12 0) 1) };
       },
       rw (kind, of-32 3 (get_or s 2 0) id, of-32 5 (get_or s 3 0) index, of-32 6 (get_or s 4 0) op, info-by s (eqb (get_or s 12 0) 1) n, named),
       refl,
@@ -160,47 +160,47 @@ stores s resumes few named =
 
 module _ (push : ℕ) (block : BasicBlockNode) (batches groups : List ℕ) (index op : ℕ) where
   -- a batch that is found is the one of its record
-  batch-is : (batch : OpBatch) → batchAt batches groups block index ≡ accepted batch → batch ≡ batchOf batches groups (recordOf block index)
-  unfolding batchAt
-  batch-is batch e = let (t, is) = held (isBatch batches groups block index) 5 (accepted (batchOf batches groups (recordOf block index))) batch e in cc
+  batch-is : (batch : OpBatch) → batch_at batches groups block index ≡ accepted batch → batch ≡ batch_of batches groups (record_of block index)
+  unfolding batch_at
+  batch-is batch e = let (t, is) = held (is_batch batches groups block index) 5 (accepted (batch_of batches groups (record_of block index))) batch e in cc
 
   -- an operation that has a place is one of the batch's
   in-batch : (starts : List ℕ) (ops : ℕ) (place : OpPlace) → group_of starts ops op ≡ accepted place → op < ops
   unfolding group_of
   in-batch starts ops place e =
-      let (t, is) = passed (leb ops op || falling starts) 6 (groupFrom starts ops op 0) place e in
+      let (t, is) = passed (leb ops op || falling starts) 6 (group_from starts ops op 0) place e in
       leb-false ops op (neither (leb ops op) _ t).0
 
   -- an operation that has a context has a batch
-  batch-found : (found : OpContext) → contextAtOp push block batches groups index op ≡ accepted found →
-      (batch : OpBatch) × (batchAt batches groups block index ≡ accepted batch) × (batch ≡ batchOf batches groups (recordOf block index)) × (op < batch.num_ops)
-  unfolding contextAtOp
+  batch-found : (found : OpContext) → context_at_op push block batches groups index op ≡ accepted found →
+      (batch : OpBatch) × (batch_at batches groups block index ≡ accepted batch) × (batch ≡ batch_of batches groups (record_of block index)) × (op < batch.num_ops)
+  unfolding context_at_op
   batch-found found e =
-      let (batch, e1, e2) = then-accepted (batchAt batches groups block index) _ found e in
-      let (place, e3, e4) = then-accepted (group_of (startsAt batches block index) batch.num_ops op) _ found e2 in
+      let (batch, e1, e2) = then-accepted (batch_at batches groups block index) _ found e in
+      let (place, e3, e4) = then-accepted (group_of (starts_at batches block index) batch.num_ops op) _ found e2 in
       (batch, e1, batch-is batch e1, in-batch _ _ place e3)
 
-  context-found : (cells : OpCells) → accepted cells ≡ cellsAtOp push block batches groups index op → (found : OpContext) × (contextAtOp push block batches groups index op ≡ accepted found) × (cells ≡ opCellsOf found)
-  unfolding cellsAtOp
+  context-found : (cells : OpCells) → accepted cells ≡ cells_at_op push block batches groups index op → (found : OpContext) × (context_at_op push block batches groups index op ≡ accepted found) × (cells ≡ op_cells_of found)
+  unfolding cells_at_op
   context-found cells e =
-      let (found, e1, e2) = then-accepted (contextAtOp push block batches groups index op) _ cells (sym e) in
+      let (found, e1, e2) = then-accepted (context_at_op push block batches groups index op) _ cells (sym e) in
       (found, e1, cc)
 
 -- a slot that holds a block
-block-found : (nodes digests : List ℕ) (id : ℕ) → 2 ≡ kind_at nodes digests id → nodeAt nodes digests id ≡ nodeEntry (MastNode.Block (slotBlock nodes id)) (wordAt digests (4 * id))
-unfolding nodeAt node_of
+block-found : (nodes digests : List ℕ) (id : ℕ) → 2 ≡ kind_at nodes digests id → node_at nodes digests id ≡ node_entry (MastNode.Block (slot_block nodes id)) (word_at digests (4 * id))
+unfolding node_at node_of
 block-found nodes digests id e = let (whole, kind) = slot_whole nodes digests id 2 e (omega arith) in rw (whole, ← kind)
 
 module _ (f : Forest) (push : ℕ) (id : MastNodeId) (index op : ℕ) (block : BasicBlockNode) (cells : OpCells) (first : ℕ) (kind : 2 ≡ kind_at f.nodes f.digests id.0)
-    (is : block ≡ slotBlock f.nodes id.0) (starts : first ≡ get_or f.batches (12 * recordOf block index + 11) 0) (inside : first + op < length f.ops) where
-  operation-at : (found : OpContext) (batch : OpBatch) → contextAtOp push block f.batches f.groups index op ≡ accepted found → cells ≡ opCellsOf found
-      → batchAt f.batches f.groups block index ≡ accepted batch → first ≡ batch.first_op → op < batch.num_ops
+    (is : block ≡ slot_block f.nodes id.0) (starts : first ≡ get_or f.batches (12 * record_of block index + 11) 0) (inside : first + op < length f.ops) where
+  operation-at : (found : OpContext) (batch : OpBatch) → context_at_op push block f.batches f.groups index op ≡ accepted found → cells ≡ op_cells_of found
+      → batch_at f.batches f.groups block index ≡ accepted batch → first ≡ batch.first_op → op < batch.num_ops
       → OperationIn (OpFound.Is (get_or f.ops (first + op) 0) cells) f push id index op
-  unfolding resumed operationMade opcodeAt block_of
+  unfolding resumed operation_made opcode_at block_of
   operation-at found batch e shown e1 e2 less registers helpers here h =
       (found.place.following, rw (block-found f.nodes f.digests id.0 kind, ← is, e1, lt-ltb op batch.num_ops less, ← e2, lt-ltb (first + op) (length f.ops) inside, e, h, shown))
 
-  pub operation-in : accepted cells ≡ cellsAtOp push block f.batches f.groups index op → OperationIn (OpFound.Is (get_or f.ops (first + op) 0) cells) f push id index op
+  pub operation-in : accepted cells ≡ cells_at_op push block f.batches f.groups index op → OperationIn (OpFound.Is (get_or f.ops (first + op) 0) cells) f push id index op
   operation-in told =
       let (found, e, shown) = context-found push block f.batches f.groups index op cells told in
       let (batch, e1, e2, less) = batch-found push block f.batches f.groups index op found e in

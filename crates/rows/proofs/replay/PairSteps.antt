@@ -7,7 +7,7 @@ use native.Mathlib.Omega.{arith}
 use lib.ListN.{length, take, drop, get_or}
 use Rattle.field.specs.Cells.{reduced}
 use Rattle.groups.specs.Answer.{Answer, accepted, refused}
-use Rattle.groups.specs.Constants.{rowWidth}
+use Rattle.groups.specs.Constants.{row_width}
 use Rattle.groups.specs.declared.helpers.UserOpHelpers.{UserOpHelpers}
 use Rattle.groups.specs.declared.helpers.HelpersFound.{HelpersFound}
 use Rattle.groups.specs.declared.context.OpCells.{OpCells}
@@ -31,23 +31,23 @@ use Rattle.rows.specs.declared.replay.pairs.PairFound.{PairFound}
 use Rattle.rows.specs.declared.replay.pairs.Walk.{Walk}
 use Rattle.rows.specs.records.Forests.{Forest}
 use Rattle.rows.specs.records.Addresses.{Queues}
-use Rattle.rows.specs.records.Built.{builtSystem, builtStack, systemCells}
-use Rattle.rows.specs.records.Cells.{rowWritten}
-use Rattle.rows.specs.records.DecoderRows.{operation, decoderCells}
-use Rattle.rows.specs.records.CallRecords.{of32, storedInRecord, systemIn, stackIn, recordAt}
-use Rattle.rows.specs.cycles.Made.{Cursor, cursor, toldMade, made}
-use Rattle.rows.specs.ways.Pairs.{SystemBuilt, StackBuilt, RowBehind, StoresOperation, OperationIn, HelpersIn, pairMade, Makes, ArePair, PutBehind, TakesOperation, TakesPair, Onward, tracerBehind, StandsAt}
+use Rattle.rows.specs.records.Built.{built_system, built_stack, system_cells}
+use Rattle.rows.specs.records.Cells.{row_written}
+use Rattle.rows.specs.records.DecoderRows.{operation, decoder_cells}
+use Rattle.rows.specs.records.CallRecords.{of32, stored_in_record, system_in, stack_in, record_at}
+use Rattle.rows.specs.cycles.Made.{Cursor, cursor, told_made, made}
+use Rattle.rows.specs.ways.Pairs.{SystemBuilt, StackBuilt, RowBehind, StoresOperation, OperationIn, HelpersIn, pair_made, Makes, ArePair, PutBehind, TakesOperation, TakesPair, Onward, tracer_behind, StandsAt}
 use Rattle.rows.proofs.records.Rooms.{cells-in-two}
 
-pub makes-told : (r : Made) (answer : Answer MadeRow) → toldMade r ≡ answer → Makes r answer
+pub makes-told : (r : Made) (answer : Answer MadeRow) → told_made r ≡ answer → Makes r answer
 makes-told (Made.Row m) answer e = sym e
 makes-told (Made.Refused n) answer e = tt
 
 -- the row that is written, and none where nothing is
 pub row-behind : (before : List ℕ) (row : ℕ) (decoder : DecoderRow) (entry exit first last : List ℕ) (system : SystemCols) →
-    SystemBuilt before system → first ≡ reduced (systemCells system ++ decoderCells decoder) → StackBuilt before last → exit ≡ rowWritten entry row (first ++ last) → RowBehind before row decoder entry exit
+    SystemBuilt before system → first ≡ reduced (system_cells system ++ decoder_cells decoder) → StackBuilt before last → exit ≡ row_written entry row (first ++ last) → RowBehind before row decoder entry exit
 row-behind before row decoder entry exit first last system sys f stk put state depth es ed =
-    rw (cells-in-two (builtSystem state) decoder (builtStack (stackIn before depth)), ← (sys state es), ← f, ← (stk depth ed)) put
+    rw (cells-in-two (built_system state) decoder (built_stack (stack_in before depth)), ← (sys state es), ← f, ← (stk depth ed)) put
 
 pub put-row : (write : Bool) (before : List ℕ) (row : ℕ) (m : MadeRow) (entry exit : List ℕ) (decoder : DecoderRow) →
     write ≡ true → decoder ≡ m.row → RowBehind before row decoder entry exit → PutBehind write before row m entry exit
@@ -79,7 +79,7 @@ module _ (f : Forest) (q : Queues) (p : Profile) (before s c : List ℕ) (row : 
   -- the pair of an operation that is stored
   pub stored-taken : (stored : OpStored) (id : MastNodeId) (index op : ℕ) (found : PairFound) → StoresOperation stored s → stored ≡ OpStored.Is id index op →
       TakesOperation found f p.push id index op before c row here write entry exit → TakesPair found f q p before s c row here write entry exit
-  unfolding pairMade made
+  unfolding pair_made made
   stored-taken stored id index op (PairFound.Taken end) st e (registers, are, m, makes, state, at, used, put) =
       let (values, found, is) = rw e at st in
       (m, rw (found, are, is) makes, state, at, used, put)
@@ -88,28 +88,28 @@ module _ (f : Forest) (q : Queues) (p : Profile) (before s c : List ℕ) (row : 
 -- THE RECORDS AS THEY ARE LENT
 
 module _ (records : List ℕ) (n : ℕ) where
-  abbrev pub lentStoring : List ℕ
-  lentStoring = take (32 * n + 32 - 32 * n) (drop (32 * n) records)
+  abbrev pub lent_storing : List ℕ
+  lent_storing = take (32 * n + 32 - 32 * n) (drop (32 * n) records)
 
-  abbrev pub lentCycle : List ℕ
-  lentCycle = take (32 * n + 32 + 32 - (32 * n + 32)) (drop (32 * n + 32) records)
+  abbrev pub lent_cycle : List ℕ
+  lent_cycle = take (32 * n + 32 + 32 - (32 * n + 32)) (drop (32 * n + 32) records)
 
-  abbrev pub lentBefore : List ℕ
-  lentBefore = take (32 * n - (32 * n - 32)) (drop (32 * n - 32) records)
+  abbrev pub lent_before : List ℕ
+  lent_before = take (32 * n - (32 * n - 32)) (drop (32 * n - 32) records)
 
-  storing-is : lentStoring ≡ recordAt records n
-  unfolding recordAt
+  storing-is : lent_storing ≡ record_at records n
+  unfolding record_at
   storing-is = let e : 32 * n + 32 - 32 * n ≡ 32 = omega arith in rw e
 
-  cycle-is : lentCycle ≡ recordAt records (n + 1)
-  unfolding recordAt
+  cycle-is : lent_cycle ≡ record_at records (n + 1)
+  unfolding record_at
   cycle-is =
       let e : 32 * n + 32 + 32 - (32 * n + 32) ≡ 32 = omega arith in
       let g : 32 * (n + 1) ≡ 32 * n + 32 = omega arith in
       rw (e, g)
 
-  before-is : 0 < n → lentBefore ≡ recordAt records (n - 1)
-  unfolding recordAt
+  before-is : 0 < n → lent_before ≡ record_at records (n - 1)
+  unfolding record_at
   before-is some =
       let e : 32 * n - (32 * n - 32) ≡ 32 = omega (arith, some) in
       let g : 32 * (n - 1) ≡ 32 * n - 32 = omega (arith, some) in
@@ -117,17 +117,17 @@ module _ (records : List ℕ) (n : ℕ) where
 
 -- a pair that is taken, as a walk's step
 pub onward : (f : Forest) (q : Queues) (p : Profile) (forest : ℕ) (records : List ℕ) (write : Bool) (w : Walk) (entry exit : List ℕ) (is : Bool) (found : PairFound) (end : PairEnd) →
-    0 < w.next → 32 * w.next + 32 + 32 ≤ length records → w.row < length entry / rowWidth →
-    is ≡ true → ArePair is (lentStoring records w.next) (lentCycle records w.next) forest →
+    0 < w.next → 32 * w.next + 32 + 32 ≤ length records → w.row < length entry / row_width →
+    is ≡ true → ArePair is (lent_storing records w.next) (lent_cycle records w.next) forest →
     found ≡ PairFound.Taken end →
-    TakesPair found f q p (lentBefore records w.next) (lentStoring records w.next) (lentCycle records w.next) w.row (cursor w.state w.at) write entry exit → length exit ≡ length entry →
+    TakesPair found f q p (lent_before records w.next) (lent_storing records w.next) (lent_cycle records w.next) w.row (cursor w.state w.at) write entry exit → length exit ≡ length entry →
     Onward f q p forest records write w entry (record { next = w.next + 2; row = w.row + 1; state = end.state; at = end.at; used = end.used }) exit
 onward f q p forest records write w entry exit is found end some whole room t are e takes same =
     let (m, makes, state, at, used, put) = rw (e, before-is records w.next some, storing-is records w.next, cycle-is records w.next) at takes in
     record {
       inside = omega (arith, whole);
       room = room;
-      is-pair = rw (storing-is records w.next, cycle-is records w.next) at (are t);
+      is_pair = rw (storing-is records w.next, cycle-is records w.next) at (are t);
       m = m;
       makes = makes;
       put = put;
@@ -142,44 +142,44 @@ onward f q p forest records write w entry exit is found end some whole room t ar
 -- THE TRACER BEHIND A WALK
 
 module _ (records : List ℕ) (w : Walk) (two : 2 ≤ w.next) where
-  abbrev pub storingBehind : List ℕ
-  storingBehind = take (32 * w.next - 32 - (32 * w.next - 32 - 32)) (drop (32 * w.next - 32 - 32) records)
+  abbrev pub storing_behind : List ℕ
+  storing_behind = take (32 * w.next - 32 - (32 * w.next - 32 - 32)) (drop (32 * w.next - 32 - 32) records)
 
-  abbrev pub cycleBehind : List ℕ
-  cycleBehind = take (32 * w.next - 32 + 32 - (32 * w.next - 32)) (drop (32 * w.next - 32) records)
+  abbrev pub cycle_behind : List ℕ
+  cycle_behind = take (32 * w.next - 32 + 32 - (32 * w.next - 32)) (drop (32 * w.next - 32) records)
 
-  storing-behind-is : recordAt records (w.next - 2) ≡ storingBehind
-  unfolding recordAt
+  storing-behind-is : record_at records (w.next - 2) ≡ storing_behind
+  unfolding record_at
   storing-behind-is =
       let e : 32 * w.next - 32 - (32 * w.next - 32 - 32) ≡ 32 = omega (arith, two) in
       let g : 32 * (w.next - 2) ≡ 32 * w.next - 32 - 32 = omega (arith, two) in
       rw (e, g)
 
-  cycle-behind-is : recordAt records (w.next - 1) ≡ cycleBehind
-  unfolding recordAt
+  cycle-behind-is : record_at records (w.next - 1) ≡ cycle_behind
+  unfolding record_at
   cycle-behind-is =
       let e : 32 * w.next - 32 + 32 - (32 * w.next - 32) ≡ 32 = omega (arith, two) in
       let g : 32 * (w.next - 1) ≡ 32 * w.next - 32 = omega (arith, two) in
       rw (e, g)
 
   -- records that hold nothing are of no pair
-  pub no-values : (n : ℕ) (r : CoreTraceGenerationTracer) → storedInRecord storingBehind ≡ refused n → StandsAt records w r
-  no-values n r e values system depth a b d = never n values (sym e ∙ ap storedInRecord (sym storing-behind-is) ∙ a)
+  pub no-values : (n : ℕ) (r : CoreTraceGenerationTracer) → stored_in_record storing_behind ≡ refused n → StandsAt records w r
+  no-values n r e values system depth a b d = never n values (sym e ∙ ap stored_in_record (sym storing-behind-is) ∙ a)
 
-  pub no-system : (n : ℕ) (r : CoreTraceGenerationTracer) → systemIn cycleBehind ≡ refused n → StandsAt records w r
-  no-system n r e values system depth a b d = never n system (sym e ∙ ap systemIn (sym cycle-behind-is) ∙ b)
+  pub no-system : (n : ℕ) (r : CoreTraceGenerationTracer) → system_in cycle_behind ≡ refused n → StandsAt records w r
+  no-system n r e values system depth a b d = never n system (sym e ∙ ap system_in (sym cycle-behind-is) ∙ b)
 
-  pub no-depth : (n : ℕ) (r : CoreTraceGenerationTracer) → of32 23 (get_or cycleBehind 24 0) ≡ refused n → StandsAt records w r
+  pub no-depth : (n : ℕ) (r : CoreTraceGenerationTracer) → of32 23 (get_or cycle_behind 24 0) ≡ refused n → StandsAt records w r
   no-depth n r e values system depth a b d = never n depth (sym e ∙ ap (λ c. of32 23 (get_or c 24 0)) (sym cycle-behind-is) ∙ d)
 
-  pub stands-so : (values : StoredValues) (system : SystemState) (depth : ℕ) (r : CoreTraceGenerationTracer) → storedInRecord storingBehind ≡ accepted values → systemIn cycleBehind ≡ accepted system → of32 23 (get_or cycleBehind 24 0) ≡ accepted depth →
-      r ≡ tracerBehind cycleBehind w.row values w.used w.state w.at system depth → StandsAt records w r
+  pub stands-so : (values : StoredValues) (system : SystemState) (depth : ℕ) (r : CoreTraceGenerationTracer) → stored_in_record storing_behind ≡ accepted values → system_in cycle_behind ≡ accepted system → of32 23 (get_or cycle_behind 24 0) ≡ accepted depth →
+      r ≡ tracer_behind cycle_behind w.row values w.used w.state w.at system depth → StandsAt records w r
   stands-so values system depth r e g h is values' system' depth' a b d =
-      let v : accepted values ≡ accepted values' = sym e ∙ ap storedInRecord (sym storing-behind-is) ∙ a in
-      let y : accepted system ≡ accepted system' = sym g ∙ ap systemIn (sym cycle-behind-is) ∙ b in
+      let v : accepted values ≡ accepted values' = sym e ∙ ap stored_in_record (sym storing-behind-is) ∙ a in
+      let y : accepted system ≡ accepted system' = sym g ∙ ap system_in (sym cycle-behind-is) ∙ b in
       let z : accepted depth ≡ accepted depth' = sym h ∙ ap (λ c. of32 23 (get_or c 24 0)) (sym cycle-behind-is) ∙ d in
-      is ∙ same cycleBehind (recordAt records (w.next - 1)) w.row values values' w.used w.state w.at system system' depth depth' (sym cycle-behind-is) v y z
+      is ∙ same cycle_behind (record_at records (w.next - 1)) w.row values values' w.used w.state w.at system system' depth depth' (sym cycle-behind-is) v y z
     where
       same : (c c' : List ℕ) (row : ℕ) (v v' : StoredValues) (used : Used) (state : DecoderState) (at : Positions) (y y' : SystemState) (z z' : ℕ) → c ≡ c' → accepted v ≡ accepted v' → accepted y ≡ accepted y' → accepted z ≡ accepted z' →
-          tracerBehind c row v used state at y z ≡ tracerBehind c' row v' used state at y' z'
+          tracer_behind c row v used state at y z ≡ tracer_behind c' row v' used state at y' z'
       same c c' row v v' used state at y y' z z' e g h i = cc

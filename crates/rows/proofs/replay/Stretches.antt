@@ -8,7 +8,7 @@ use borrow.Author.Tests.{le-ltb, lt-leb, ne_eqb}
 use lib.Dec.{leb, ltb, eqb}
 use lib.ListN.{length, get_or}
 use Rattle.groups.specs.Answer.{accepted, pick}
-use Rattle.groups.specs.Constants.{rowWidth, mostRows}
+use Rattle.groups.specs.Constants.{row_width, most_rows}
 use Rattle.groups.specs.declared.helpers.OperationHelperRegisters.{OperationHelperRegisters}
 use Rattle.rows.specs.declared.records.profile.Profile.{Profile}
 use Rattle.rows.specs.declared.records.address_state.DecoderState.{DecoderState}
@@ -25,14 +25,14 @@ use Rattle.rows.specs.declared.cycles.tracer.CoreTraceGenerationTracer.{CoreTrac
 use Rattle.rows.specs.declared.replay.pairs.Walk.{Walk}
 use Rattle.rows.specs.records.Forests.{Forest}
 use Rattle.rows.specs.records.Addresses.{Queues}
-use Rattle.rows.specs.records.Captured.{readCaptured}
-use Rattle.rows.specs.records.Built.{builtSystem, builtStack}
-use Rattle.rows.specs.records.Cells.{rowCells, putRow, rowWritten, fragmentWrong}
-use Rattle.rows.specs.records.CallRecords.{stores, finishes, of32, storedInRecord, systemIn, stackIn, registersIn, finishIn, call_in, recordAt}
+use Rattle.rows.specs.records.Captured.{read_captured}
+use Rattle.rows.specs.records.Built.{built_system, built_stack}
+use Rattle.rows.specs.records.Cells.{row_cells, put_row, row_written, fragment_wrong}
+use Rattle.rows.specs.records.CallRecords.{stores, finishes, of32, stored_in_record, system_in, stack_in, registers_in, finish_in, call_in, record_at}
 use Rattle.rows.specs.cycles.Made.{cursor, made}
-use Rattle.rows.specs.cycles.Cycles.{storingOf, storedIn, cycleWith, tracerAfter, lastSystem, lastStack, fragmentAfter}
-use Rattle.rows.specs.replay.Calls.{Setting, forestOf, callDone, callWritten}
-use Rattle.rows.specs.ways.Pairs.{steps, stepsWritten, pairMade, Onward, Walked, stays, goes, BuiltBefore, tracerBehind, Walks, StandsAt, Follows}
+use Rattle.rows.specs.cycles.Cycles.{storing_of, stored_in, cycle_with, tracer_after, last_system, last_stack, fragment_after}
+use Rattle.rows.specs.replay.Calls.{Setting, forest_of, call_done, call_written}
+use Rattle.rows.specs.ways.Pairs.{steps, steps_written, pair_made, Onward, Walked, stays, goes, BuiltBefore, tracer_behind, Walks, StandsAt, Follows}
 use Rattle.groups.proofs.Answers.{then-accepted}
 use Rattle.groups.proofs.OneGroup.{neither}
 use Rattle.rows.proofs.records.Rooms.{row_within}
@@ -43,56 +43,56 @@ use Rattle.rows.proofs.cycles.Picks.{pick_same}
 -- no check of a finish refuses behind a storing
 pub record Passes (scan : Scan) (p : Profile) (f : Forest) (q : Queues) (cells : ℕ) (t : CoreTraceGenerationTracer) (values : StoredValues) (depth : ℕ) (registers : OperationHelperRegisters) (m : MadeRow) : Type 0 where
   pub small : scan.big ≡ false
-  pub profile-right : scan.profile_wrong ≡ false
-  pub not-large : scan.too_large ≡ false
-  pub whole : fragmentWrong cells t.row_write_index ≡ false
+  pub profile_right : scan.profile_wrong ≡ false
+  pub not_large : scan.too_large ≡ false
+  pub whole : fragment_wrong cells t.row_write_index ≡ false
   pub deep : ltb depth 16 ≡ false
-  pub room : leb (cells / rowWidth) t.row_write_index ≡ false
-  pub makes : made f q p registers values.continuation values.is_loop_body (readCaptured values.captured) (cursor t.decoder_state t.at) ≡ accepted m
+  pub room : leb (cells / row_width) t.row_write_index ≡ false
+  pub makes : made f q p registers values.continuation values.is_loop_body (read_captured values.captured) (cursor t.decoder_state t.at) ≡ accepted m
 
 cycled : (scan : Scan) (p : Profile) (f : Forest) (q : Queues) (cells : ℕ) (t : CoreTraceGenerationTracer) (values : StoredValues) (c : List ℕ) (depth : ℕ) (registers : OperationHelperRegisters) (m : MadeRow) →
-    t.refusal ≡ 0 → Passes scan p f q cells t values depth registers m → cycleWith scan p f q (stackIn c depth) registers cells (storingOf t values) ≡ accepted m
-unfolding cycleWith stackIn
-cycled scan p f q cells t values c depth registers m k h = rw (k, h.small, h.profile-right, h.not-large, h.whole, h.deep, h.makes, h.room)
+    t.refusal ≡ 0 → Passes scan p f q cells t values depth registers m → cycle_with scan p f q (stack_in c depth) registers cells (storing_of t values) ≡ accepted m
+unfolding cycle_with stack_in
+cycled scan p f q cells t values c depth registers m k h = rw (k, h.small, h.profile_right, h.not_large, h.whole, h.deep, h.makes, h.room)
 
-storing-in : (r : List ℕ) (values : StoredValues) → eqb (get_or r 0 0) 0 ≡ true → storedInRecord r ≡ accepted values → call_in r ≡ accepted (stores values)
+storing-in : (r : List ℕ) (values : StoredValues) → eqb (get_or r 0 0) 0 ≡ true → stored_in_record r ≡ accepted values → call_in r ≡ accepted (stores values)
 unfolding call_in
 storing-in r values a e = rw (a, e)
 
-finish-in : (c : List ℕ) (system : SystemState) (depth : ℕ) (registers : OperationHelperRegisters) → eqb (get_or c 0 0) 0 ≡ false → systemIn c ≡ accepted system → of32 23 (get_or c 24 0) ≡ accepted depth → registersIn c ≡ accepted registers →
-    call_in c ≡ accepted (finishes (get_or c 1 0) system (stackIn c depth) registers)
-unfolding call_in finishIn
+finish-in : (c : List ℕ) (system : SystemState) (depth : ℕ) (registers : OperationHelperRegisters) → eqb (get_or c 0 0) 0 ≡ false → system_in c ≡ accepted system → of32 23 (get_or c 24 0) ≡ accepted depth → registers_in c ≡ accepted registers →
+    call_in c ≡ accepted (finishes (get_or c 1 0) system (stack_in c depth) registers)
+unfolding call_in finish_in
 finish-in c system depth registers a e g h = rw (a, e, g, h)
 
-stored_is : (s : Setting) (t : CoreTraceGenerationTracer) (values : StoredValues) → t.refusal ≡ 0 → callDone s t (accepted (stores values)) ≡ storingOf t values
-unfolding callDone storedIn
+stored_is : (s : Setting) (t : CoreTraceGenerationTracer) (values : StoredValues) → t.refusal ≡ 0 → call_done s t (accepted (stores values)) ≡ storing_of t values
+unfolding call_done stored_in
 stored_is s t values k = rw k
 
 module _ (s : Setting) (t : CoreTraceGenerationTracer) (r c : List ℕ) (values : StoredValues) (system : SystemState) (depth : ℕ) (registers : OperationHelperRegisters) (m : MadeRow) where
-  module _ (kept : t.refusal ≡ 0) (storing : call_in r ≡ accepted (stores values)) (finish : call_in c ≡ accepted (finishes (get_or c 1 0) system (stackIn c depth) registers))
-      (h : Passes s.scan s.profile (forestOf s (get_or c 1 0)) s.queues s.cells t values depth registers m) where
-    made_so : cycleWith s.scan s.profile (forestOf s (get_or c 1 0)) s.queues (stackIn c depth) registers s.cells (storingOf t values) ≡ accepted m
-    made_so = cycled s.scan s.profile (forestOf s (get_or c 1 0)) s.queues s.cells t values c depth registers m kept h
+  module _ (kept : t.refusal ≡ 0) (storing : call_in r ≡ accepted (stores values)) (finish : call_in c ≡ accepted (finishes (get_or c 1 0) system (stack_in c depth) registers))
+      (h : Passes s.scan s.profile (forest_of s (get_or c 1 0)) s.queues s.cells t values depth registers m) where
+    made_so : cycle_with s.scan s.profile (forest_of s (get_or c 1 0)) s.queues (stack_in c depth) registers s.cells (storing_of t values) ≡ accepted m
+    made_so = cycled s.scan s.profile (forest_of s (get_or c 1 0)) s.queues s.cells t values c depth registers m kept h
 
-    finished : callDone s (storingOf t values) (accepted (finishes (get_or c 1 0) system (stackIn c depth) registers)) ≡ tracerBehind c (t.row_write_index + 1) values m.used m.state m.at system depth
-    unfolding callDone tracerAfter
+    finished : call_done s (storing_of t values) (accepted (finishes (get_or c 1 0) system (stack_in c depth) registers)) ≡ tracer_behind c (t.row_write_index + 1) values m.used m.state m.at system depth
+    unfolding call_done tracer_after
     finished = rw made_so
 
-    pub pair-done : callDone s (callDone s t (call_in r)) (call_in c) ≡ tracerBehind c (t.row_write_index + 1) values m.used m.state m.at system depth
+    pub pair-done : call_done s (call_done s t (call_in r)) (call_in c) ≡ tracer_behind c (t.row_write_index + 1) values m.used m.state m.at system depth
     pair-done = rw (storing, finish, stored_is s t values kept) finished
 
-    put : (fragment : List ℕ) → callWritten s (storingOf t values) (accepted (finishes (get_or c 1 0) system (stackIn c depth) registers)) (callWritten s t (accepted (stores values)) fragment) ≡ putRow fragment t.row_write_index (rowCells (lastSystem (storingOf t values)) m.row (lastStack (storingOf t values)))
-    unfolding callWritten fragmentAfter
+    put : (fragment : List ℕ) → call_written s (storing_of t values) (accepted (finishes (get_or c 1 0) system (stack_in c depth) registers)) (call_written s t (accepted (stores values)) fragment) ≡ put_row fragment t.row_write_index (row_cells (last_system (storing_of t values)) m.row (last_stack (storing_of t values)))
+    unfolding call_written fragment_after
     put fragment = rw made_so
 
-    pub pair-written : (fragment : List ℕ) → callWritten s (callDone s t (call_in r)) (call_in c) (callWritten s t (call_in r) fragment) ≡ putRow fragment t.row_write_index (rowCells (lastSystem (storingOf t values)) m.row (lastStack (storingOf t values)))
+    pub pair-written : (fragment : List ℕ) → call_written s (call_done s t (call_in r)) (call_in c) (call_written s t (call_in r) fragment) ≡ put_row fragment t.row_write_index (row_cells (last_system (storing_of t values)) m.row (last_stack (storing_of t values)))
     pair-written fragment = rw (storing, finish, stored_is s t values kept) (put fragment)
 
 -- the cells of a row behind the first are those that the tracer has
-last_built : (t : CoreTraceGenerationTracer) (values : StoredValues) (system : SystemCols) (stack : StackCols) → 0 < t.row_write_index → t.system_cols ≡ system → t.stack_cols ≡ stack →
-    (lastSystem (storingOf t values) ≡ system) × (lastStack (storingOf t values) ≡ stack)
-unfolding lastSystem lastStack
-last_built t values system stack some e g = let z : eqb t.row_write_index 0 ≡ false = ne_eqb t.row_write_index 0 (λ e. absurd (omega arith)) in (rw z e, rw z g)
+last_built_lem : (t : CoreTraceGenerationTracer) (values : StoredValues) (system : SystemCols) (stack : StackCols) → 0 < t.row_write_index → t.system_cols ≡ system → t.stack_cols ≡ stack →
+    (last_system (storing_of t values) ≡ system) × (last_stack (storing_of t values) ≡ stack)
+unfolding last_system last_stack
+last_built_lem t values system stack some e g = let z : eqb t.row_write_index 0 ≡ false = ne_eqb t.row_write_index 0 (λ e. absurd (omega arith)) in (rw z e, rw z g)
 
 -- MANY PAIRS
 
@@ -101,27 +101,27 @@ double zero = zero
 double (suc n) = suc (suc (double n))
 
 -- the fragment behind one row more
-put_step : (write : Bool) (g g' w w' entry : List ℕ) (row : ℕ) (cells : List ℕ) → g ≡ pick write w entry → g' ≡ pick write (rowWritten g row cells) g → row < length g / rowWidth → w' ≡ putRow w row cells → g' ≡ pick write w' entry
+put_step : (write : Bool) (g g' w w' entry : List ℕ) (row : ℕ) (cells : List ℕ) → g ≡ pick write w entry → g' ≡ pick write (row_written g row cells) g → row < length g / row_width → w' ≡ put_row w row cells → g' ≡ pick write w' entry
 put_step true g g' w w' entry row cells e put room is = put ∙ row_within g row cells room ∙ rw (e, is)
 put_step false g g' w w' entry row cells e put room is = put ∙ e
 
 behind-same : (c c' : List ℕ) (row row' : ℕ) (values : StoredValues) (used used' : Used) (state state' : DecoderState) (at at' : Positions) (system : SystemState) (depth : ℕ) → c ≡ c' → row ≡ row' → used ≡ used' → state ≡ state' → at ≡ at' →
-    tracerBehind c row values used state at system depth ≡ tracerBehind c' row' values used' state' at' system depth
+    tracer_behind c row values used state at system depth ≡ tracer_behind c' row' values used' state' at' system depth
 behind-same c c' row row' values used used' state state' at at' system depth a b d e g = rw (a, b, d, e, g)
 
-row_same : (w : List ℕ) (r r' : ℕ) (a a' : SystemCols) (d : DecoderRow) (b b' : StackCols) → r ≡ r' → a ≡ a' → b ≡ b' → putRow w r (rowCells a d b) ≡ putRow w r' (rowCells a' d b')
+row_same : (w : List ℕ) (r r' : ℕ) (a a' : SystemCols) (d : DecoderRow) (b b' : StackCols) → r ≡ r' → a ≡ a' → b ≡ b' → put_row w r (row_cells a d b) ≡ put_row w r' (row_cells a' d b')
 row_same w r r' a a' d b b' e g h = rw (e, g, h)
 
 -- two calls more
 steps-two : (s : Setting) (records : List ℕ) (k : ℕ) (t₀ : CoreTraceGenerationTracer) (n i j : ℕ) → k + double n ≡ i → k + suc (double n) ≡ j →
-    steps s records k t₀ (double (suc n)) ≡ callDone s (callDone s (steps s records k t₀ (double n)) (call_in (recordAt records i))) (call_in (recordAt records j))
+    steps s records k t₀ (double (suc n)) ≡ call_done s (call_done s (steps s records k t₀ (double n)) (call_in (record_at records i))) (call_in (record_at records j))
 unfolding steps double
 steps-two s records k t₀ n i j e g = rw (e, g)
 
 written-two : (s : Setting) (records : List ℕ) (k : ℕ) (t₀ : CoreTraceGenerationTracer) (entry : List ℕ) (n i j : ℕ) → k + double n ≡ i → k + suc (double n) ≡ j →
-    stepsWritten s records k t₀ entry (double (suc n))
-    ≡ callWritten s (callDone s (steps s records k t₀ (double n)) (call_in (recordAt records i))) (call_in (recordAt records j)) (callWritten s (steps s records k t₀ (double n)) (call_in (recordAt records i)) (stepsWritten s records k t₀ entry (double n)))
-unfolding stepsWritten steps double
+    steps_written s records k t₀ entry (double (suc n))
+    ≡ call_written s (call_done s (steps s records k t₀ (double n)) (call_in (record_at records i))) (call_in (record_at records j)) (call_written s (steps s records k t₀ (double n)) (call_in (record_at records i)) (steps_written s records k t₀ entry (double n)))
+unfolding steps_written steps double
 written-two s records k t₀ entry n i j e g = rw (e, g)
 
 module _ (s : Setting) (records : List ℕ) (write : Bool) (k : ℕ) (t₀ : CoreTraceGenerationTracer) (entry : List ℕ) (forest : ℕ) where
@@ -131,20 +131,20 @@ module _ (s : Setting) (records : List ℕ) (write : Bool) (k : ℕ) (t₀ : Cor
 
   -- what the pairs are lent, and that neither the scan nor the fragment's length refuses
   pub record Sound (f : Forest) : Type 0 where
-    pub lent : f ≡ forestOf s forest
+    pub lent : f ≡ forest_of s forest
     pub some : 0 < k
     pub inside : k ≤ length records / 32
     pub small : s.scan.big ≡ false
-    pub profile-right : s.scan.profile_wrong ≡ false
-    pub not-large : s.scan.too_large ≡ false
-    pub whole : fragmentWrong s.cells t₀.row_write_index ≡ false
+    pub profile_right : s.scan.profile_wrong ≡ false
+    pub not_large : s.scan.too_large ≡ false
+    pub whole : fragment_wrong s.cells t₀.row_write_index ≡ false
     pub cells : s.cells ≡ length entry
 
   -- behind a pair the tracer has what it stored and what is left of it
   unfoldable pub Last : (n : ℕ) → Walk → SystemState → (depth : ℕ) → Type 0
   Last zero w system depth = Unit {0}
-  Last (suc n) w system depth = (values : StoredValues) × (storedInRecord (recordAt records (w.next - 2)) ≡ accepted values)
-      × (steps s records k t₀ (double (suc n)) ≡ tracerBehind (recordAt records (w.next - 1)) w.row values w.used w.state w.at system depth)
+  Last (suc n) w system depth = (values : StoredValues) × (stored_in_record (record_at records (w.next - 2)) ≡ accepted values)
+      × (steps s records k t₀ (double (suc n)) ≡ tracer_behind (record_at records (w.next - 1)) w.row values w.used w.state w.at system depth)
 
   -- the calls one by one stand where the walk stands
   pub record Stands (n : ℕ) (w : Walk) (g : List ℕ) : Type 0 where
@@ -152,35 +152,35 @@ module _ (s : Setting) (records : List ℕ) (write : Bool) (k : ℕ) (t₀ : Cor
     pub inside : w.next ≤ length records / 32
     pub kept : (steps s records k t₀ (double n)).refusal ≡ 0
     pub row : (steps s records k t₀ (double n)).row_write_index ≡ w.row
-    pub some-row : 0 < w.row
+    pub some_row : 0 < w.row
     pub state : (steps s records k t₀ (double n)).decoder_state ≡ w.state
     pub at : (steps s records k t₀ (double n)).at ≡ w.at
     pub system : SystemState
-    pub a-system : systemIn (recordAt records (w.next - 1)) ≡ accepted system
-    pub system-built : (steps s records k t₀ (double n)).system_cols ≡ builtSystem system
+    pub a_system : system_in (record_at records (w.next - 1)) ≡ accepted system
+    pub system_built : (steps s records k t₀ (double n)).system_cols ≡ built_system system
     pub depth : ℕ
-    pub a-depth : of32 23 (get_or (recordAt records (w.next - 1)) 24 0) ≡ accepted depth
-    pub stack-built : (steps s records k t₀ (double n)).stack_cols ≡ builtStack (stackIn (recordAt records (w.next - 1)) depth)
+    pub a_depth : of32 23 (get_or (record_at records (w.next - 1)) 24 0) ≡ accepted depth
+    pub stack_built : (steps s records k t₀ (double n)).stack_cols ≡ built_stack (stack_in (record_at records (w.next - 1)) depth)
     pub last : Last n w system depth
-    pub put : g ≡ pick write (stepsWritten s records k t₀ entry (double n)) entry
+    pub put : g ≡ pick write (steps_written s records k t₀ entry (double n)) entry
     pub same_length : length g ≡ length entry
 
   stand-first : (f : Forest) → Sound f → BuiltBefore records k t₀ → Stands zero start entry
-  unfolding steps stepsWritten double Last
+  unfolding steps steps_written double Last
   stand-first f h b = record {
     next = omega arith;
     inside = h.inside;
     kept = b.none_kept;
     row = refl;
-    some-row = b.some-row;
+    some_row = b.some_row;
     state = refl;
     at = refl;
     system = b.system;
-    a-system = b.a-system;
-    system-built = b.system-built;
+    a_system = b.a_system;
+    system_built = b.system_built;
     depth = b.depth;
-    a-depth = b.a-depth;
-    stack-built = b.stack-built;
+    a_depth = b.a_depth;
+    stack_built = b.stack_built;
     last = tt;
     put = pick_same write entry;
     same_length = refl;
@@ -191,50 +191,50 @@ module _ (s : Setting) (records : List ℕ) (write : Bool) (k : ℕ) (t₀ : Cor
     tracer = steps s records k t₀ (double n)
 
     abbrev storing : List ℕ
-    storing = recordAt records w.next
+    storing = record_at records w.next
 
     abbrev finish : List ℕ
-    finish = recordAt records (w.next + 1)
+    finish = record_at records (w.next + 1)
 
     -- what was stored, the registers, and that no check refuses
     record Given : Type 0 where
       values : StoredValues
-      a-stored : storedInRecord storing ≡ accepted values
+      a_stored : stored_in_record storing ≡ accepted values
       registers : OperationHelperRegisters
-      a-registers : registersIn finish ≡ accepted registers
-      makes : made f s.queues s.profile registers values.continuation values.is_loop_body (readCaptured values.captured) (cursor w.state w.at) ≡ accepted o.m
+      a_registers : registers_in finish ≡ accepted registers
+      makes : made f s.queues s.profile registers values.continuation values.is_loop_body (read_captured values.captured) (cursor w.state w.at) ≡ accepted o.m
 
     given : Given
-    unfolding pairMade
+    unfolding pair_made
     given =
-        let (values, e, rest) = then-accepted (storedInRecord storing) _ o.m o.makes in
-        let (registers, e', makes) = then-accepted (registersIn finish) _ o.m rest in
-        record { values = values; a-stored = e; registers = registers; a-registers = e'; makes = makes }
+        let (values, e, rest) = then-accepted (stored_in_record storing) _ o.m o.makes in
+        let (registers, e', makes) = then-accepted (registers_in finish) _ o.m rest in
+        record { values = values; a_stored = e; registers = registers; a_registers = e'; makes = makes }
 
-    in-fragment : fragmentWrong s.cells tracer.row_write_index ≡ false
-    unfolding fragmentWrong
+    in-fragment : fragment_wrong s.cells tracer.row_write_index ≡ false
+    unfolding fragment_wrong
     in-fragment =
-        let (e, rest) = neither (ltb 0 (s.cells % rowWidth)) _ h.whole in
-        let (e', _) = neither (ltb mostRows (s.cells / rowWidth)) _ rest in
-        let inside : w.row ≤ s.cells / rowWidth = omega (arith, o.room, st.same_length, h.cells) in
-        rw (e, e', st.row) (le-ltb (s.cells / rowWidth) w.row inside)
+        let (e, rest) = neither (ltb 0 (s.cells % row_width)) _ h.whole in
+        let (e', _) = neither (ltb most_rows (s.cells / row_width)) _ rest in
+        let inside : w.row ≤ s.cells / row_width = omega (arith, o.room, st.same_length, h.cells) in
+        rw (e, e', st.row) (le-ltb (s.cells / row_width) w.row inside)
 
-    passes : Passes s.scan s.profile (forestOf s (get_or finish 1 0)) s.queues s.cells tracer given.values o.is-pair.depth given.registers o.m
+    passes : Passes s.scan s.profile (forest_of s (get_or finish 1 0)) s.queues s.cells tracer given.values o.is_pair.depth given.registers o.m
     passes = record {
       small = h.small;
-      profile-right = h.profile-right;
-      not-large = h.not-large;
+      profile_right = h.profile_right;
+      not_large = h.not_large;
       whole = in-fragment;
-      deep = o.is-pair.deep;
-      room = lt-leb (s.cells / rowWidth) tracer.row_write_index (omega (arith, o.room, st.same_length, h.cells, st.row));
-      makes = rw (o.is-pair.in-forest, ← h.lent, st.state, st.at) given.makes;
+      deep = o.is_pair.deep;
+      room = lt-leb (s.cells / row_width) tracer.row_write_index (omega (arith, o.room, st.same_length, h.cells, st.row));
+      makes = rw (o.is_pair.in_forest, ← h.lent, st.state, st.at) given.makes;
     }
 
-    a-storing : call_in storing ≡ accepted (stores given.values)
-    a-storing = storing-in storing given.values o.is-pair.a-storing given.a-stored
+    a_storing : call_in storing ≡ accepted (stores given.values)
+    a_storing = storing-in storing given.values o.is_pair.a_storing given.a_stored
 
-    a-finish : call_in finish ≡ accepted (finishes (get_or finish 1 0) o.is-pair.system (stackIn finish o.is-pair.depth) given.registers)
-    a-finish = finish-in finish o.is-pair.system o.is-pair.depth given.registers o.is-pair.a-cycle o.is-pair.a-system o.is-pair.a-depth given.a-registers
+    a-finish : call_in finish ≡ accepted (finishes (get_or finish 1 0) o.is_pair.system (stack_in finish o.is_pair.depth) given.registers)
+    a-finish = finish-in finish o.is_pair.system o.is_pair.depth given.registers o.is_pair.a_cycle o.is_pair.a_system o.is_pair.a_depth given.a_registers
 
     first-at : k + double n ≡ w.next
     first-at = sym st.next
@@ -249,17 +249,17 @@ module _ (s : Setting) (records : List ℕ) (write : Bool) (k : ℕ) (t₀ : Cor
     stored_at = omega (arith, o.next)
 
     -- the tracer behind the pair
-    stands-behind : steps s records k t₀ (double (suc n)) ≡ tracerBehind (recordAt records (w'.next - 1)) w'.row given.values w'.used w'.state w'.at o.is-pair.system o.is-pair.depth
+    stands-behind : steps s records k t₀ (double (suc n)) ≡ tracer_behind (record_at records (w'.next - 1)) w'.row given.values w'.used w'.state w'.at o.is_pair.system o.is_pair.depth
     stands-behind =
         steps-two s records k t₀ n w.next (w.next + 1) first-at second_at
-        ∙ pair-done s tracer storing finish given.values o.is-pair.system o.is-pair.depth given.registers o.m st.kept a-storing a-finish passes
-        ∙ behind-same _ _ _ _ given.values _ _ _ _ _ _ o.is-pair.system o.is-pair.depth (ap (recordAt records) (sym last-at)) (ap (λ x. x + 1) st.row ∙ sym o.row) (sym o.used) (sym o.state) (sym o.at)
+        ∙ pair-done s tracer storing finish given.values o.is_pair.system o.is_pair.depth given.registers o.m st.kept a_storing a-finish passes
+        ∙ behind-same _ _ _ _ given.values _ _ _ _ _ _ o.is_pair.system o.is_pair.depth (ap (record_at records) (sym last-at)) (ap (λ x. x + 1) st.row ∙ sym o.row) (sym o.used) (sym o.state) (sym o.at)
 
-    row_put : stepsWritten s records k t₀ entry (double (suc n)) ≡ putRow (stepsWritten s records k t₀ entry (double n)) w.row (rowCells (builtSystem st.system) o.m.row (builtStack (stackIn (recordAt records (w.next - 1)) st.depth)))
+    row_put : steps_written s records k t₀ entry (double (suc n)) ≡ put_row (steps_written s records k t₀ entry (double n)) w.row (row_cells (built_system st.system) o.m.row (built_stack (stack_in (record_at records (w.next - 1)) st.depth)))
     row_put =
-        let (e, e') = last_built tracer given.values _ _ (omega (arith, st.row, st.some-row)) st.system-built st.stack-built in
+        let (e, e') = last_built_lem tracer given.values _ _ (omega (arith, st.row, st.some_row)) st.system_built st.stack_built in
         written-two s records k t₀ entry n w.next (w.next + 1) first-at second_at
-        ∙ pair-written s tracer storing finish given.values o.is-pair.system o.is-pair.depth given.registers o.m st.kept a-storing a-finish passes (stepsWritten s records k t₀ entry (double n))
+        ∙ pair-written s tracer storing finish given.values o.is_pair.system o.is_pair.depth given.registers o.m st.kept a_storing a-finish passes (steps_written s records k t₀ entry (double n))
         ∙ row_same _ _ _ _ _ o.m.row _ _ st.row e e'
 
     stand-more : Stands (suc n) w' g'
@@ -271,17 +271,17 @@ module _ (s : Setting) (records : List ℕ) (write : Bool) (k : ℕ) (t₀ : Cor
           inside = omega (arith, o.next, o.inside);
           kept = ap (λ (t : CoreTraceGenerationTracer). t.refusal) is;
           row = ap (λ (t : CoreTraceGenerationTracer). t.row_write_index) is;
-          some-row = omega (arith, o.row);
+          some_row = omega (arith, o.row);
           state = ap (λ (t : CoreTraceGenerationTracer). t.decoder_state) is;
           at = ap (λ (t : CoreTraceGenerationTracer). t.at) is;
-          system = o.is-pair.system;
-          a-system = rw last-at o.is-pair.a-system;
-          system-built = ap (λ (t : CoreTraceGenerationTracer). t.system_cols) is;
-          depth = o.is-pair.depth;
-          a-depth = rw last-at o.is-pair.a-depth;
-          stack-built = ap (λ (t : CoreTraceGenerationTracer). t.stack_cols) is;
-          last = (given.values, rw stored_at given.a-stored, is);
-          put = put_step write g g' _ _ entry w.row _ st.put (o.put st.system st.depth st.a-system st.a-depth) o.room row_put;
+          system = o.is_pair.system;
+          a_system = rw last-at o.is_pair.a_system;
+          system_built = ap (λ (t : CoreTraceGenerationTracer). t.system_cols) is;
+          depth = o.is_pair.depth;
+          a_depth = rw last-at o.is_pair.a_depth;
+          stack_built = ap (λ (t : CoreTraceGenerationTracer). t.stack_cols) is;
+          last = (given.values, rw stored_at given.a_stored, is);
+          put = put_step write g g' _ _ entry w.row _ st.put (o.put st.system st.depth st.a_system st.a_depth) o.room row_put;
           same_length = o.same_length ∙ st.same_length;
         }
 
@@ -292,7 +292,7 @@ module _ (s : Setting) (records : List ℕ) (write : Bool) (k : ℕ) (t₀ : Cor
 
   -- nothing is followed
   pub none-followed : k ≤ length records / 32 → Follows s records k t₀ write entry entry (record { next = k; tracer = t₀ })
-  unfolding steps stepsWritten
+  unfolding steps steps_written
   none-followed inside = (0, omega arith, omega (arith, inside), refl, pick_same write entry)
 
   went : (n : ℕ) (w : Walk) (g : List ℕ) (r : CoreTraceGenerationTracer) → Stands n w g → (w.next ≡ k → ⊥) → StandsAt records w r → Follows s records k t₀ write entry g (record { next = w.next; tracer = r })
@@ -300,7 +300,7 @@ module _ (s : Setting) (records : List ℕ) (write : Bool) (k : ℕ) (t₀ : Cor
   went zero w g r st moved at = absurd (moved (omega (arith, st.next)))
   went (suc n) w g r st moved at =
       let (values, e, is) = st.last in
-      (double (suc n), st.next, omega (arith, st.next, st.inside), at values st.system st.depth e st.a-system st.a-depth ∙ sym is, st.put)
+      (double (suc n), st.next, omega (arith, st.next, st.inside), at values st.system st.depth e st.a_system st.a_depth ∙ sym is, st.put)
 
   two-behind : (n : ℕ) (w : Walk) (g : List ℕ) → 0 < k → Stands n w g → (w.next ≡ k → ⊥) → (2 ≤ w.next) × (w.next ≤ length records / 32)
   unfolding double

@@ -4,7 +4,7 @@ use Rattle.std.specs.Prelude.{Bool, List, ℕ, ◌+◌, ◌*◌, ◌/◌, ◌%�
 use Rattle.field.specs.Modulus.{P}
 use Rattle.field.specs.Cells.{read, cell_at}
 use Rattle.groups.specs.Answer.{Answer, accepted, refused, and_then, pick}
-use Rattle.groups.specs.Constants.{addressQueueEmpty, parentQueueEmpty, endQueueEmpty}
+use Rattle.groups.specs.Constants.{address_queue_empty, parent_queue_empty, end_queue_empty}
 use Rattle.rows.specs.declared.records.address_state.DecoderState.{DecoderState}
 use Rattle.rows.specs.declared.records.address_state.Positions.{Positions}
 use Rattle.rows.specs.declared.records.address_state.NodeEndData.{NodeEndData}
@@ -15,8 +15,8 @@ use Rattle.rows.specs.declared.records.address_state.Started.{Started}
 use Rattle.rows.specs.declared.records.address_state.Ended.{Ended}
 
 -- an address state as it comes in (N2)
-unfoldable pub readState : DecoderState → DecoderState
-readState state = record { current_addr = read state.current_addr; parent_addr = read state.parent_addr }
+unfoldable pub read_state : DecoderState → DecoderState
+read_state state = record { current_addr = read state.current_addr; parent_addr = read state.parent_addr }
 
 -- the three lent queues
 pub record Queues : Type 0 where
@@ -32,15 +32,15 @@ unfoldable pub entry_at : (refusal : ℕ) → (queue : List ℕ) → ℕ → Ans
 entry_at refusal queue at = pick (ltb at (length queue)) (accepted (cell_at queue at)) (refused refusal)
 
 -- "20, 21 (current and parent address from their queues)"
-unfoldable pub startedAt : (addresses parents : List ℕ) → Positions → Answer DecoderState
-startedAt addresses parents at =
-    and_then (entry_at addressQueueEmpty addresses at.addresses) (λ current.
-    and_then (entry_at parentQueueEmpty parents at.parents) (λ parent.
+unfoldable pub started_at : (addresses parents : List ℕ) → Positions → Answer DecoderState
+started_at addresses parents at =
+    and_then (entry_at address_queue_empty addresses at.addresses) (λ current.
+    and_then (entry_at parent_queue_empty parents at.parents) (λ parent.
     accepted (record { current_addr = current; parent_addr = parent })))
 
 -- the positions after a start
-abbrev pub afterStart : Positions → Positions
-afterStart at = record { addresses = at.addresses + 1; parents = at.parents + 1; ends = at.ends }
+abbrev pub after_start : Positions → Positions
+after_start at = record { addresses = at.addresses + 1; parents = at.parents + 1; ends = at.ends }
 
 -- Refusal 22: "end queue empty"; an entry is the address that ends, and the current and parent address after it
 unfoldable pub end_at : (ends : List ℕ) → ℕ → Answer NodeEndData
@@ -51,43 +51,43 @@ end_at ends at =
       prev_addr = cell_at ends (3 * at + 1);
       prev_parent_addr = cell_at ends (3 * at + 2);
     }))
-    (refused endQueueEmpty)
+    (refused end_queue_empty)
 
 -- "The queue's entry then sets current and parent address."
-abbrev pub stateAfterEnd : NodeEndData → DecoderState
-stateAfterEnd entry = record { current_addr = entry.prev_addr; parent_addr = entry.prev_parent_addr }
+abbrev pub state_after_end : NodeEndData → DecoderState
+state_after_end entry = record { current_addr = entry.prev_addr; parent_addr = entry.prev_parent_addr }
 
 -- the positions after an END
 abbrev pub after_end : Positions → Positions
 after_end at = record { addresses = at.addresses; parents = at.parents; ends = at.ends + 1 }
 
 -- "RESPAN: current address, which then grows by the step modulo p"
-unfoldable pub respanStep : (step : ℕ) → DecoderState → DecoderState
-respanStep step state =
+unfoldable pub respan_step : (step : ℕ) → DecoderState → DecoderState
+respan_step step state =
     record { current_addr = (state.current_addr + step) % P; parent_addr = state.parent_addr }
 
 -- the number and the values of each case: "20 address, 21 parent, 22 end queue empty"
-abbrev pub toldAddress : AddressFound → Answer ℕ
-toldAddress (AddressFound.At address) = accepted address
-toldAddress AddressFound.Missing = refused addressQueueEmpty
+abbrev pub told_address : AddressFound → Answer ℕ
+told_address (AddressFound.At address) = accepted address
+told_address AddressFound.Missing = refused address_queue_empty
 
-abbrev pub toldParent : ParentFound → Answer ℕ
-toldParent (ParentFound.At address) = accepted address
-toldParent ParentFound.Missing = refused parentQueueEmpty
+abbrev pub told_parent : ParentFound → Answer ℕ
+told_parent (ParentFound.At address) = accepted address
+told_parent ParentFound.Missing = refused parent_queue_empty
 
-abbrev pub toldEnd : EndFound → Answer NodeEndData
-toldEnd (EndFound.At entry) = accepted entry
-toldEnd EndFound.Missing = refused endQueueEmpty
+abbrev pub told_end : EndFound → Answer NodeEndData
+told_end (EndFound.At entry) = accepted entry
+told_end EndFound.Missing = refused end_queue_empty
 
 -- of a start: the positions after it
-abbrev pub toldStarted : Started → Answer Positions
-toldStarted (Started.Moved next) = accepted next
-toldStarted (Started.Refused n) = refused n
+abbrev pub told_started : Started → Answer Positions
+told_started (Started.Moved next) = accepted next
+told_started (Started.Refused n) = refused n
 
 -- of an END: the address that ended, and the positions after it
-abbrev pub toldEnded : Ended → Answer (ℕ × Positions)
-toldEnded (Ended.Moved addr next) = accepted (addr, next)
-toldEnded (Ended.Refused n) = refused n
+abbrev pub told_ended : Ended → Answer (ℕ × Positions)
+told_ended (Ended.Moved addr next) = accepted (addr, next)
+told_ended (Ended.Refused n) = refused n
 
 -- the state after a step: where it leads, and as it was on a refusal
 abbrev pub moved_to : Answer DecoderState → DecoderState → DecoderState
@@ -95,19 +95,19 @@ moved_to (accepted moved) state = moved
 moved_to (refused n) state = state
 
 -- a start answers 20, 21, or the positions after it
-unfoldable pub startAnswer : (addresses parents : List ℕ) → Positions → Answer Positions
-startAnswer addresses parents at = and_then (startedAt addresses parents at) (λ _. accepted (afterStart at))
+unfoldable pub start_answer : (addresses parents : List ℕ) → Positions → Answer Positions
+start_answer addresses parents at = and_then (started_at addresses parents at) (λ _. accepted (after_start at))
 
 -- the state after a start
-unfoldable pub startState : (addresses parents : List ℕ) → Positions → DecoderState → DecoderState
-startState addresses parents at state = moved_to (startedAt addresses parents at) state
+unfoldable pub start_state : (addresses parents : List ℕ) → Positions → DecoderState → DecoderState
+start_state addresses parents at state = moved_to (started_at addresses parents at) state
 
 -- an END answers 22, or the address that ended and the positions after it
-unfoldable pub endAnswer : (ends : List ℕ) → Positions → Answer (ℕ × Positions)
-endAnswer ends at =
+unfoldable pub end_answer : (ends : List ℕ) → Positions → Answer (ℕ × Positions)
+end_answer ends at =
     and_then (end_at ends at.ends) (λ entry. accepted (entry.ended_node_addr, after_end at))
 
 -- the state after an END
-unfoldable pub endState : (ends : List ℕ) → Positions → DecoderState → DecoderState
-endState ends at state =
-    moved_to (and_then (end_at ends at.ends) (λ entry. accepted (stateAfterEnd entry))) state
+unfoldable pub end_state : (ends : List ℕ) → Positions → DecoderState → DecoderState
+end_state ends at state =
+    moved_to (and_then (end_at ends at.ends) (λ entry. accepted (state_after_end entry))) state

@@ -8,12 +8,12 @@ use Rattle.rows.specs.declared.records.decoder_row.DecoderRow.{DecoderRow}
 use Rattle.rows.specs.declared.records.decoder_row.EndBlockFlags.{EndBlockFlags}
 use Rattle.rows.specs.declared.records.decoder_row.EndBlockStackEntryKind.{EndBlockStackEntryKind}
 
-abbrev pub zeroWord : Word
-zeroWord = (0, 0, 0, 0)
+abbrev pub zero_word : Word
+zero_word = (0, 0, 0, 0)
 
 -- a start, REPEAT or END row: its address and h0 to h7
-unfoldable pub controlFlow : (opcode : ℕ) → (first second : Word) → (addr : ℕ) → DecoderRow
-controlFlow opcode first second addr = record {
+unfoldable pub control_flow : (opcode : ℕ) → (first second : Word) → (addr : ℕ) → DecoderRow
+control_flow opcode first second addr = record {
   addr = addr;
   opcode = opcode;
   hasher_state_first_word = first;
@@ -25,8 +25,8 @@ controlFlow opcode first second addr = record {
 }
 
 -- SPAN and RESPAN: "eight groups in h, count and batch flags"
-unfoldable pub basicBlockBatch : (opcode : ℕ) → OpBatch → (addr count : ℕ) → BatchFlags → DecoderRow
-basicBlockBatch opcode batch addr count flags = record {
+unfoldable pub basic_block_batch : (opcode : ℕ) → OpBatch → (addr count : ℕ) → BatchFlags → DecoderRow
+basic_block_batch opcode batch addr count flags = record {
   addr = addr;
   opcode = opcode;
   hasher_state_first_word = batch.low;
@@ -56,17 +56,17 @@ bit true = 1
 bit false = 0
 
 -- END: "then loop-body flag, is-loop, restores-caller, 0"
-abbrev pub flagWord : (isLoopBody : Bool) → EndBlockStackEntryKind → Word
-flagWord isLoopBody EndBlockStackEntryKind.Continuation = (bit isLoopBody, 0, 0, 0)
-flagWord isLoopBody EndBlockStackEntryKind.LoopContinuation = (bit isLoopBody, 1, 0, 0)
-flagWord isLoopBody EndBlockStackEntryKind.CallerFrame = (bit isLoopBody, 0, 1, 0)
+abbrev pub flag_word : (is_loop_body : Bool) → EndBlockStackEntryKind → Word
+flag_word is_loop_body EndBlockStackEntryKind.Continuation = (bit is_loop_body, 0, 0, 0)
+flag_word is_loop_body EndBlockStackEntryKind.LoopContinuation = (bit is_loop_body, 1, 0, 0)
+flag_word is_loop_body EndBlockStackEntryKind.CallerFrame = (bit is_loop_body, 0, 1, 0)
 
 unfoldable pub end_word : EndBlockFlags → Word
-end_word flags = flagWord flags.is_loop_body flags.entry_kind
+end_word flags = flag_word flags.is_loop_body flags.entry_kind
 
 -- "op bits (7, lowest first)"
-abbrev pub opBits : ℕ → List ℕ
-opBits op = op % 2 ∷ op / 2 % 2 ∷ op / 4 % 2 ∷ op / 8 % 2 ∷ op / 16 % 2 ∷ op / 32 % 2 ∷ op / 64 % 2 ∷ []
+abbrev pub op_bits : ℕ → List ℕ
+op_bits op = op % 2 ∷ op / 2 % 2 ∷ op / 4 % 2 ∷ op / 8 % 2 ∷ op / 16 % 2 ∷ op / 32 % 2 ∷ op / 64 % 2 ∷ []
 
 -- "extra 0 = bit6 × (1 − bit5) × bit4; extra 1 = bit6 × bit5"
 abbrev pub extra0 : ℕ → ℕ
@@ -75,13 +75,13 @@ extra0 op = op / 64 % 2 * (1 - op / 32 % 2) * (op / 16 % 2)
 abbrev pub extra1 : ℕ → ℕ
 extra1 op = op / 64 % 2 * (op / 32 % 2)
 
-abbrev pub wordCells : Word → List ℕ
-wordCells w = w.0 ∷ w.1 ∷ w.2 ∷ w.3 ∷ []
+abbrev pub word_cells : Word → List ℕ
+word_cells w = w.0 ∷ w.1 ∷ w.2 ∷ w.3 ∷ []
 
 -- "addr, op bits (7, lowest first), h0 to h7, in_span, group_count, op_index, batch flags (3), extra (2)"
-unfoldable pub decoderCells : DecoderRow → List ℕ
-decoderCells d =
-    (d.addr ∷ opBits d.opcode) ++ wordCells d.hasher_state_first_word ++ wordCells d.hasher_state_second_word
+unfoldable pub decoder_cells : DecoderRow → List ℕ
+decoder_cells d =
+    (d.addr ∷ op_bits d.opcode) ++ word_cells d.hasher_state_first_word ++ word_cells d.hasher_state_second_word
     ++ (d.in_basic_block ∷ d.group_count ∷ d.op_index
     ∷ d.op_batch_flags.0 ∷ d.op_batch_flags.1 ∷ d.op_batch_flags.2
     ∷ extra0 d.opcode ∷ extra1 d.opcode ∷ [])

@@ -3,8 +3,8 @@
 -- 5 Loop, 6 Call, 7 Syscall, 8 Dyn, 9 Dyncall, 10 External; 0 and every other number: absent.
 use Rattle.std.specs.Prelude.{Bool, ◌&&◌, List, ℕ, ◌+◌, ◌*◌, leb, ltb, eqb, length, get_or}
 use Rattle.groups.specs.Answer.{Answer, accepted, refused, pick}
-use Rattle.groups.specs.Constants.{noSuchNode, wrongNodeKind, noSuchOperation}
-use Rattle.groups.specs.Words.{wordAt}
+use Rattle.groups.specs.Constants.{no_such_node, wrong_node_kind, no_such_operation}
+use Rattle.groups.specs.Words.{word_at}
 use Rattle.groups.specs.declared.word.Word.{Word}
 use Rattle.groups.specs.declared.batch.BasicBlockNode.{BasicBlockNode}
 use Rattle.groups.specs.declared.batch.OpBatch.{OpBatch}
@@ -29,83 +29,83 @@ forest nodes digests batches groups ops =
     record { nodes = nodes; digests = digests; batches = batches; groups = groups; ops = ops }
 
 -- the slot's numbers and cells lie whole in the slices
-unfoldable pub isSlot : (nodes digests : List ℕ) → ℕ → Bool
-isSlot nodes digests id = leb (6 * id + 6) (length nodes) && leb (4 * id + 4) (length digests)
+unfoldable pub is_slot : (nodes digests : List ℕ) → ℕ → Bool
+is_slot nodes digests id = leb (6 * id + 6) (length nodes) && leb (4 * id + 4) (length digests)
 
-abbrev pub nodeId : ℕ → MastNodeId
-nodeId n = record { 0 = n }
+abbrev pub node_id : ℕ → MastNodeId
+node_id n = record { 0 = n }
 
-abbrev pub nodeEntry : MastNode → Word → Answer NodeEntry
-nodeEntry node digest = accepted (record { node = node; digest = digest })
+abbrev pub node_entry : MastNode → Word → Answer NodeEntry
+node_entry node digest = accepted (record { node = node; digest = digest })
 
 -- Refusal 3: "no such node"; a slot that has its digest alone is none
 unfoldable pub node_of : (kind first second : ℕ) → BasicBlockNode → Word → Answer NodeEntry
 node_of kind first second block digest =
-    pick (eqb kind 2) (nodeEntry (MastNode.Block block) digest)
-    (pick (eqb kind 3) (nodeEntry (MastNode.Join (nodeId first) (nodeId second)) digest)
-    (pick (eqb kind 4) (nodeEntry (MastNode.Split (nodeId first) (nodeId second)) digest)
-    (pick (eqb kind 5) (nodeEntry (MastNode.Loop (nodeId first)) digest)
-    (pick (eqb kind 6) (nodeEntry (MastNode.Call (nodeId first)) digest)
-    (pick (eqb kind 7) (nodeEntry (MastNode.Syscall (nodeId first)) digest)
-    (pick (eqb kind 8) (nodeEntry MastNode.Dyn digest)
-    (pick (eqb kind 9) (nodeEntry MastNode.Dyncall digest)
-    (pick (eqb kind 10) (nodeEntry MastNode.External digest)
-    (refused noSuchNode)))))))))
+    pick (eqb kind 2) (node_entry (MastNode.Block block) digest)
+    (pick (eqb kind 3) (node_entry (MastNode.Join (node_id first) (node_id second)) digest)
+    (pick (eqb kind 4) (node_entry (MastNode.Split (node_id first) (node_id second)) digest)
+    (pick (eqb kind 5) (node_entry (MastNode.Loop (node_id first)) digest)
+    (pick (eqb kind 6) (node_entry (MastNode.Call (node_id first)) digest)
+    (pick (eqb kind 7) (node_entry (MastNode.Syscall (node_id first)) digest)
+    (pick (eqb kind 8) (node_entry MastNode.Dyn digest)
+    (pick (eqb kind 9) (node_entry MastNode.Dyncall digest)
+    (pick (eqb kind 10) (node_entry MastNode.External digest)
+    (refused no_such_node)))))))))
 
 -- the block of slot id, where it is one
-abbrev pub slotBlock : (nodes : List ℕ) → ℕ → BasicBlockNode
-slotBlock nodes id = record {
+abbrev pub slot_block : (nodes : List ℕ) → ℕ → BasicBlockNode
+slot_block nodes id = record {
   total = get_or nodes (6 * id + 3) 0;
   first_batch = get_or nodes (6 * id + 4) 0;
   batches = get_or nodes (6 * id + 5) 0;
 }
 
 -- the node of an id and its digest
-unfoldable pub nodeAt : (nodes digests : List ℕ) → ℕ → Answer NodeEntry
-nodeAt nodes digests id =
-    pick (isSlot nodes digests id)
-    (node_of (get_or nodes (6 * id) 0) (get_or nodes (6 * id + 1) 0) (get_or nodes (6 * id + 2) 0) (slotBlock nodes id) (wordAt digests (4 * id)))
-    (refused noSuchNode)
+unfoldable pub node_at : (nodes digests : List ℕ) → ℕ → Answer NodeEntry
+node_at nodes digests id =
+    pick (is_slot nodes digests id)
+    (node_of (get_or nodes (6 * id) 0) (get_or nodes (6 * id + 1) 0) (get_or nodes (6 * id + 2) 0) (slot_block nodes id) (word_at digests (4 * id)))
+    (refused no_such_node)
 
 -- the digest of an id: a slot with its digest alone has one too
-unfoldable pub digestAt : (nodes digests : List ℕ) → ℕ → Answer Word
-digestAt nodes digests id =
-    pick (isSlot nodes digests id && (ltb 0 (get_or nodes (6 * id) 0) && leb (get_or nodes (6 * id) 0) 10))
-    (accepted (wordAt digests (4 * id)))
-    (refused noSuchNode)
+unfoldable pub digest_at : (nodes digests : List ℕ) → ℕ → Answer Word
+digest_at nodes digests id =
+    pick (is_slot nodes digests id && (ltb 0 (get_or nodes (6 * id) 0) && leb (get_or nodes (6 * id) 0) 10))
+    (accepted (word_at digests (4 * id)))
+    (refused no_such_node)
 
 -- Refusal 6: "operation past the batch's"; operations past the slice are past the batch's
-unfoldable pub opcodeAt : (ops : List ℕ) → OpBatch → ℕ → Answer ℕ
-opcodeAt ops batch op =
+unfoldable pub opcode_at : (ops : List ℕ) → OpBatch → ℕ → Answer ℕ
+opcode_at ops batch op =
     pick (ltb op batch.num_ops && ltb (batch.first_op + op) (length ops))
     (accepted (get_or ops (batch.first_op + op) 0))
-    (refused noSuchOperation)
+    (refused no_such_operation)
 
 -- Refusal 4: "wrong node kind"
 unfoldable pub block_of : MastNode → Answer BasicBlockNode
 block_of (MastNode.Block block) = accepted block
-block_of (MastNode.Join a b) = refused wrongNodeKind
-block_of (MastNode.Split a b) = refused wrongNodeKind
-block_of (MastNode.Loop a) = refused wrongNodeKind
-block_of (MastNode.Call a) = refused wrongNodeKind
-block_of (MastNode.Syscall a) = refused wrongNodeKind
-block_of MastNode.Dyn = refused wrongNodeKind
-block_of MastNode.Dyncall = refused wrongNodeKind
-block_of MastNode.External = refused wrongNodeKind
+block_of (MastNode.Join a b) = refused wrong_node_kind
+block_of (MastNode.Split a b) = refused wrong_node_kind
+block_of (MastNode.Loop a) = refused wrong_node_kind
+block_of (MastNode.Call a) = refused wrong_node_kind
+block_of (MastNode.Syscall a) = refused wrong_node_kind
+block_of MastNode.Dyn = refused wrong_node_kind
+block_of MastNode.Dyncall = refused wrong_node_kind
+block_of MastNode.External = refused wrong_node_kind
 
 -- the number and the values of each look-up's cases
-abbrev pub toldNode : NodeFound → Answer NodeEntry
-toldNode (NodeFound.At entry) = accepted entry
-toldNode NodeFound.Missing = refused noSuchNode
+abbrev pub told_node : NodeFound → Answer NodeEntry
+told_node (NodeFound.At entry) = accepted entry
+told_node NodeFound.Missing = refused no_such_node
 
-abbrev pub toldDigest : DigestFound → Answer Word
-toldDigest (DigestFound.Is digest) = accepted digest
-toldDigest DigestFound.Missing = refused noSuchNode
+abbrev pub told_digest : DigestFound → Answer Word
+told_digest (DigestFound.Is digest) = accepted digest
+told_digest DigestFound.Missing = refused no_such_node
 
-abbrev pub toldOpcode : OpcodeFound → Answer ℕ
-toldOpcode (OpcodeFound.Is opcode) = accepted opcode
-toldOpcode OpcodeFound.Missing = refused noSuchOperation
+abbrev pub told_opcode : OpcodeFound → Answer ℕ
+told_opcode (OpcodeFound.Is opcode) = accepted opcode
+told_opcode OpcodeFound.Missing = refused no_such_operation
 
-abbrev pub toldBlock : BlockFound → Answer BasicBlockNode
-toldBlock (BlockFound.Is block) = accepted block
-toldBlock BlockFound.Other = refused wrongNodeKind
+abbrev pub told_block : BlockFound → Answer BasicBlockNode
+told_block (BlockFound.Is block) = accepted block
+told_block BlockFound.Other = refused wrong_node_kind

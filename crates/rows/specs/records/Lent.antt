@@ -10,10 +10,10 @@ abbrev pub Slice : Type 0
 Slice = Both (Bor (List ℕ)) (Bor (List ℕ))
 
 -- the forest that a function is lent
-abbrev pub lentForest : (nodes digests batches groups ops : Slice) → Forest
-lentForest nodes digests batches groups ops =
+abbrev pub lent_forest : (nodes digests batches groups ops : Slice) → Forest
+lent_forest nodes digests batches groups ops =
     forest nodes.entry.now digests.entry.now batches.entry.now groups.entry.now ops.entry.now
 
 -- the queues that a function is lent
-abbrev pub lentQueues : (addresses parents ends : Slice) → Queues
-lentQueues addresses parents ends = queues addresses.entry.now parents.entry.now ends.entry.now
+abbrev pub lent_queues : (addresses parents ends : Slice) → Queues
+lent_queues addresses parents ends = queues addresses.entry.now parents.entry.now ends.entry.now

@@ -11,20 +11,20 @@ opcodes p =
     ∷ p.push ∷ p.end ∷ p.halt ∷ []
 
 -- x is one of the numbers
-unfoldable pub isOneOf : ℕ → List ℕ → Bool
-isOneOf x [] = false
-isOneOf x (y ∷ ys) = eqb x y || isOneOf x ys
+unfoldable pub is_one_of : ℕ → List ℕ → Bool
+is_one_of x [] = false
+is_one_of x (y ∷ ys) = eqb x y || is_one_of x ys
 
 -- "two equal"
-unfoldable pub twoEqual : List ℕ → Bool
-twoEqual [] = false
-twoEqual (x ∷ xs) = isOneOf x xs || twoEqual xs
+unfoldable pub two_equal : List ℕ → Bool
+two_equal [] = false
+two_equal (x ∷ xs) = is_one_of x xs || two_equal xs
 
 -- "HALT without bits 5 and 6": it lacks one of them
-unfoldable pub lacksBits : ℕ → Bool
-lacksBits halt = not (eqb (halt / 32 % 2) 1 && eqb (halt / 64 % 2) 1)
+unfoldable pub lacks_bits : ℕ → Bool
+lacks_bits halt = not (eqb (halt / 32 % 2) 1 && eqb (halt / 64 % 2) 1)
 
 -- Refusal 2: "profile: opcode ≥ 128, two equal, HALT without bits 5 and 6, step 0 or ≥ p"
-unfoldable pub profileWrong : Profile → Bool
-profileWrong p =
-    any_from 128 (opcodes p) || (twoEqual (opcodes p) || (lacksBits p.halt || (eqb p.step 0 || leb P p.step)))
+unfoldable pub profile_wrong : Profile → Bool
+profile_wrong p =
+    any_from 128 (opcodes p) || (two_equal (opcodes p) || (lacks_bits p.halt || (eqb p.step 0 || leb P p.step)))

@@ -1,7 +1,7 @@
 -- Replay: several forests in the lent slices, and the calls of all records one after another.
 use Rattle.std.specs.Prelude.{List, ℕ, zero, suc, ◌+◌, ◌*◌, ◌/◌, ◌%◌, ltb, eqb, length, take, drop, get_or}
 use Rattle.groups.specs.Answer.{Answer, accepted, refused, pick}
-use Rattle.groups.specs.Constants.{badLength}
+use Rattle.groups.specs.Constants.{bad_length}
 use Rattle.rows.specs.declared.records.profile.Profile.{Profile}
 use Rattle.rows.specs.declared.records.address_state.DecoderState.{DecoderState}
 use Rattle.rows.specs.declared.records.address_state.Positions.{Positions}
@@ -11,16 +11,16 @@ use Rattle.rows.specs.declared.replay.directory.DirectoryEntry.{DirectoryEntry}
 use Rattle.rows.specs.declared.replay.calls.Replayed.{Replayed}
 use Rattle.rows.specs.records.Forests.{Forest, forest}
 use Rattle.rows.specs.records.Addresses.{Queues}
-use Rattle.rows.specs.records.Lent.{Slice, lentForest, lentQueues}
-use Rattle.rows.specs.records.CallRecords.{RecordedCall, stores, finishes, call_in, recordAt}
-use Rattle.rows.specs.cycles.Scans.{scanOf}
-use Rattle.rows.specs.cycles.Cycles.{fresh, storedIn, cycleWith, keeping, tracerAfter, fragmentAfter, finalState, forPasses}
+use Rattle.rows.specs.records.Lent.{Slice, lent_forest, lent_queues}
+use Rattle.rows.specs.records.CallRecords.{RecordedCall, stores, finishes, call_in, record_at}
+use Rattle.rows.specs.cycles.Scans.{scan_of}
+use Rattle.rows.specs.cycles.Cycles.{fresh, stored_in, cycle_with, keeping, tracer_after, fragment_after, final_state, for_passes}
 
 -- SEVERAL FORESTS
 
 -- where a forest lies, by the six numbers of the directory; a number that is not in it has no slot: "no such node"
-unfoldable pub directoryEntry : (directory : List ℕ) → ℕ → DirectoryEntry
-directoryEntry directory k =
+unfoldable pub directory_entry : (directory : List ℕ) → ℕ → DirectoryEntry
+directory_entry directory k =
     pick (ltb k (length directory / 6))
     (record {
       first_slot = get_or directory (6 * k) 0;
@@ -37,8 +37,8 @@ unfoldable pub window : (width first count : ℕ) → List ℕ → List ℕ
 window width first count xs = take (width * count) (drop (width * first) xs)
 
 -- the forest that lies there
-unfoldable pub forestIn : Forest → DirectoryEntry → Forest
-forestIn f w =
+unfoldable pub forest_in : Forest → DirectoryEntry → Forest
+forest_in f w =
     forest
     (window 6 w.first_slot w.slots f.nodes)
     (window 4 w.first_slot w.slots f.digests)
@@ -62,74 +62,74 @@ setting scan profile forests directory queues cells =
     record { scan = scan; profile = profile; forests = forests; directory = directory; queues = queues; cells = cells }
 
 -- the setting of a function that is lent its slices
-abbrev pub lentSetting : Scan → Profile → (nodes digests batches groups ops directory addresses parents ends fragment : Slice) → Setting
-lentSetting scan profile nodes digests batches groups ops directory addresses parents ends fragment =
-    setting scan profile (lentForest nodes digests batches groups ops) directory.entry.now (lentQueues addresses parents ends) (length fragment.entry.now)
+abbrev pub lent_setting : Scan → Profile → (nodes digests batches groups ops directory addresses parents ends fragment : Slice) → Setting
+lent_setting scan profile nodes digests batches groups ops directory addresses parents ends fragment =
+    setting scan profile (lent_forest nodes digests batches groups ops) directory.entry.now (lent_queues addresses parents ends) (length fragment.entry.now)
 
 -- the forest of a number
-unfoldable pub forestOf : Setting → ℕ → Forest
-forestOf s k = forestIn s.forests (directoryEntry s.directory k)
+unfoldable pub forest_of : Setting → ℕ → Forest
+forest_of s k = forest_in s.forests (directory_entry s.directory k)
 
 -- a record that encodes nothing is refused like a call
 unfoldable pub refusing : ℕ → CoreTraceGenerationTracer → CoreTraceGenerationTracer
 refusing n t = pick (eqb t.refusal 0) (keeping n t) t
 
 -- the tracer after a call
-unfoldable pub callDone : Setting → CoreTraceGenerationTracer → Answer RecordedCall → CoreTraceGenerationTracer
-callDone s t (refused n) = refusing n t
-callDone s t (accepted (stores values)) = storedIn t values
-callDone s t (accepted (finishes k system stack registers)) =
-    tracerAfter system stack t (cycleWith s.scan s.profile (forestOf s k) s.queues stack registers s.cells t)
+unfoldable pub call_done : Setting → CoreTraceGenerationTracer → Answer RecordedCall → CoreTraceGenerationTracer
+call_done s t (refused n) = refusing n t
+call_done s t (accepted (stores values)) = stored_in t values
+call_done s t (accepted (finishes k system stack registers)) =
+    tracer_after system stack t (cycle_with s.scan s.profile (forest_of s k) s.queues stack registers s.cells t)
 
 -- the fragment after a call
-unfoldable pub callWritten : Setting → CoreTraceGenerationTracer → Answer RecordedCall → List ℕ → List ℕ
-callWritten s t (refused n) fragment = fragment
-callWritten s t (accepted (stores values)) fragment = fragment
-callWritten s t (accepted (finishes k system stack registers)) fragment =
-    fragmentAfter fragment t (cycleWith s.scan s.profile (forestOf s k) s.queues stack registers s.cells t)
+unfoldable pub call_written : Setting → CoreTraceGenerationTracer → Answer RecordedCall → List ℕ → List ℕ
+call_written s t (refused n) fragment = fragment
+call_written s t (accepted (stores values)) fragment = fragment
+call_written s t (accepted (finishes k system stack registers)) fragment =
+    fragment_after fragment t (cycle_with s.scan s.profile (forest_of s k) s.queues stack registers s.cells t)
 
 -- ALL CALLS
 
 -- the tracer after the first n records
 unfoldable pub through : Setting → (records : List ℕ) → CoreTraceGenerationTracer → (n : ℕ) → CoreTraceGenerationTracer
 through s records t zero = t
-through s records t (suc k) = callDone s (through s records t k) (call_in (recordAt records k))
+through s records t (suc k) = call_done s (through s records t k) (call_in (record_at records k))
 
 -- the fragment after the first n records
 unfoldable pub written : Setting → (records : List ℕ) → CoreTraceGenerationTracer → List ℕ → (n : ℕ) → List ℕ
 written s records t fragment zero = fragment
 written s records t fragment (suc k) =
-    callWritten s (through s records t k) (call_in (recordAt records k)) (written s records t fragment k)
+    call_written s (through s records t k) (call_in (record_at records k)) (written s records t fragment k)
 
 -- a part of a record at the end: "lengths" (11)
 unfoldable pub ending : (numbers : ℕ) → CoreTraceGenerationTracer → CoreTraceGenerationTracer
-ending numbers t = pick (eqb (numbers % 32) 0) t (refusing badLength t)
+ending numbers t = pick (eqb (numbers % 32) 0) t (refusing bad_length t)
 
 -- "address state and queues continuing"; "Each returns its number, other answers 0"
-unfoldable pub nextState : CoreTraceGenerationTracer → DecoderState
-nextState t = pick (eqb t.refusal 0) t.decoder_state (record { current_addr = 0; parent_addr = 0 })
+unfoldable pub next_state : CoreTraceGenerationTracer → DecoderState
+next_state t = pick (eqb t.refusal 0) t.decoder_state (record { current_addr = 0; parent_addr = 0 })
 
-unfoldable pub nextPositions : CoreTraceGenerationTracer → Positions
-nextPositions t = pick (eqb t.refusal 0) t.at (record { addresses = 0; parents = 0; ends = 0 })
+unfoldable pub next_positions : CoreTraceGenerationTracer → Positions
+next_positions t = pick (eqb t.refusal 0) t.at (record { addresses = 0; parents = 0; ends = 0 })
 
 -- what is answered: the final state, and what the next fragment goes on from
 unfoldable pub told : CoreTraceGenerationTracer → Replayed
 told t = record {
-  refusal = (finalState t).refusal;
-  rows = (forPasses (finalState t)).count;
-  built = (forPasses (finalState t)).built;
-  state = nextState t;
-  at = nextPositions t;
+  refusal = (final_state t).refusal;
+  rows = (for_passes (final_state t)).count;
+  built = (for_passes (final_state t)).built;
+  state = next_state t;
+  at = next_positions t;
 }
 
 -- all forests are scanned, also those that no record names: "used or not"
 unfoldable pub scanned : Profile → Forest → (directory : List ℕ) → Queues → (cells : ℕ) → Setting
-scanned p f directory q cells = setting (scanOf p f.nodes f.batches f.ops) p f directory q cells
+scanned p f directory q cells = setting (scan_of p f.nodes f.batches f.ops) p f directory q cells
 
 -- of a function that is lent its slices
-abbrev pub lentScanned : Profile → (nodes digests batches groups ops directory addresses parents ends fragment : Slice) → Setting
-lentScanned profile nodes digests batches groups ops directory addresses parents ends fragment =
-    scanned profile (lentForest nodes digests batches groups ops) directory.entry.now (lentQueues addresses parents ends) (length fragment.entry.now)
+abbrev pub lent_scanned : Profile → (nodes digests batches groups ops directory addresses parents ends fragment : Slice) → Setting
+lent_scanned profile nodes digests batches groups ops directory addresses parents ends fragment =
+    scanned profile (lent_forest nodes digests batches groups ops) directory.entry.now (lent_queues addresses parents ends) (length fragment.entry.now)
 
 -- "each fragment takes a fresh tracer (nothing stored, no refusal, no row) and ends with its final state, address state and queues
 -- continuing"
@@ -137,8 +137,8 @@ unfoldable pub replayed : Setting → DecoderState → Positions → (records : 
 replayed s state at records = told (ending (length records) (through s records (fresh state at) (length records / 32)))
 
 -- a replay refuses whole: the fragment is as it was
-unfoldable pub replayedFragment : Setting → DecoderState → Positions → (records fragment : List ℕ) → List ℕ
-replayedFragment s state at records fragment =
+unfoldable pub replayed_fragment : Setting → DecoderState → Positions → (records fragment : List ℕ) → List ℕ
+replayed_fragment s state at records fragment =
     pick (eqb (replayed s state at records).refusal 0)
     (written s records (fresh state at) fragment (length records / 32))
     fragment

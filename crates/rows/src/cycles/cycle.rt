@@ -1,12 +1,12 @@
 // One cycle: the stored continuation becomes one row of the lent fragment, or a refusal is kept.
 ghost use Rattle.std.specs.Prelude.{◌≡◌, ◌+◌, ◌/◌, ◌<◌, length};
 ghost use Rattle.groups.specs.Answer.{refusal, accepted, pick};
-ghost use Rattle.groups.specs.Constants.{rowWidth};
-ghost use Rattle.rows.specs.records.Lent.{lentForest, lentQueues};
-ghost use Rattle.rows.specs.cycles.Made.{toldMade};
-ghost use Rattle.rows.specs.records.Cells.{rowCells, putRow};
-ghost use Rattle.rows.specs.cycles.Cycles.{cycleWith, leftAfter, keeping, tracerAfter, followingOf, lastSystem, lastStack, fragmentAfter};
-ghost use Rattle.rows.specs.cycles.LentTally.{talliedCycle, tallyAfter};
+ghost use Rattle.groups.specs.Constants.{row_width};
+ghost use Rattle.rows.specs.records.Lent.{lent_forest, lent_queues};
+ghost use Rattle.rows.specs.cycles.Made.{told_made};
+ghost use Rattle.rows.specs.records.Cells.{row_cells, put_row};
+ghost use Rattle.rows.specs.cycles.Cycles.{cycle_with, left_after, keeping, tracer_after, following_of, last_system, last_stack, fragment_after};
+ghost use Rattle.rows.specs.cycles.LentTally.{tallied_cycle, tally_after};
 ghost use Rattle.rows.specs.ways.Inner.{HasRoom, InLimits};
 
 use crate::cycles::made::{Made, MadeRow, make};
@@ -32,7 +32,7 @@ pub struct Finished {
 
 // What is left of the captured values.
 pub(crate) fn left_after(used: Used, captured: Captured) -> Captured
-    ensures { result ≡ leftAfter used captured }
+    ensures { result ≡ left_after used captured }
 {
     let condition = captured.finish_loop_condition;
     let callee = captured.dyn_callee_hash;
@@ -74,8 +74,8 @@ fn checked(
     registers: OperationHelperRegisters,
     tracer: CoreTraceGenerationTracer,
 ) -> Made
-    ensures result_value { toldMade result ≡ cycleWith scan profile (lentForest nodes digests batches groups ops)
-        (lentQueues addresses parents ends) stack registers cells tracer }
+    ensures result_value { told_made result ≡ cycle_with scan profile (lent_forest nodes digests batches groups ops)
+        (lent_queues addresses parents ends) stack registers cells tracer }
     ensures has_room { HasRoom result cells tracer.row_write_index }
     ensures in_limits { InLimits result scan.too_large tracer.row_write_index }
 {
@@ -129,7 +129,7 @@ fn checked(
 
 // The number that a cycle refuses with, or 0.
 fn made_refusal(made: Made) -> u32
-    ensures { result ≡ refusal (toldMade made) }
+    ensures { result ≡ refusal (told_made made) }
 {
     match made {
         Made::Refused(n) => n,
@@ -154,7 +154,7 @@ fn moved(
     tracer: CoreTraceGenerationTracer,
 ) -> CoreTraceGenerationTracer
     requires { tracer.row_write_index + 1 < 18446744073709551616 }
-    ensures { result ≡ tracerAfter system stack tracer (accepted row) }
+    ensures { result ≡ tracer_after system stack tracer (accepted row) }
 {
     let stored = tracer.continuation;
     let before = tracer.captured;
@@ -184,9 +184,9 @@ fn put_row(
     tracer: CoreTraceGenerationTracer,
     fragment: &mut [u64],
 )
-    requires { tracer.row_write_index < length fragment.old / rowWidth }
+    requires { tracer.row_write_index < length fragment.old / row_width }
     ensures { fragment.new ≡ pick write
-        (putRow fragment.old tracer.row_write_index (rowCells (lastSystem tracer) decoder (lastStack tracer)))
+        (put_row fragment.old tracer.row_write_index (row_cells (last_system tracer) decoder (last_stack tracer)))
         fragment.old }
 {
     if write {
@@ -212,10 +212,10 @@ fn finish_made(
     fragment: &mut [u64],
 ) -> Finished
     requires { HasRoom made (length fragment.old) tracer.row_write_index }
-    ensures refusal_value { result.refusal ≡ refusal (toldMade made) }
-    ensures tracer_value { result.tracer ≡ tracerAfter system stack tracer (toldMade made) }
-    ensures following_value { result.following ≡ followingOf (toldMade made) }
-    ensures fragment_after { fragment.new ≡ pick write (fragmentAfter fragment.old tracer (toldMade made)) fragment.old }
+    ensures refusal_value { result.refusal ≡ refusal (told_made made) }
+    ensures tracer_value { result.tracer ≡ tracer_after system stack tracer (told_made made) }
+    ensures following_value { result.following ≡ following_of (told_made made) }
+    ensures fragment_after { fragment.new ≡ pick write (fragment_after fragment.old tracer (told_made made)) fragment.old }
 {
     let Made::Row(row) = made else {
         let n = made_refusal(made);
@@ -255,15 +255,15 @@ pub(crate) fn cycle_with(
     tracer: CoreTraceGenerationTracer,
     fragment: &mut [u64],
 ) -> Finished
-    ensures refusal_value { result.refusal ≡ refusal (cycleWith scan profile (lentForest nodes digests batches groups ops)
-        (lentQueues addresses parents ends) stack registers (length fragment.old) tracer) }
-    ensures tracer_value { result.tracer ≡ tracerAfter system stack tracer (cycleWith scan profile (lentForest nodes digests batches groups ops)
-        (lentQueues addresses parents ends) stack registers (length fragment.old) tracer) }
-    ensures following_value { result.following ≡ followingOf (cycleWith scan profile (lentForest nodes digests batches groups ops)
-        (lentQueues addresses parents ends) stack registers (length fragment.old) tracer) }
+    ensures refusal_value { result.refusal ≡ refusal (cycle_with scan profile (lent_forest nodes digests batches groups ops)
+        (lent_queues addresses parents ends) stack registers (length fragment.old) tracer) }
+    ensures tracer_value { result.tracer ≡ tracer_after system stack tracer (cycle_with scan profile (lent_forest nodes digests batches groups ops)
+        (lent_queues addresses parents ends) stack registers (length fragment.old) tracer) }
+    ensures following_value { result.following ≡ following_of (cycle_with scan profile (lent_forest nodes digests batches groups ops)
+        (lent_queues addresses parents ends) stack registers (length fragment.old) tracer) }
     ensures fragment_after { fragment.new ≡ pick write
-        (fragmentAfter fragment.old tracer (cycleWith scan profile (lentForest nodes digests batches groups ops)
-        (lentQueues addresses parents ends) stack registers (length fragment.old) tracer))
+        (fragment_after fragment.old tracer (cycle_with scan profile (lent_forest nodes digests batches groups ops)
+        (lent_queues addresses parents ends) stack registers (length fragment.old) tracer))
         fragment.old }
 {
     let made = checked(
@@ -303,17 +303,17 @@ pub fn finalize_clock_cycle(
     tally: &mut [u64],
     fragment: &mut [u64],
 ) -> Finished
-    ensures refusal_value { result.refusal ≡ refusal (talliedCycle profile (lentForest nodes digests batches groups ops)
-        (lentQueues addresses parents ends) stack registers tally.old fragment.old tracer) }
-    ensures tracer_value { result.tracer ≡ tracerAfter system stack tracer (talliedCycle profile (lentForest nodes digests batches groups ops)
-        (lentQueues addresses parents ends) stack registers tally.old fragment.old tracer) }
-    ensures following_value { result.following ≡ followingOf (talliedCycle profile (lentForest nodes digests batches groups ops)
-        (lentQueues addresses parents ends) stack registers tally.old fragment.old tracer) }
-    ensures tally_after { tally.new ≡ tallyAfter profile tally.old fragment.old tracer.row_write_index
-        (talliedCycle profile (lentForest nodes digests batches groups ops)
-        (lentQueues addresses parents ends) stack registers tally.old fragment.old tracer) }
-    ensures fragment_after { fragment.new ≡ fragmentAfter fragment.old tracer (talliedCycle profile (lentForest nodes digests batches groups ops)
-        (lentQueues addresses parents ends) stack registers tally.old fragment.old tracer) }
+    ensures refusal_value { result.refusal ≡ refusal (tallied_cycle profile (lent_forest nodes digests batches groups ops)
+        (lent_queues addresses parents ends) stack registers tally.old fragment.old tracer) }
+    ensures tracer_value { result.tracer ≡ tracer_after system stack tracer (tallied_cycle profile (lent_forest nodes digests batches groups ops)
+        (lent_queues addresses parents ends) stack registers tally.old fragment.old tracer) }
+    ensures following_value { result.following ≡ following_of (tallied_cycle profile (lent_forest nodes digests batches groups ops)
+        (lent_queues addresses parents ends) stack registers tally.old fragment.old tracer) }
+    ensures tally_after { tally.new ≡ tally_after profile tally.old fragment.old tracer.row_write_index
+        (tallied_cycle profile (lent_forest nodes digests batches groups ops)
+        (lent_queues addresses parents ends) stack registers tally.old fragment.old tracer) }
+    ensures fragment_after { fragment.new ≡ fragment_after fragment.old tracer (tallied_cycle profile (lent_forest nodes digests batches groups ops)
+        (lent_queues addresses parents ends) stack registers tally.old fragment.old tracer) }
 {
     let found = scan_lent(profile, nodes, batches, ops);
     let scan = with_tally(tally.len(), found);

@@ -1,9 +1,9 @@
 // The tracer's record: the tracer, and the tally that is lent to its fragment's cycles.
 ghost use Rattle.std.specs.Prelude.{◌≡◌};
 ghost use Rattle.groups.specs.Answer.{refusal};
-ghost use Rattle.rows.specs.records.Lent.{lentForest, lentQueues};
-ghost use Rattle.rows.specs.cycles.Cycles.{tracerAfter, followingOf, fragmentAfter};
-ghost use Rattle.rows.specs.cycles.LentTally.{talliedCycle, tallyAfter};
+ghost use Rattle.rows.specs.records.Lent.{lent_forest, lent_queues};
+ghost use Rattle.rows.specs.cycles.Cycles.{tracer_after, following_of, fragment_after};
+ghost use Rattle.rows.specs.cycles.LentTally.{tallied_cycle, tally_after};
 
 use crate::cycles::cycle::{Finished, finalize_clock_cycle};
 use crate::cycles::tracer::CoreTraceGenerationTracer;
@@ -34,18 +34,18 @@ pub fn finish_live<'n, 'd, 'b, 'g, 'o, 'p, 'q, 'e, 'a, 'f>(
     live: LiveTracer<'a>,
     fragment: &'f mut [u64],
 ) -> Finished
-    ensures refusal_value { result.refusal ≡ refusal (talliedCycle profile (lentForest nodes digests batches groups ops)
-        (lentQueues addresses parents ends) stack registers live.entry.tally.now fragment.old live.entry.tracer) }
-    ensures tracer_value { result.tracer ≡ tracerAfter system stack live.entry.tracer (talliedCycle profile (lentForest nodes digests batches groups ops)
-        (lentQueues addresses parents ends) stack registers live.entry.tally.now fragment.old live.entry.tracer) }
-    ensures following_value { result.following ≡ followingOf (talliedCycle profile (lentForest nodes digests batches groups ops)
-        (lentQueues addresses parents ends) stack registers live.entry.tally.now fragment.old live.entry.tracer) }
-    ensures live_value { live.exit.1.0.now ≡ tallyAfter profile live.entry.tally.now fragment.old live.entry.tracer.row_write_index
-        (talliedCycle profile (lentForest nodes digests batches groups ops)
-        (lentQueues addresses parents ends) stack registers live.entry.tally.now fragment.old live.entry.tracer) }
-    ensures fragment_after { fragment.new ≡ fragmentAfter fragment.old live.entry.tracer
-        (talliedCycle profile (lentForest nodes digests batches groups ops)
-        (lentQueues addresses parents ends) stack registers live.entry.tally.now fragment.old live.entry.tracer) }
+    ensures refusal_value { result.refusal ≡ refusal (tallied_cycle profile (lent_forest nodes digests batches groups ops)
+        (lent_queues addresses parents ends) stack registers live.entry.tally.now fragment.old live.entry.tracer) }
+    ensures tracer_value { result.tracer ≡ tracer_after system stack live.entry.tracer (tallied_cycle profile (lent_forest nodes digests batches groups ops)
+        (lent_queues addresses parents ends) stack registers live.entry.tally.now fragment.old live.entry.tracer) }
+    ensures following_value { result.following ≡ following_of (tallied_cycle profile (lent_forest nodes digests batches groups ops)
+        (lent_queues addresses parents ends) stack registers live.entry.tally.now fragment.old live.entry.tracer) }
+    ensures live_value { live.exit.1.0.now ≡ tally_after profile live.entry.tally.now fragment.old live.entry.tracer.row_write_index
+        (tallied_cycle profile (lent_forest nodes digests batches groups ops)
+        (lent_queues addresses parents ends) stack registers live.entry.tally.now fragment.old live.entry.tracer) }
+    ensures fragment_after { fragment.new ≡ fragment_after fragment.old live.entry.tracer
+        (tallied_cycle profile (lent_forest nodes digests batches groups ops)
+        (lent_queues addresses parents ends) stack registers live.entry.tally.now fragment.old live.entry.tracer) }
 {
     finalize_clock_cycle(
         nodes,

@@ -2,11 +2,11 @@
 // and which captured values it used up; or the refusal. Nothing here reads or writes a fragment.
 ghost use Rattle.std.specs.Prelude.{◌≡◌};
 ghost use Rattle.groups.specs.Answer.{Answer, accepted, refusal};
-ghost use Rattle.groups.specs.Contexts.{toldOp, toldBatchStart};
-ghost use Rattle.rows.specs.records.Addresses.{toldStarted};
-ghost use Rattle.rows.specs.records.Lent.{lentForest, lentQueues};
-ghost use Rattle.rows.specs.cycles.Made.{Cursor, cursor, madeRow, toldMade, toldKind, callKind, dynKind, blockKind, entryKind, startBlock, startTwo, startOne, startDyn, startDyncall, startKind, startNode, madeEnd, madeRepeat, finishLoop, operationMade, resumed, madeRespan, made};
-ghost use Rattle.rows.specs.ways.ContinuationKinds.{continuationKind};
+ghost use Rattle.groups.specs.Contexts.{told_op, told_batch_start};
+ghost use Rattle.rows.specs.records.Addresses.{told_started};
+ghost use Rattle.rows.specs.records.Lent.{lent_forest, lent_queues};
+ghost use Rattle.rows.specs.cycles.Made.{Cursor, cursor, made_row, told_made, told_kind, call_kind, dyn_kind, block_kind, entry_kind, start_block, start_two, start_one, start_dyn, start_dyncall, start_kind, start_node, made_end, made_repeat, finish_loop, operation_made, resumed, made_respan, made};
+ghost use Rattle.rows.specs.ways.ContinuationKinds.{continuation_kind};
 
 use crate::records::address_state::{
     DecoderState, Ended, Positions, Started, end_lent, respan_step, start_lent,
@@ -74,7 +74,7 @@ enum KindFound {
 }
 
 fn call_kind(node: MastNode) -> KindFound
-    ensures { toldKind result ≡ callKind node }
+    ensures { told_kind result ≡ call_kind node }
 {
     match node {
         MastNode::Call(_) => KindFound::Is(EndBlockStackEntryKind::CallerFrame),
@@ -90,7 +90,7 @@ fn call_kind(node: MastNode) -> KindFound
 }
 
 fn dyn_kind(node: MastNode) -> KindFound
-    ensures { toldKind result ≡ dynKind node }
+    ensures { told_kind result ≡ dyn_kind node }
 {
     match node {
         MastNode::Dyn => KindFound::Is(EndBlockStackEntryKind::Continuation),
@@ -106,7 +106,7 @@ fn dyn_kind(node: MastNode) -> KindFound
 }
 
 fn block_kind(node: MastNode) -> KindFound
-    ensures { toldKind result ≡ blockKind node }
+    ensures { told_kind result ≡ block_kind node }
 {
     let BlockFound::Is(_) = as_block(node) else {
         return KindFound::Other;
@@ -116,7 +116,7 @@ fn block_kind(node: MastNode) -> KindFound
 
 // How the END of a node is marked, or 4: the continuation is not for this kind of node.
 fn entry_kind(finish: Finish, node: MastNode) -> KindFound
-    ensures { toldKind result ≡ entryKind finish node }
+    ensures { told_kind result ≡ entry_kind finish node }
 {
     match finish {
         Finish::Any => KindFound::Is(EndBlockStackEntryKind::Continuation),
@@ -136,7 +136,7 @@ fn start_block(
     state: DecoderState,
     at: Positions,
 ) -> Made
-    ensures { toldMade result ≡ startBlock batches.now groups.now span block (cursor state at) }
+    ensures { told_made result ≡ start_block batches.now groups.now span block (cursor state at) }
 {
     let BatchFound::At(batch) = batch_at(batches, groups, block, 0) else {
         return Made::Refused(Refusal::NO_SUCH_BATCH);
@@ -165,7 +165,7 @@ fn start_two(
     state: DecoderState,
     at: Positions,
 ) -> Made
-    ensures { toldMade result ≡ startTwo nodes.now digests.now opcode first second (cursor state at) }
+    ensures { told_made result ≡ start_two nodes.now digests.now opcode first second (cursor state at) }
 {
     let DigestFound::Is(a) = digest_at(nodes, digests, first) else {
         return Made::Refused(Refusal::NO_SUCH_NODE);
@@ -192,7 +192,7 @@ fn start_one(
     state: DecoderState,
     at: Positions,
 ) -> Made
-    ensures { toldMade result ≡ startOne nodes.now digests.now opcode child (cursor state at) }
+    ensures { told_made result ≡ start_one nodes.now digests.now opcode child (cursor state at) }
 {
     let DigestFound::Is(a) = digest_at(nodes, digests, child) else {
         return Made::Refused(Refusal::NO_SUCH_NODE);
@@ -210,7 +210,7 @@ fn start_one(
 
 // DYN: 23 for the callee word.
 fn start_dyn(opcode: u8, callee: CalleeWord, state: DecoderState, at: Positions) -> Made
-    ensures { toldMade result ≡ startDyn opcode callee (cursor state at) }
+    ensures { told_made result ≡ start_dyn opcode callee (cursor state at) }
 {
     let CalleeWord::Is(word) = callee else {
         return Made::Refused(Refusal::STORED_ABSENT);
@@ -234,7 +234,7 @@ fn start_dyncall(
     state: DecoderState,
     at: Positions,
 ) -> Made
-    ensures { toldMade result ≡ startDyncall opcode callee info (cursor state at) }
+    ensures { told_made result ≡ start_dyncall opcode callee info (cursor state at) }
 {
     let CalleeWord::Is(word) = callee else {
         return Made::Refused(Refusal::STORED_ABSENT);
@@ -270,7 +270,7 @@ fn start_kind(
     state: DecoderState,
     at: Positions,
 ) -> Made
-    ensures { toldMade result ≡ startKind nodes.now digests.now batches.now groups.now
+    ensures { told_made result ≡ start_kind nodes.now digests.now batches.now groups.now
         profile node captured (cursor state at) }
 {
     let callee = captured.dyn_callee_hash;
@@ -290,7 +290,7 @@ fn start_kind(
 
 // The number that a start refuses with, or 0.
 fn start_refusal(answer: Started) -> u32
-    ensures { result ≡ refusal (toldStarted answer) }
+    ensures { result ≡ refusal (told_started answer) }
 {
     match answer {
         Started::Refused(n) => n,
@@ -312,7 +312,7 @@ fn start_node(
     state: DecoderState,
     at: Positions,
 ) -> Made
-    ensures { toldMade result ≡ startNode nodes.now digests.now batches.now groups.now
+    ensures { told_made result ≡ start_node nodes.now digests.now batches.now groups.now
         addresses.now parents.now profile id captured (cursor state at) }
 {
     let step = start_lent(state, addresses, parents, at);
@@ -343,7 +343,7 @@ fn finish_node(
     state: DecoderState,
     at: Positions,
 ) -> Made
-    ensures { toldMade result ≡ madeEnd nodes.now digests.now ends.now end id finish
+    ensures { told_made result ≡ made_end nodes.now digests.now ends.now end id finish
         is_loop_body used (cursor state at) }
 {
     let NodeFound::At(entry) = node_at(nodes, digests, id) else {
@@ -383,7 +383,7 @@ fn repeat_row(
     state: DecoderState,
     at: Positions,
 ) -> Made
-    ensures { toldMade result ≡ madeRepeat nodes.now digests.now repeat id (cursor state at) }
+    ensures { told_made result ≡ made_repeat nodes.now digests.now repeat id (cursor state at) }
 {
     let NodeFound::At(entry) = node_at(nodes, digests, id) else {
         return Made::Refused(Refusal::NO_SUCH_NODE);
@@ -418,7 +418,7 @@ fn finish_loop(
     state: DecoderState,
     at: Positions,
 ) -> Made
-    ensures { toldMade result ≡ finishLoop nodes.now digests.now ends.now profile id condition
+    ensures { told_made result ≡ finish_loop nodes.now digests.now ends.now profile id condition
         is_loop_body (cursor state at) }
 {
     let LoopCondition::Is(again) = condition else {
@@ -450,7 +450,7 @@ fn operation_row(
     state: DecoderState,
     at: Positions,
 ) -> Made
-    ensures { toldMade result ≡ operationMade opcode found registers (cursor state at) }
+    ensures { told_made result ≡ operation_made opcode found registers (cursor state at) }
 {
     let helped = registers.to_user_op_helpers();
     let HelpersFound::Are(helpers) = helped else {
@@ -477,7 +477,7 @@ fn operation_row(
 
 // The number that a context at an operation is refused with, or 0.
 fn op_refusal(found: OpContextFound) -> u32
-    ensures { result ≡ refusal (toldOp found) }
+    ensures { result ≡ refusal (told_op found) }
 {
     match found {
         OpContextFound::Refused(n) => n,
@@ -500,7 +500,7 @@ fn resume(
     state: DecoderState,
     at: Positions,
 ) -> Made
-    ensures { toldMade result ≡ resumed (lentForest nodes digests batches groups ops) push id index op registers (cursor state at) }
+    ensures { told_made result ≡ resumed (lent_forest nodes digests batches groups ops) push id index op registers (cursor state at) }
 {
     let NodeFound::At(entry) = node_at(nodes, digests, id) else {
         return Made::Refused(Refusal::NO_SUCH_NODE);
@@ -524,7 +524,7 @@ fn resume(
 
 // The number that a context at a batch's start is refused with, or 0.
 fn batch_refusal(found: BatchContextFound) -> u32
-    ensures { result ≡ refusal (toldBatchStart found) }
+    ensures { result ≡ refusal (told_batch_start found) }
 {
     match found {
         BatchContextFound::Refused(n) => n,
@@ -545,7 +545,7 @@ fn respan(
     state: DecoderState,
     at: Positions,
 ) -> Made
-    ensures { toldMade result ≡ madeRespan nodes.now digests.now batches.now groups.now
+    ensures { told_made result ≡ made_respan nodes.now digests.now batches.now groups.now
         opcode step id index (cursor state at) }
 {
     let NodeFound::At(entry) = node_at(nodes, digests, id) else {
@@ -580,7 +580,7 @@ fn respan(
 
 // The kind of a continuation.
 fn continuation_kind(continuation: Continuation) -> ContinuationKind
-    ensures { result ≡ continuationKind continuation }
+    ensures { result ≡ continuation_kind continuation }
 {
     match continuation {
         Continuation::StartNode(id) => ContinuationKind::Start(id),
@@ -621,7 +621,7 @@ pub fn make(
     state: DecoderState,
     at: Positions,
 ) -> Made
-    ensures { toldMade result ≡ made (lentForest nodes digests batches groups ops) (lentQueues addresses parents ends)
+    ensures { told_made result ≡ made (lent_forest nodes digests batches groups ops) (lent_queues addresses parents ends)
         profile registers continuation is_loop_body captured (cursor state at) }
 {
     let kind = continuation_kind(continuation);

@@ -1,7 +1,7 @@
 // The checks of a finish that look at a whole forest. Profile and forest do not change between cycles, so what a scan of them finds is a
 // value of its own.
 ghost use Rattle.std.specs.Prelude.{◌≡◌, ◌/◌, ◌≤◌, length};
-ghost use Rattle.rows.specs.cycles.Scans.{anyLongBlock, anyLargeBatch, scanOf};
+ghost use Rattle.rows.specs.cycles.Scans.{any_long_block, any_large_batch, scan_of};
 
 use crate::records::profile::{Profile, any_big_opcode, is_wrong};
 use groups::number::number;
@@ -17,7 +17,7 @@ pub struct Scan {
 // Whether one of the first n slots is a block with over 4,096 batches.
 fn any_long_block(nodes: &[u32], n: usize) -> bool
     requires { n ≤ length nodes.now / 6 }
-    ensures { result ≡ anyLongBlock nodes.now n }
+    ensures { result ≡ any_long_block nodes.now n }
 {
     let mut found = false;
     let mut k = 0;
@@ -31,7 +31,7 @@ fn any_long_block(nodes: &[u32], n: usize) -> bool
 // Whether one of the first n batch records has a group count above 8.
 fn any_large_batch(batches: &[u32], n: usize) -> bool
     requires { n ≤ length batches.now / 12 }
-    ensures { result ≡ anyLargeBatch batches.now n }
+    ensures { result ≡ any_large_batch batches.now n }
 {
     let mut found = false;
     let mut k = 0;
@@ -44,7 +44,7 @@ fn any_large_batch(batches: &[u32], n: usize) -> bool
 
 // A scan of profile and forest.
 pub fn scan_lent(profile: Profile, nodes: &[u32], batches: &[u32], ops: &[u8]) -> Scan
-    ensures { result ≡ scanOf profile nodes.now batches.now ops.now }
+    ensures { result ≡ scan_of profile nodes.now batches.now ops.now }
 {
     let big = any_big_opcode(ops);
     let profile_wrong = is_wrong(profile);

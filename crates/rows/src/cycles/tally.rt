@@ -1,8 +1,8 @@
 // The lent tally of a cycle: 256 places, each an address and then its count.
 ghost use Rattle.std.specs.Prelude.{◌≡◌, ◌<◌, ◌≤◌, length};
-ghost use Rattle.groups.specs.Constants.{mostRows};
-ghost use Rattle.rows.specs.cycles.Made.{toldMade};
-ghost use Rattle.rows.specs.cycles.LentTally.{countIn, isFree, is_of, placeFor, countedAt, cannotCount, countsNext, withTally, unlessFull, tallyAfter};
+ghost use Rattle.groups.specs.Constants.{most_rows};
+ghost use Rattle.rows.specs.cycles.Made.{told_made};
+ghost use Rattle.rows.specs.cycles.LentTally.{count_in, is_free, is_of, place_for, counted_at, cannot_count, counts_next, with_tally, unless_full, tally_after};
 ghost use Rattle.rows.specs.ways.Inner.{Countable};
 
 use crate::cycles::made::Made;
@@ -15,7 +15,7 @@ use groups::constants::{Refusal, Row};
 
 // A scan's answer, and 11 for a tally of fewer places.
 pub(crate) fn with_tally(numbers: usize, scan: Scan) -> Scan
-    ensures { result ≡ withTally numbers scan }
+    ensures { result ≡ with_tally numbers scan }
 {
     Scan {
         big: scan.big,
@@ -26,7 +26,7 @@ pub(crate) fn with_tally(numbers: usize, scan: Scan) -> Scan
 
 fn is_free(tally: &[u64], place: usize) -> bool
     requires { place ≤ 256 }
-    ensures { result ≡ isFree tally.now place }
+    ensures { result ≡ is_free tally.now place }
 {
     number_at(tally, 2 * place + 1) == 0
 }
@@ -41,7 +41,7 @@ fn is_of(tally: &[u64], addr: u64, place: usize) -> bool
 
 // The first place in use with the address, else the first free one; 256 where there is neither.
 fn place_for(tally: &[u64], addr: u64) -> usize
-    ensures value { result ≡ placeFor tally.now addr }
+    ensures value { result ≡ place_for tally.now addr }
     ensures upper_bound { result ≤ 256 }
 {
     let mut free: usize = 256;
@@ -63,15 +63,15 @@ fn place_for(tally: &[u64], addr: u64) -> usize
 // Refusal 32: no place is left, or the count at the place can't grow.
 fn cannot_count(tally: &[u64], place: usize) -> bool
     requires { place ≤ 256 }
-    ensures { result ≡ cannotCount tally.now place }
+    ensures { result ≡ cannot_count tally.now place }
 {
     (256 <= place) | (Row::MOST as u64 <= number_at(tally, 2 * place + 1))
 }
 
 // Counts the address at a place.
 fn count_at(tally: &mut [u64], addr: u64, place: usize)
-    requires { (place < 256) × (512 ≤ length tally.old) × (countIn tally.old place < mostRows) }
-    ensures { tally.new ≡ countedAt tally.old addr place }
+    requires { (place < 256) × (512 ≤ length tally.old) × (count_in tally.old place < most_rows) }
+    ensures { tally.new ≡ counted_at tally.old addr place }
 {
     if is_free(tally, place) {
         tally[2 * place] = addr;
@@ -83,8 +83,8 @@ fn count_at(tally: &mut [u64], addr: u64, place: usize)
 
 // Whether the row before is a flagged END.
 fn counts_next(profile: Profile, fragment: &[u64], rows: usize) -> bool
-    requires { rows < mostRows }
-    ensures { result ≡ countsNext profile fragment.now rows }
+    requires { rows < most_rows }
+    ensures { result ≡ counts_next profile fragment.now rows }
 {
     if rows == 0 {
         return false;
@@ -101,9 +101,9 @@ pub(crate) fn count_row(
     made: Made,
 ) -> Made
     requires { Countable made (length tally.old) rows }
-    ensures result_value { toldMade result ≡ unlessFull profile tally.old fragment.now rows (toldMade made) }
-    ensures tally_after { tally.new ≡ tallyAfter profile tally.old fragment.now rows
-        (unlessFull profile tally.old fragment.now rows (toldMade made)) }
+    ensures result_value { told_made result ≡ unless_full profile tally.old fragment.now rows (told_made made) }
+    ensures tally_after { tally.new ≡ tally_after profile tally.old fragment.now rows
+        (unless_full profile tally.old fragment.now rows (told_made made)) }
 {
     let Made::Row(row) = made else {
         return made;

@@ -1,7 +1,7 @@
 // The tracer of one fragment: what is stored for the next row, the address state and queue positions, and the cells last built.
 ghost use Rattle.std.specs.Prelude.{◌≡◌, ◌++◌, min};
-ghost use Rattle.rows.specs.records.Built.{systemCells, stackCells};
-ghost use Rattle.rows.specs.cycles.Cycles.{fresh, storedIn, lastSystem, lastStack, finalState, forPasses};
+ghost use Rattle.rows.specs.records.Built.{system_cells, stack_cells};
+ghost use Rattle.rows.specs.cycles.Cycles.{fresh, stored_in, last_system, last_stack, final_state, for_passes};
 
 use crate::records::address_state::{DecoderState, Positions};
 use crate::records::continuation::{
@@ -82,7 +82,7 @@ impl CoreTraceGenerationTracer {
 
     // Stores the values for the next finish, their cells read modulo p. It checks none of them.
     pub fn start_clock_cycle(self, values: StoredValues) -> Stored
-        ensures { (result.refusal ≡ self.refusal) × (result.tracer ≡ storedIn self values) }
+        ensures { (result.refusal ≡ self.refusal) × (result.tracer ≡ stored_in self values) }
     {
         if self.refusal != 0 {
             return Stored {
@@ -113,7 +113,7 @@ impl CoreTraceGenerationTracer {
 
     // The system cells of the next row: those built last, zeros before the first row.
     pub(crate) fn last_system(self) -> SystemCols
-        ensures { result ≡ lastSystem self }
+        ensures { result ≡ last_system self }
     {
         if self.row_write_index == 0 {
             return SystemCols::zeros();
@@ -123,7 +123,7 @@ impl CoreTraceGenerationTracer {
 
     // The stack cells of the next row.
     pub(crate) fn last_stack(self) -> StackCols
-        ensures { result ≡ lastStack self }
+        ensures { result ≡ last_stack self }
     {
         if self.row_write_index == 0 {
             return StackCols::zeros();
@@ -133,7 +133,7 @@ impl CoreTraceGenerationTracer {
 
     // The final state of the fragment, its cells read modulo p.
     pub fn into_final_state(self) -> TracerFinalState
-        ensures { result ≡ finalState self }
+        ensures { result ≡ final_state self }
     {
         if self.refusal != 0 {
             let last_system_cols = SystemCols::zeros();
@@ -171,7 +171,7 @@ fn count_for_passes(rows: usize) -> u32
 
 // The 25 cells, those of the system first.
 fn built_cells(system: SystemCols, stack: StackCols) -> [u64; 25]
-    ensures { result ≡ systemCells system ++ stackCells stack }
+    ensures { result ≡ system_cells system ++ stack_cells stack }
 {
     let hash = system.fn_hash;
     let t = stack.top;
@@ -186,7 +186,7 @@ impl TracerFinalState {
     // What the passes take. Calls write at most 2^24 rows, so their count fits 32 bits. A tracer that somebody else made may count more; what
     // is handed over is then above 2^24 too, and every pass that takes counts refuses it (11).
     pub fn for_passes(self) -> FragmentEnd
-        ensures { result ≡ forPasses self }
+        ensures { result ≡ for_passes self }
     {
         let system = self.last_system_cols;
         let stack = self.last_stack_cols;

@@ -1,8 +1,8 @@
 // The finisher: the checks of the five finishing passes, and then all five. Pass 2 is made before pass 1: it reads and writes other cells, and
 // decides 14, the last of the checks, while it counts.
 ghost use Rattle.std.specs.Prelude.{◌≡◌, false, length};
-ghost use Rattle.rows.specs.passes.Passes.{sum_of, fragmentsWrong, noFragment, notFull, heightWrong, refusalAll, allPasses, unlessRefused};
-ghost use Rattle.rows.specs.ways.Finisher.{Passed, otherPasses};
+ghost use Rattle.rows.specs.passes.Passes.{sum_of, fragments_wrong, no_fragment, not_full, height_wrong, refusal_all, all_passes, unless_refused};
+ghost use Rattle.rows.specs.ways.Finisher.{Passed, other_passes};
 
 use crate::passes::fixup::{fixup_rows, fragments_wrong, no_fragment, not_full, sum_up_to};
 use crate::passes::halt::{pad, push_halt};
@@ -14,7 +14,7 @@ use groups::constants::{Refusal, Row};
 
 // Refusal 11 of the height.
 fn height_wrong(cells: usize, rows: usize, height: usize) -> bool
-    ensures { result ≡ heightWrong cells rows height }
+    ensures { result ≡ height_wrong cells rows height }
 {
     (height <= rows) | fewer_rows(cells, height)
 }
@@ -29,7 +29,7 @@ fn finish_refusal(
     height: usize,
 ) -> u32
     ensures { (result ≡ 0 → Passed profile (length buffer.now) fragment_size height counts.now built.now)
-        × ((result ≡ 0 → ⊥) → result ≡ refusalAll profile buffer.now fragment_size counts.now built.now height) }
+        × ((result ≡ 0 → ⊥) → result ≡ refusal_all profile buffer.now fragment_size counts.now built.now height) }
 {
     if is_wrong(profile) {
         return Refusal::BAD_PROFILE;
@@ -62,10 +62,10 @@ fn finish_rows(
     height: usize,
 )
     requires rows_value { rows ≡ sum_of counts.now }
-    requires built_value { (fragmentsWrong (length buffer.old) fragment_size counts.now built.now ≡ false)
-        × (heightWrong (length buffer.old) (sum_of counts.now) height ≡ false) }
-    requires counts_value { (noFragment counts.now ≡ false) × (notFull fragment_size counts.now ≡ false) }
-    ensures { buffer.new ≡ otherPasses profile fragment_size counts.now built.now first_stack_top height
+    requires built_value { (fragments_wrong (length buffer.old) fragment_size counts.now built.now ≡ false)
+        × (height_wrong (length buffer.old) (sum_of counts.now) height ≡ false) }
+    requires counts_value { (no_fragment counts.now ≡ false) × (not_full fragment_size counts.now ≡ false) }
+    ensures { buffer.new ≡ other_passes profile fragment_size counts.now built.now first_stack_top height
         buffer.old }
 {
     let last = 25 * (counts.len() - 1);
@@ -87,11 +87,11 @@ pub fn finish(
     first_stack_top: [u64; 16],
     height: usize,
 ) -> u32
-    ensures value { result ≡ refusalAll profile buffer.old fragment_size counts.now built.now height }
-    ensures buffer_after { buffer.new ≡ unlessRefused
-        (refusalAll profile buffer.old fragment_size counts.now built.now height)
+    ensures value { result ≡ refusal_all profile buffer.old fragment_size counts.now built.now height }
+    ensures buffer_after { buffer.new ≡ unless_refused
+        (refusal_all profile buffer.old fragment_size counts.now built.now height)
         buffer.old
-        (allPasses profile fragment_size counts.now built.now first_stack_top height buffer.old) }
+        (all_passes profile fragment_size counts.now built.now first_stack_top height buffer.old) }
 {
     let number = finish_refusal(profile, buffer, fragment_size, counts, built, height);
     if number != 0 {

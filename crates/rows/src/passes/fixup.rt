@@ -1,10 +1,10 @@
 // Finishing pass 1: the system and stack cells of each fragment's first row.
 ghost use Rattle.std.specs.Prelude.{◌≡◌, false, ◌+◌, ◌-◌, ◌*◌, ◌≤◌, ◌<◌, min, length, get_or, take, drop};
 ghost use Rattle.field.specs.Cells.{reduced};
-ghost use Rattle.groups.specs.Constants.{rowWidth};
-ghost use Rattle.rows.specs.records.Cells.{putRow};
-ghost use Rattle.rows.specs.records.Buffers.{onRows};
-ghost use Rattle.rows.specs.passes.Passes.{withSides, firstRow, laterRows, fixedUp, builtOf, sum_of, anyAbove, notFull, noFragment, fragmentsWrong, refusal1, unlessRefused};
+ghost use Rattle.groups.specs.Constants.{row_width};
+ghost use Rattle.rows.specs.records.Cells.{put_row};
+ghost use Rattle.rows.specs.records.Buffers.{on_rows};
+ghost use Rattle.rows.specs.passes.Passes.{with_sides, first_row, later_rows, fixed_up, built_of, sum_of, any_above, not_full, no_fragment, fragments_wrong, refusal1, unless_refused};
 
 use crate::records::row::{copy_in, fragment_wrong};
 use field::felt::Felt;
@@ -38,7 +38,7 @@ pub(crate) fn sum_up_to(cap: usize, counts: &[u32]) -> usize
 
 // Whether a fragment's count is above the limit.
 fn any_above(limit: usize, counts: &[u32]) -> bool
-    ensures { result ≡ anyAbove limit counts.now }
+    ensures { result ≡ any_above limit counts.now }
 {
     let mut found = false;
     let mut i = 0;
@@ -56,7 +56,7 @@ pub(crate) fn fragments_wrong(
     counts: &[u32],
     built: &[u64],
 ) -> bool
-    ensures { result ≡ fragmentsWrong cells fragment_size counts.now built.now }
+    ensures { result ≡ fragments_wrong cells fragment_size counts.now built.now }
 {
     let rows = sum_up_to(cells / Row::WIDTH + 1, counts);
     fragment_wrong(cells, rows)
@@ -66,14 +66,14 @@ pub(crate) fn fragments_wrong(
 
 // Refusal 26.
 pub(crate) fn no_fragment(counts: &[u32]) -> bool
-    ensures { result ≡ noFragment counts.now }
+    ensures { result ≡ no_fragment counts.now }
 {
     counts.len() == 0
 }
 
 // Refusal 25.
 pub(crate) fn not_full(fragment_size: usize, counts: &[u32]) -> bool
-    ensures { result ≡ notFull fragment_size counts.now }
+    ensures { result ≡ not_full fragment_size counts.now }
 {
     if counts.len() == 0 {
         return false;
@@ -106,8 +106,8 @@ fn fixup_refusal(buffer: &[u64], fragment_size: usize, counts: &[u32], built: &[
 
 // Row 0 gets the reversed first stack top, depth 16, 0, 0.
 fn write_first_stack(buffer: &mut [u64], first_stack_top: [u64; 16])
-    requires { rowWidth ≤ length buffer.old }
-    ensures { buffer.new ≡ putRow buffer.old 0 (firstRow first_stack_top (take rowWidth buffer.old)) }
+    requires { row_width ≤ length buffer.old }
+    ensures { buffer.new ≡ put_row buffer.old 0 (first_row first_stack_top (take row_width buffer.old)) }
 {
     let t = first_stack_top;
     let stack = [
@@ -136,10 +136,10 @@ fn write_first_stack(buffer: &mut [u64], first_stack_top: [u64; 16])
 
 // The row gets a fragment's 25 built cells: 6 system cells and 19 stack cells.
 fn write_sides(buffer: &mut [u64], row: usize, cells: &[u64])
-    requires { (rowWidth * row + rowWidth ≤ length buffer.old) × (length cells.now ≡ 25) }
-    ensures { buffer.new ≡ putRow buffer.old row
-        (withSides (take 6 (reduced cells.now)) (drop 6 (reduced cells.now))
-        (take rowWidth (drop (rowWidth * row) buffer.old))) }
+    requires { (row_width * row + row_width ≤ length buffer.old) × (length cells.now ≡ 25) }
+    ensures { buffer.new ≡ put_row buffer.old row
+        (with_sides (take 6 (reduced cells.now)) (drop 6 (reduced cells.now))
+        (take row_width (drop (row_width * row) buffer.old))) }
 {
     copy_in(buffer, Row::WIDTH * row, &cells[..6]);
     copy_in(buffer, Row::WIDTH * row + Column::STACK, &cells[6..]);
@@ -148,9 +148,9 @@ fn write_sides(buffer: &mut [u64], row: usize, cells: &[u64])
 // The first row of each later fragment gets the previous fragment's built cells.
 fn write_later_rows(buffer: &mut [u64], fragment_size: usize, counts: &[u32], built: &[u64])
     requires { (0 < fragment_size) × ((length counts.now - 1) * fragment_size < sum_of counts.now)
-        × (rowWidth * sum_of counts.now ≤ length buffer.old) × (25 * length counts.now ≤ length built.now) }
-    ensures { buffer.new ≡ onRows (sum_of counts.now)
-        (laterRows fragment_size fragment_size (builtOf (length counts.now - 1) built.now)) buffer.old }
+        × (row_width * sum_of counts.now ≤ length buffer.old) × (25 * length counts.now ≤ length built.now) }
+    ensures { buffer.new ≡ on_rows (sum_of counts.now)
+        (later_rows fragment_size fragment_size (built_of (length counts.now - 1) built.now)) buffer.old }
 {
     let mut k = 1;
     while k < counts.len() {
@@ -169,10 +169,10 @@ pub(crate) fn fixup_rows(
     built: &[u64],
     first_stack_top: [u64; 16],
 )
-    requires { (fragmentsWrong (length buffer.old) fragment_size counts.now built.now ≡ false) × (noFragment counts.now ≡ false)
-        × (notFull fragment_size counts.now ≡ false) }
-    ensures { buffer.new ≡ onRows (sum_of counts.now)
-        (fixedUp fragment_size first_stack_top (builtOf (length counts.now - 1) built.now)) buffer.old }
+    requires { (fragments_wrong (length buffer.old) fragment_size counts.now built.now ≡ false) × (no_fragment counts.now ≡ false)
+        × (not_full fragment_size counts.now ≡ false) }
+    ensures { buffer.new ≡ on_rows (sum_of counts.now)
+        (fixed_up fragment_size first_stack_top (built_of (length counts.now - 1) built.now)) buffer.old }
 {
     write_first_stack(buffer, first_stack_top);
     write_later_rows(buffer, fragment_size, counts, built);
@@ -188,11 +188,11 @@ pub fn fixup_stack_and_system_rows(
     first_stack_top: [u64; 16],
 ) -> u32
     ensures number { result ≡ refusal1 buffer.old fragment_size counts.now built.now }
-    ensures cells { buffer.new ≡ unlessRefused
+    ensures cells { buffer.new ≡ unless_refused
         (refusal1 buffer.old fragment_size counts.now built.now)
         buffer.old
-        (onRows (sum_of counts.now)
-        (fixedUp fragment_size first_stack_top (builtOf (length counts.now - 1) built.now))
+        (on_rows (sum_of counts.now)
+        (fixed_up fragment_size first_stack_top (built_of (length counts.now - 1) built.now))
         buffer.old) }
 {
     let number = fixup_refusal(buffer, fragment_size, counts, built);

@@ -1,10 +1,10 @@
 // The last two finishing passes: the HALT row behind the program's rows, and HALT rows up to the height.
 ghost use Rattle.std.specs.Prelude.{◌≡◌, [], ◌∷◌, ◌+◌, ◌*◌, ◌≤◌, ◌<◌, length, take};
-ghost use Rattle.groups.specs.Constants.{rowWidth};
-ghost use Rattle.rows.specs.records.DecoderRows.{zeroWord, controlFlow};
-ghost use Rattle.rows.specs.records.Built.{systemCells, stackCells};
-ghost use Rattle.rows.specs.records.Buffers.{rows_of, onRows, lastRow};
-ghost use Rattle.rows.specs.passes.Passes.{wordFrom, firstHalf, haltStack, halted, padded, refusal4, refusal5, unlessRefused};
+ghost use Rattle.groups.specs.Constants.{row_width};
+ghost use Rattle.rows.specs.records.DecoderRows.{zero_word, control_flow};
+ghost use Rattle.rows.specs.records.Built.{system_cells, stack_cells};
+ghost use Rattle.rows.specs.records.Buffers.{rows_of, on_rows, last_row};
+ghost use Rattle.rows.specs.passes.Passes.{word_from, first_half, halt_stack, halted, padded, refusal4, refusal5, unless_refused};
 
 use crate::records::buffer::{buffer_wrong, fewer_rows};
 use crate::records::decoder_row::DecoderRow;
@@ -20,7 +20,7 @@ use groups::word::Word;
 // The four numbers from `at` on, as they stand.
 fn word_in(cells: &[u64], at: usize) -> Word
     requires { at + 4 ≤ length cells.now }
-    ensures { result ≡ wordFrom cells.now at }
+    ensures { result ≡ word_from cells.now at }
 {
     Word(cells[at], cells[at + 1], cells[at + 2], cells[at + 3])
 }
@@ -28,7 +28,7 @@ fn word_in(cells: &[u64], at: usize) -> Word
 // The first six cells as a row's system cells.
 fn system_of(cells: &[u64]) -> SystemCols
     requires { 6 ≤ length cells.now }
-    ensures { systemCells result ≡ take 6 cells.now }
+    ensures { system_cells result ≡ take 6 cells.now }
 {
     SystemCols {
         clk: number_at(cells, 0),
@@ -40,7 +40,7 @@ fn system_of(cells: &[u64]) -> SystemCols
 // The first nineteen cells as a row's stack cells.
 fn stack_of(cells: &[u64]) -> StackCols
     requires { 19 ≤ length cells.now }
-    ensures { stackCells result ≡ take 19 cells.now }
+    ensures { stack_cells result ≡ take 19 cells.now }
 {
     let top = [
         number_at(cells, 0),
@@ -71,7 +71,7 @@ fn stack_of(cells: &[u64]) -> StackCols
 // The stack cells of the HALT row: those of the 25 built cells, the helper inverted.
 fn halt_stack(built: &[u64]) -> StackCols
     requires { 25 ≤ length built.now }
-    ensures { stackCells result ≡ haltStack built.now }
+    ensures { stack_cells result ≡ halt_stack built.now }
 {
     let stack = stack_of(&built[6..]);
     let top = stack.top;
@@ -86,8 +86,8 @@ fn halt_stack(built: &[u64]) -> StackCols
 
 // h0 to h3 of the last of the first `rows` rows, 0 where there is none.
 fn last_half(buffer: &[u64], rows: usize) -> Word
-    requires { rowWidth * rows ≤ length buffer.now }
-    ensures { result ≡ firstHalf (lastRow (rows_of rows buffer.now)) }
+    requires { row_width * rows ≤ length buffer.now }
+    ensures { result ≡ first_half (last_row (rows_of rows buffer.now)) }
 {
     if rows == 0 {
         return Word(Felt::ZERO, Felt::ZERO, Felt::ZERO, Felt::ZERO);
@@ -97,8 +97,8 @@ fn last_half(buffer: &[u64], rows: usize) -> Word
 
 // The decoder part of a HALT row behind the first `rows` rows.
 fn halt_decoder(profile: Profile, buffer: &[u64], rows: usize) -> DecoderRow
-    requires { rowWidth * rows ≤ length buffer.now }
-    ensures { result ≡ controlFlow profile.halt (firstHalf (lastRow (rows_of rows buffer.now))) zeroWord 0 }
+    requires { row_width * rows ≤ length buffer.now }
+    ensures { result ≡ control_flow profile.halt (first_half (last_row (rows_of rows buffer.now))) zero_word 0 }
 {
     let first = last_half(buffer, rows);
     let second = Word(Felt::ZERO, Felt::ZERO, Felt::ZERO, Felt::ZERO);
@@ -120,8 +120,8 @@ fn halt_refusal(profile: Profile, buffer: &[u64], rows: usize) -> u32
 
 // Pass 4 where nothing is refused.
 pub(crate) fn push_halt(profile: Profile, buffer: &mut [u64], rows: usize, built: &[u64])
-    requires { (rowWidth * rows + rowWidth ≤ length buffer.old) × (25 ≤ length built.now) }
-    ensures { buffer.new ≡ onRows rows (halted profile built.now) buffer.old }
+    requires { (row_width * rows + row_width ≤ length buffer.old) × (25 ≤ length built.now) }
+    ensures { buffer.new ≡ on_rows rows (halted profile built.now) buffer.old }
 {
     let decoder = halt_decoder(profile, buffer, rows);
     let system = system_of(built);
@@ -137,8 +137,8 @@ pub fn push_halt_opcode_row(
     built: [u64; 25],
 ) -> u32
     ensures value { result ≡ refusal4 profile buffer.old rows }
-    ensures buffer_after { buffer.new ≡ unlessRefused (refusal4 profile buffer.old rows) buffer.old
-        (onRows rows (halted profile built) buffer.old) }
+    ensures buffer_after { buffer.new ≡ unless_refused (refusal4 profile buffer.old rows) buffer.old
+        (on_rows rows (halted profile built) buffer.old) }
 {
     let refusal = halt_refusal(profile, buffer, rows);
     if refusal != 0 {
@@ -165,7 +165,7 @@ fn padding_refusal(profile: Profile, buffer: &[u64], rows: usize, height: usize)
 
 // The system cells of a padding row: clk is its number.
 fn padding_system(row: usize) -> SystemCols
-    ensures { systemCells result ≡ row ∷ 0 ∷ 0 ∷ 0 ∷ 0 ∷ 0 ∷ [] }
+    ensures { system_cells result ≡ row ∷ 0 ∷ 0 ∷ 0 ∷ 0 ∷ 0 ∷ [] }
 {
     SystemCols {
         clk: row as u64,
@@ -176,8 +176,8 @@ fn padding_system(row: usize) -> SystemCols
 
 // Pass 5 where nothing is refused.
 pub(crate) fn pad(profile: Profile, buffer: &mut [u64], rows: usize, height: usize)
-    requires { (0 < rows) × (rows ≤ height) × (rowWidth * height ≤ length buffer.old) }
-    ensures { buffer.new ≡ onRows rows (padded profile height) buffer.old }
+    requires { (0 < rows) × (rows ≤ height) × (row_width * height ≤ length buffer.old) }
+    ensures { buffer.new ≡ on_rows rows (padded profile height) buffer.old }
 {
     let decoder = halt_decoder(profile, buffer, rows);
     let at = Row::WIDTH * rows - 19;
@@ -192,8 +192,8 @@ pub(crate) fn pad(profile: Profile, buffer: &mut [u64], rows: usize, height: usi
 // Writes HALT rows from row `rows` to the height, or answers the refusal's number and changes nothing.
 pub fn pad_core_row_major(profile: Profile, buffer: &mut [u64], rows: usize, height: usize) -> u32
     ensures value { result ≡ refusal5 profile buffer.old rows height }
-    ensures buffer_after { buffer.new ≡ unlessRefused (refusal5 profile buffer.old rows height) buffer.old
-        (onRows rows (padded profile height) buffer.old) }
+    ensures buffer_after { buffer.new ≡ unless_refused (refusal5 profile buffer.old rows height) buffer.old
+        (on_rows rows (padded profile height) buffer.old) }
 {
     let refusal = padding_refusal(profile, buffer, rows, height);
     if refusal != 0 {

@@ -5,11 +5,11 @@
 // their counts up.
 ghost use Rattle.std.specs.Prelude.{◌≡◌, ◌||◌, ℕ, ◌+◌, ◌*◌, ◌<◌, ◌≤◌, eqb, length, take, get_or, replicate};
 ghost use Rattle.groups.specs.Answer.{pick};
-ghost use Rattle.groups.specs.Constants.{rowWidth, mostRows};
+ghost use Rattle.groups.specs.Constants.{row_width, most_rows};
 ghost use Rattle.rows.specs.ways.Order.{occurrences, Ordered};
-ghost use Rattle.rows.specs.records.Buffers.{rows_of, onRows, addr_of, bufferRow, opcode_of};
-ghost use Rattle.rows.specs.passes.Passes.{flaggedEnd, multiplied, loopWithoutBody, refusal2, unlessRefused};
-ghost use Rattle.rows.specs.ways.LoopCounts.{isLoop, endsIn, lacksFrom, countedFrom, Alike, Tallied, Bumped, Took, Table};
+ghost use Rattle.rows.specs.records.Buffers.{rows_of, on_rows, addr_of, buffer_row, opcode_of};
+ghost use Rattle.rows.specs.passes.Passes.{flagged_end, multiplied, loop_without_body, refusal2, unless_refused};
+ghost use Rattle.rows.specs.ways.LoopCounts.{is_loop, ends_in, lacks_from, counted_from, Alike, Tallied, Bumped, Took, Table};
 
 use crate::passes::nested::count_nested;
 use crate::records::buffer::{buffer_wrong, decode_opcode, fewer_rows, is_low};
@@ -27,8 +27,8 @@ struct Taken {
 
 // Whether row i has the opcode. Where that has the highest of the seven bits, a row without it is not decoded.
 fn has_opcode(buffer: &[u64], i: usize, opcode: u8) -> bool
-    requires { i < mostRows }
-    ensures { result ≡ eqb (opcode_of (bufferRow i buffer.now)) opcode }
+    requires { i < most_rows }
+    ensures { result ≡ eqb (opcode_of (buffer_row i buffer.now)) opcode }
 {
     if 64 <= opcode {
         if is_low(buffer, i) {
@@ -39,15 +39,15 @@ fn has_opcode(buffer: &[u64], i: usize, opcode: u8) -> bool
 }
 
 pub(crate) fn is_loop(profile: Profile, buffer: &[u64], i: usize) -> bool
-    requires { i < mostRows }
-    ensures { result ≡ isLoop profile (bufferRow i buffer.now) }
+    requires { i < most_rows }
+    ensures { result ≡ is_loop profile (buffer_row i buffer.now) }
 {
     has_opcode(buffer, i, profile.loop_op)
 }
 
 pub(crate) fn is_flagged_end(profile: Profile, buffer: &[u64], i: usize) -> bool
-    requires { i < mostRows }
-    ensures { result ≡ flaggedEnd profile (bufferRow i buffer.now) }
+    requires { i < most_rows }
+    ensures { result ≡ flagged_end profile (buffer_row i buffer.now) }
 {
     if cell(buffer, Row::WIDTH * i + Column::H4) == Felt::ONE {
         has_opcode(buffer, i, profile.end)
@@ -57,15 +57,15 @@ pub(crate) fn is_flagged_end(profile: Profile, buffer: &[u64], i: usize) -> bool
 }
 
 pub(crate) fn addr_at(buffer: &[u64], i: usize) -> u64
-    requires { i ≤ mostRows }
-    ensures { result ≡ addr_of (bufferRow i buffer.now) }
+    requires { i ≤ most_rows }
+    ensures { result ≡ addr_of (buffer_row i buffer.now) }
 {
     cell(buffer, Row::WIDTH * i + Column::ADDR)
 }
 
 // Puts the addresses behind the LOOP rows from row `from` on into `keys`, at most 4096.
 fn gather(profile: Profile, buffer: &[u64], rows: usize, from: usize, keys: &mut [u64]) -> Taken
-    requires { (from + 1 < rows) × (rows ≤ mostRows) × (length keys.old ≡ 8192) }
+    requires { (from + 1 < rows) × (rows ≤ most_rows) × (length keys.old ≡ 8192) }
     ensures { Took profile buffer.now rows from keys.new result.count result.next }
 {
     let mut count: usize = 0;
@@ -87,7 +87,7 @@ fn gather(profile: Profile, buffer: &[u64], rows: usize, from: usize, keys: &mut
 
 // The same, the keys being in order.
 fn take_loops(profile: Profile, buffer: &[u64], rows: usize, from: usize, keys: &mut [u64]) -> Taken
-    requires { (from + 1 < rows) × (rows ≤ mostRows) × (length keys.old ≡ 8192) }
+    requires { (from + 1 < rows) × (rows ≤ most_rows) × (length keys.old ≡ 8192) }
     ensures { Took profile buffer.now rows from keys.new result.count result.next × Ordered (take result.count keys.new) }
 {
     let taken = gather(profile, buffer, rows, from, keys);
@@ -97,7 +97,7 @@ fn take_loops(profile: Profile, buffer: &[u64], rows: usize, from: usize, keys: 
 
 // Adds 1 to the count of the key x, if there is such a key.
 fn bump(keys: &[u64], counts: &mut [u64], x: u64)
-    requires { (length keys.now ≤ 4096) × (length counts.old ≡ 4096) × Ordered keys.now × ((p : ℕ) → get_or counts.old p 0 < mostRows) }
+    requires { (length keys.now ≤ 4096) × (length counts.old ≡ 4096) × Ordered keys.now × ((p : ℕ) → get_or counts.old p 0 < most_rows) }
     ensures { Bumped keys.now x counts.old counts.new }
 {
     let at = crate::sorted::lower(keys, x);
@@ -110,9 +110,9 @@ fn bump(keys: &[u64], counts: &mut [u64], x: u64)
 
 // Counts, at the first place of each key, the flagged ENDs but the last row that have the key's address behind them.
 fn count_ends(profile: Profile, buffer: &[u64], rows: usize, keys: &[u64], counts: &mut [u64])
-    requires { (0 < rows) × (rows ≤ mostRows) × (length keys.now ≤ 4096) × Ordered keys.now × (counts.old ≡ replicate 4096 0) }
+    requires { (0 < rows) × (rows ≤ most_rows) × (length keys.now ≤ 4096) × Ordered keys.now × (counts.old ≡ replicate 4096 0) }
     ensures { (length counts.new ≡ 4096)
-        × Tallied keys.now counts.new (endsIn profile rows buffer.now) }
+        × Tallied keys.now counts.new (ends_in profile rows buffer.now) }
 {
     let mut i = 0;
     while i + 1 < rows {
@@ -144,10 +144,10 @@ fn any_between(
     keys: &[u64],
     counts: &[u64],
 ) -> bool
-    requires from_le_next { (from ≤ next) × (next < rows) × (rows ≤ mostRows) }
+    requires from_le_next { (from ≤ next) × (next < rows) × (rows ≤ most_rows) }
     requires table { Table profile buffer.now rows from next keys.now counts.now }
-    ensures { (result || lacksFrom profile (endsIn profile rows buffer.now) rows next buffer.now)
-        ≡ lacksFrom profile (endsIn profile rows buffer.now) rows from buffer.now }
+    ensures { (result || lacks_from profile (ends_in profile rows buffer.now) rows next buffer.now)
+        ≡ lacks_from profile (ends_in profile rows buffer.now) rows from buffer.now }
 {
     let mut i = from;
     while i < next {
@@ -165,8 +165,8 @@ fn any_between(
 
 // Refusal 14, by tables: whether the count of a LOOP row but the last comes to 0.
 fn any_by_tables(profile: Profile, buffer: &[u64], rows: usize) -> bool
-    requires { (rowWidth * rows ≤ length buffer.now) × (rows ≤ mostRows) }
-    ensures { result ≡ loopWithoutBody profile (rows_of rows buffer.now) }
+    requires { (row_width * rows ≤ length buffer.now) × (rows ≤ most_rows) }
+    ensures { result ≡ loop_without_body profile (rows_of rows buffer.now) }
 {
     let mut keys = [0u64; 8192];
     let mut from: usize = 0;
@@ -194,11 +194,11 @@ fn write_between(
     keys: &[u64],
     counts: &[u64],
 )
-    requires from_le_next { (from ≤ next) × (next < rows) × (rows ≤ mostRows) × (rowWidth * rows ≤ length buffer.old) }
+    requires from_le_next { (from ≤ next) × (next < rows) × (rows ≤ most_rows) × (row_width * rows ≤ length buffer.old) }
     requires table { Table profile buffer.old rows from next keys.now counts.now }
     ensures { Alike buffer.new buffer.old
-        × (countedFrom profile (endsIn profile rows buffer.old) rows next buffer.new
-        ≡ countedFrom profile (endsIn profile rows buffer.old) rows from buffer.old) }
+        × (counted_from profile (ends_in profile rows buffer.old) rows next buffer.new
+        ≡ counted_from profile (ends_in profile rows buffer.old) rows from buffer.old) }
 {
     let mut i = from;
     while i < next {
@@ -214,8 +214,8 @@ fn write_between(
 
 // Each LOOP row but the last row gets the number of its body's ENDs, by tables.
 fn write_by_tables(profile: Profile, buffer: &mut [u64], rows: usize)
-    requires { (rowWidth * rows ≤ length buffer.old) × (rows ≤ mostRows) }
-    ensures { buffer.new ≡ onRows rows (multiplied profile) buffer.old }
+    requires { (row_width * rows ≤ length buffer.old) × (rows ≤ most_rows) }
+    ensures { buffer.new ≡ on_rows rows (multiplied profile) buffer.old }
 {
     let mut keys = [0u64; 8192];
     let mut from: usize = 0;
@@ -232,9 +232,9 @@ fn write_by_tables(profile: Profile, buffer: &mut [u64], rows: usize)
 
 // Refusal 14: whether the count of a LOOP row but the last comes to 0. Where none does, each gets it.
 pub(crate) fn write_multiplicities(profile: Profile, buffer: &mut [u64], rows: usize) -> bool
-    requires { (rowWidth * rows ≤ length buffer.old) × (rows ≤ mostRows) }
-    ensures value { result ≡ loopWithoutBody profile (rows_of rows buffer.old) }
-    ensures buffer_after { buffer.new ≡ pick result buffer.old (onRows rows (multiplied profile) buffer.old) }
+    requires { (row_width * rows ≤ length buffer.old) × (rows ≤ most_rows) }
+    ensures value { result ≡ loop_without_body profile (rows_of rows buffer.old) }
+    ensures buffer_after { buffer.new ≡ pick result buffer.old (on_rows rows (multiplied profile) buffer.old) }
 {
     if count_nested(profile, buffer, rows) {
         return false;
@@ -249,8 +249,8 @@ pub(crate) fn write_multiplicities(profile: Profile, buffer: &mut [u64], rows: u
 // Finishing pass 2: each LOOP row but the last of the first `rows` rows gets the number of its body's ENDs.
 pub fn set_loop_body_multiplicities(profile: Profile, buffer: &mut [u64], rows: usize) -> u32
     ensures value { result ≡ refusal2 profile buffer.old rows }
-    ensures buffer_after { buffer.new ≡ unlessRefused (refusal2 profile buffer.old rows) buffer.old
-        (onRows rows (multiplied profile) buffer.old) }
+    ensures buffer_after { buffer.new ≡ unless_refused (refusal2 profile buffer.old rows) buffer.old
+        (on_rows rows (multiplied profile) buffer.old) }
 {
     if is_wrong(profile) {
         return Refusal::BAD_PROFILE;

@@ -2,8 +2,8 @@
 // innermost one. One sweep decides, and counts in the LOOP rows themselves, which must hold 0 for that, as a start row does. Where it gives up, be it
 // in the last row, the counts are cleared again and nothing is said; then `multiplicity` answers by tables.
 ghost use Rattle.std.specs.Prelude.{◌≡◌, true, false, ◌+◌, ◌*◌, ◌<◌, ◌≤◌, length};
-ghost use Rattle.groups.specs.Constants.{rowWidth, mostRows};
-ghost use Rattle.rows.specs.records.Buffers.{bufferRow, opcode_of};
+ghost use Rattle.groups.specs.Constants.{row_width, most_rows};
+ghost use Rattle.rows.specs.records.Buffers.{buffer_row, opcode_of};
 ghost use Rattle.rows.specs.ways.OpenLoops.{RoleOf, CountsIn, Cleared, AllCounted};
 
 use crate::passes::multiplicity::{addr_at, is_loop};
@@ -31,7 +31,7 @@ struct Swept {
 
 // An END: whether it is flagged, and the row behind it has the address behind LOOP row `top`.
 fn end_role(profile: Profile, buffer: &[u64], i: usize, depth: usize, top: usize) -> RowRole
-    requires { (i < mostRows) × (top < mostRows) × (opcode_of (bufferRow i buffer.now) ≡ profile.end) }
+    requires { (i < most_rows) × (top < most_rows) × (opcode_of (buffer_row i buffer.now) ≡ profile.end) }
     ensures { RoleOf profile buffer.now i depth top result }
 {
     if profile.loop_op == profile.end {
@@ -51,7 +51,7 @@ fn end_role(profile: Profile, buffer: &[u64], i: usize, depth: usize, top: usize
 
 // What row i is by its opcode, which is decoded once for both questions, where `depth` LOOP rows are open and `top` is the innermost.
 fn decoded_role(profile: Profile, buffer: &[u64], i: usize, depth: usize, top: usize) -> RowRole
-    requires { (i < mostRows) × (top < mostRows) }
+    requires { (i < most_rows) × (top < most_rows) }
     ensures { RoleOf profile buffer.now i depth top result }
 {
     let opcode = decode_opcode(buffer, i);
@@ -66,7 +66,7 @@ fn decoded_role(profile: Profile, buffer: &[u64], i: usize, depth: usize, top: u
 
 // The same. Where LOOP and END have the highest of the seven bits, a row without it is neither.
 fn row_role(profile: Profile, buffer: &[u64], i: usize, depth: usize, top: usize) -> RowRole
-    requires { (i < mostRows) × (top < mostRows) }
+    requires { (i < most_rows) × (top < most_rows) }
     ensures { RoleOf profile buffer.now i depth top result }
 {
     if is_low(buffer, i) {
@@ -99,7 +99,7 @@ fn can_open(depth: usize, above: u64, addr: u64, held: u64) -> bool
 
 // Counts in the LOOP rows the ENDs of their bodies, but for the last row.
 fn sweep(profile: Profile, buffer: &mut [u64], rows: usize) -> Swept
-    requires { (rowWidth * rows ≤ length buffer.old) × (rows ≤ mostRows) }
+    requires { (row_width * rows ≤ length buffer.old) × (rows ≤ most_rows) }
     ensures { (result.next ≤ rows) × CountsIn profile buffer.old 0 result.next buffer.new
         × (result.whole ≡ true → AllCounted profile rows buffer.old buffer.new) }
 {
@@ -147,7 +147,7 @@ fn sweep(profile: Profile, buffer: &mut [u64], rows: usize) -> Swept
 
 // Puts 0 into the LOOP rows before row `end`: what a sweep that gave up there has counted is gone.
 fn clear_counts(profile: Profile, buffer: &mut [u64], end: usize)
-    requires { (rowWidth * end ≤ length buffer.old) × (end ≤ mostRows) }
+    requires { (row_width * end ≤ length buffer.old) × (end ≤ most_rows) }
     ensures { Cleared profile end buffer.old buffer.new }
 {
     let mut i: usize = 0;
@@ -163,7 +163,7 @@ fn clear_counts(profile: Profile, buffer: &mut [u64], end: usize)
 
 // Each LOOP row but the last row gets the number of its body's ENDs, and none is 0. False says nothing and changes nothing.
 pub(crate) fn count_nested(profile: Profile, buffer: &mut [u64], rows: usize) -> bool
-    requires { (rowWidth * rows ≤ length buffer.old) × (rows ≤ mostRows) }
+    requires { (row_width * rows ≤ length buffer.old) × (rows ≤ most_rows) }
     ensures { (result ≡ true → AllCounted profile rows buffer.old buffer.new)
         × (result ≡ false → buffer.new ≡ buffer.old) }
 {

@@ -1,7 +1,7 @@
 // The address state of the decoder, and the lent queues that move it: block addresses, parent addresses, and three cells an END.
 ghost use Rattle.std.specs.Prelude.{◌≡◌, ◌+◌, ◌*◌, ◌≤◌, ◌<◌};
-ghost use Rattle.groups.specs.Constants.{addressQueueEmpty, parentQueueEmpty};
-ghost use Rattle.rows.specs.records.Addresses.{readState, startAnswer, startState, endAnswer, endState, respanStep, entry_at, end_at, toldAddress, toldParent, toldEnd, toldStarted, toldEnded};
+ghost use Rattle.groups.specs.Constants.{address_queue_empty, parent_queue_empty};
+ghost use Rattle.rows.specs.records.Addresses.{read_state, start_answer, start_state, end_answer, end_state, respan_step, entry_at, end_at, told_address, told_parent, told_end, told_started, told_ended};
 
 use field::cell::cell;
 use field::felt::{add, reduce};
@@ -79,7 +79,7 @@ pub struct EndStep {
 
 // The entry of the end queue at a position, or 22.
 pub fn end_at(ends: &[u64], at: usize) -> EndFound
-    ensures { toldEnd result ≡ end_at ends.now at }
+    ensures { told_end result ≡ end_at ends.now at }
 {
     if ends.len() / 3 <= at {
         return EndFound::Missing;
@@ -93,7 +93,7 @@ pub fn end_at(ends: &[u64], at: usize) -> EndFound
 
 // The entry of the address queue at a position, or 20.
 fn address_at(addresses: &[u64], at: usize) -> AddressFound
-    ensures { toldAddress result ≡ entry_at addressQueueEmpty addresses.now at }
+    ensures { told_address result ≡ entry_at address_queue_empty addresses.now at }
 {
     if addresses.len() <= at {
         return AddressFound::Missing;
@@ -103,7 +103,7 @@ fn address_at(addresses: &[u64], at: usize) -> AddressFound
 
 // The entry of the parent queue at a position, or 21.
 fn parent_at(parents: &[u64], at: usize) -> ParentFound
-    ensures { toldParent result ≡ entry_at parentQueueEmpty parents.now at }
+    ensures { told_parent result ≡ entry_at parent_queue_empty parents.now at }
 {
     if parents.len() <= at {
         return ParentFound::Missing;
@@ -113,8 +113,8 @@ fn parent_at(parents: &[u64], at: usize) -> ParentFound
 
 // A node starts: its address and its parent's come from their queues. 20, 21: a queue is used up.
 fn start_step(state: DecoderState, addresses: &[u64], parents: &[u64], at: Positions) -> StartStep
-    ensures { (toldStarted result.answer ≡ startAnswer addresses.now parents.now at)
-        × (result.state ≡ startState addresses.now parents.now at state) }
+    ensures { (told_started result.answer ≡ start_answer addresses.now parents.now at)
+        × (result.state ≡ start_state addresses.now parents.now at state) }
 {
     let AddressFound::At(current_addr) = address_at(addresses, at.addresses) else {
         return StartStep {
@@ -145,8 +145,8 @@ fn start_step(state: DecoderState, addresses: &[u64], parents: &[u64], at: Posit
 
 // A node ends: the queue's entry gives its address and the state after it. 22: the queue is used up.
 fn end_step(state: DecoderState, ends: &[u64], at: Positions) -> EndStep
-    ensures { (toldEnded result.answer ≡ endAnswer ends.now at)
-        × (result.state ≡ endState ends.now at state) }
+    ensures { (told_ended result.answer ≡ end_answer ends.now at)
+        × (result.state ≡ end_state ends.now at state) }
 {
     let EndFound::At(entry) = end_at(ends, at.ends) else {
         return EndStep {
@@ -172,7 +172,7 @@ fn end_step(state: DecoderState, ends: &[u64], at: Positions) -> EndStep
 impl DecoderState {
     // The addresses read modulo p.
     pub fn read(self) -> Self
-        ensures { result ≡ readState self }
+        ensures { result ≡ read_state self }
     {
         Self {
             current_addr: reduce(self.current_addr),
@@ -187,8 +187,8 @@ impl DecoderState {
         parents: &[u64],
         at: Positions,
     ) -> Started
-        ensures { (toldStarted result ≡ startAnswer addresses.now parents.now at)
-            × (self.new ≡ startState addresses.now parents.now at self.old) }
+        ensures { (told_started result ≡ start_answer addresses.now parents.now at)
+            × (self.new ≡ start_state addresses.now parents.now at self.old) }
     {
         let step = start_step(*self, addresses, parents, at);
         *self = step.state;
@@ -197,8 +197,8 @@ impl DecoderState {
 
     // A node ends, on a lent state: from then on it names the node around it. 22 leaves it as it was.
     pub fn replay_node_end(&mut self, ends: &[u64], at: Positions) -> Ended
-        ensures { (toldEnded result ≡ endAnswer ends.now at)
-            × (self.new ≡ endState ends.now at self.old) }
+        ensures { (told_ended result ≡ end_answer ends.now at)
+            × (self.new ≡ end_state ends.now at self.old) }
     {
         let step = end_step(*self, ends, at);
         *self = step.state;
@@ -213,8 +213,8 @@ pub fn start_lent(
     parents: &[u64],
     at: Positions,
 ) -> StartStep
-    ensures { (toldStarted result.answer ≡ startAnswer addresses.now parents.now at)
-        × (result.state ≡ startState addresses.now parents.now at state) }
+    ensures { (told_started result.answer ≡ start_answer addresses.now parents.now at)
+        × (result.state ≡ start_state addresses.now parents.now at state) }
 {
     let answer = state.replay_node_start(addresses, parents, at);
     StartStep { answer, state }
@@ -222,8 +222,8 @@ pub fn start_lent(
 
 // An end for a caller that has the state by value: it is lent, and handed back.
 pub fn end_lent(mut state: DecoderState, ends: &[u64], at: Positions) -> EndStep
-    ensures { (toldEnded result.answer ≡ endAnswer ends.now at)
-        × (result.state ≡ endState ends.now at state) }
+    ensures { (told_ended result.answer ≡ end_answer ends.now at)
+        × (result.state ≡ end_state ends.now at state) }
 {
     let answer = state.replay_node_end(ends, at);
     EndStep { answer, state }
@@ -231,7 +231,7 @@ pub fn end_lent(mut state: DecoderState, ends: &[u64], at: Positions) -> EndStep
 
 // A new batch: the current address grows by the step modulo p.
 pub fn respan_step(state: DecoderState, step: u64) -> DecoderState
-    ensures { result ≡ respanStep step state }
+    ensures { result ≡ respan_step step state }
 {
     DecoderState {
         current_addr: add(state.current_addr, step),

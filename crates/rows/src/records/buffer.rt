@@ -1,28 +1,28 @@
 // A buffer of rows: what every call checks of it, and the opcode of a row. A number of rows may be any; nothing is multiplied before it is known to fit.
 ghost use Rattle.std.specs.Prelude.{◌≡◌, ◌<◌, ltb};
-ghost use Rattle.groups.specs.Constants.{mostRows};
-ghost use Rattle.rows.specs.records.Buffers.{bufferRow, opcode_of, bufferWrong, fewerRows};
+ghost use Rattle.groups.specs.Constants.{most_rows};
+ghost use Rattle.rows.specs.records.Buffers.{buffer_row, opcode_of, buffer_wrong, fewer_rows};
 
 use field::cell::cell;
 use groups::constants::Row;
 
 // Refusal 11: the buffer has a part of a row, or over 2^24 rows.
 pub fn buffer_wrong(cells: usize) -> bool
-    ensures { result ≡ bufferWrong cells }
+    ensures { result ≡ buffer_wrong cells }
 {
     (0 < cells % Row::WIDTH) | (Row::MOST < cells / Row::WIDTH)
 }
 
 // Refusal 11: fewer rows than said.
 pub fn fewer_rows(cells: usize, rows: usize) -> bool
-    ensures { result ≡ fewerRows cells rows }
+    ensures { result ≡ fewer_rows cells rows }
 {
     cells / Row::WIDTH < rows
 }
 
 // The opcode of row i, from each bit cell's lowest bit; past the end, 0.
 pub fn decode_opcode(buffer: &[u64], i: usize) -> u64
-    ensures { result ≡ opcode_of (bufferRow i buffer.now) }
+    ensures { result ≡ opcode_of (buffer_row i buffer.now) }
 {
     if buffer.len() / Row::WIDTH < i {
         return 0;
@@ -39,8 +39,8 @@ pub fn decode_opcode(buffer: &[u64], i: usize) -> u64
 
 // Whether row i's opcode is below 64, by its highest bit alone.
 pub(crate) fn is_low(buffer: &[u64], i: usize) -> bool
-    requires { i < mostRows }
-    ensures { result ≡ ltb (opcode_of (bufferRow i buffer.now)) 64 }
+    requires { i < most_rows }
+    ensures { result ≡ ltb (opcode_of (buffer_row i buffer.now)) 64 }
 {
     cell(buffer, Row::WIDTH * i + 13) % 2 == 0
 }

@@ -3,7 +3,7 @@
 // not name.
 ghost use Rattle.std.specs.Prelude.{◌≡◌};
 ghost use Rattle.groups.specs.Answer.{refusal};
-ghost use Rattle.rows.specs.records.CallRecords.{ReadAs32, conditionIn, callee_in, infoIn, toldInfo, resumeIn, respanIn, continuationOn, namesNoKind, continuationIn, toldContinuation, namesNothing, storedInRecord, toldStored, systemIn, toldSystem, stackIn, fewCells, manyCells, registersIn, toldRegisters};
+ghost use Rattle.rows.specs.records.CallRecords.{ReadAs32, condition_in, callee_in, info_in, told_info, resume_in, respan_in, continuation_on, names_no_kind, continuation_in, told_continuation, names_nothing, stored_in_record, told_stored, system_in, told_system, stack_in, few_cells, many_cells, registers_in, told_registers};
 
 use crate::records::continuation::{
     CalleeWord, Captured, ContextInfo, Continuation, ExecutionContextInfo, LoopCondition,
@@ -65,7 +65,7 @@ pub fn narrow(x: u64) -> Small
 
 // Number 6: 0 absent, 1 zero, 2 one.
 fn condition_at(numbers: &[u64]) -> LoopCondition
-    ensures { result ≡ conditionIn numbers.now }
+    ensures { result ≡ condition_in numbers.now }
 {
     let c = number_at(numbers, 6);
     if c == 0 {
@@ -86,7 +86,7 @@ fn callee_at(numbers: &[u64]) -> CalleeWord
 
 // Number 12: 1 present; 13 the depth, 14 the next overflow address. A depth over 32 bits: 23.
 fn info_at(numbers: &[u64]) -> InfoFound
-    ensures { toldInfo result ≡ infoIn numbers.now }
+    ensures { told_info result ≡ info_in numbers.now }
 {
     if number_at(numbers, 12) != 1 {
         return InfoFound::Is(ContextInfo::Absent);
@@ -104,7 +104,7 @@ fn info_at(numbers: &[u64]) -> InfoFound
 
 // ResumeBasicBlock: number 3 the batch (5), number 4 the operation (6).
 fn resume_at(numbers: &[u64], node_id: MastNodeId) -> ContinuationFound
-    ensures { toldContinuation result ≡ resumeIn numbers.now node_id }
+    ensures { told_continuation result ≡ resume_in numbers.now node_id }
 {
     let batch = narrow(number_at(numbers, 3));
     let Small::Is(batch_index) = batch else {
@@ -123,7 +123,7 @@ fn resume_at(numbers: &[u64], node_id: MastNodeId) -> ContinuationFound
 
 // Respan: number 3 the batch (5).
 fn respan_at(numbers: &[u64], node_id: MastNodeId) -> ContinuationFound
-    ensures { toldContinuation result ≡ respanIn numbers.now node_id }
+    ensures { told_continuation result ≡ respan_in numbers.now node_id }
 {
     let batch = narrow(number_at(numbers, 3));
     let Small::Is(batch_index) = batch else {
@@ -137,7 +137,7 @@ fn respan_at(numbers: &[u64], node_id: MastNodeId) -> ContinuationFound
 
 // The continuation of a kind on a node; a number that names no kind: 23.
 fn continuation_on(numbers: &[u64], kind: u64, id: MastNodeId) -> ContinuationFound
-    ensures { toldContinuation result ≡ continuationOn numbers.now kind id }
+    ensures { told_continuation result ≡ continuation_on numbers.now kind id }
 {
     match kind {
         1 => ContinuationFound::Is(Continuation::StartNode(id)),
@@ -155,14 +155,14 @@ fn continuation_on(numbers: &[u64], kind: u64, id: MastNodeId) -> ContinuationFo
 
 // Whether a number names none of the kinds 1 to 10.
 fn names_no_kind(kind: u64) -> bool
-    ensures { result ≡ namesNoKind kind }
+    ensures { result ≡ names_no_kind kind }
 {
     (kind == 0) | (10 < kind)
 }
 
 // Number 1 the kind (23), number 2 the node (3), which EnterForest has not.
 fn continuation_at(numbers: &[u64]) -> ContinuationFound
-    ensures { toldContinuation result ≡ continuationIn numbers.now }
+    ensures { told_continuation result ≡ continuation_in numbers.now }
 {
     let kind = number_at(numbers, 1);
     if names_no_kind(kind) {
@@ -180,7 +180,7 @@ fn continuation_at(numbers: &[u64]) -> ContinuationFound
 
 // Whether flag (5), condition (6), or presence of the word (7) or the info (12) is a number that names nothing.
 pub(crate) fn names_nothing(numbers: &[u64]) -> bool
-    ensures { result ≡ namesNothing numbers.now }
+    ensures { result ≡ names_nothing numbers.now }
 {
     (1 < number_at(numbers, 5))
         | ((2 < number_at(numbers, 6))
@@ -189,7 +189,7 @@ pub(crate) fn names_nothing(numbers: &[u64]) -> bool
 
 // The number that a continuation is refused with, or 0.
 fn continuation_refusal(found: ContinuationFound) -> u32
-    ensures { result ≡ refusal (toldContinuation found) }
+    ensures { result ≡ refusal (told_continuation found) }
 {
     match found {
         ContinuationFound::Refused(n) => n,
@@ -199,7 +199,7 @@ fn continuation_refusal(found: ContinuationFound) -> u32
 
 // What a storing is given, or the lowest number that holds of 3, 5, 6 and 23.
 pub fn stored_at(numbers: &[u64]) -> StoredFound
-    ensures { toldStored result ≡ storedInRecord numbers.now }
+    ensures { told_stored result ≡ stored_in_record numbers.now }
 {
     let next = continuation_at(numbers);
     let ContinuationFound::Is(continuation) = next else {
@@ -228,7 +228,7 @@ pub fn stored_at(numbers: &[u64]) -> StoredFound
 
 // Number 2 the clock row, 3 the context, each of 32 bits (23), 4 to 7 fn_hash.
 pub fn system_at(numbers: &[u64]) -> SystemFound
-    ensures { toldSystem result ≡ systemIn numbers.now }
+    ensures { told_system result ≡ system_in numbers.now }
 {
     let row = narrow(number_at(numbers, 2));
     let Small::Is(clk) = row else {
@@ -248,7 +248,7 @@ pub fn system_at(numbers: &[u64]) -> SystemFound
 
 // Numbers 8 to 23 the top of the stack, last first, 25 the overflow address; the depth (24) is given.
 pub fn stack_at(numbers: &[u64], stack_depth: u32) -> StackState
-    ensures { result ≡ stackIn numbers.now stack_depth }
+    ensures { result ≡ stack_in numbers.now stack_depth }
 {
     let stack_top = [
         cell(numbers, 8),
@@ -277,7 +277,7 @@ pub fn stack_at(numbers: &[u64], stack_depth: u32) -> StackState
 
 // The cases that have one or two cells.
 fn few_cells(kind: u64, a: u64, b: u64) -> RegistersFound
-    ensures { toldRegisters result ≡ fewCells kind a b }
+    ensures { told_registers result ≡ few_cells kind a b }
 {
     match kind {
         1 => RegistersFound::Are(OperationHelperRegisters::Eq {
@@ -305,7 +305,7 @@ fn few_cells(kind: u64, a: u64, b: u64) -> RegistersFound
 
 // The cases that have more, then the others; a number that names no case is none.
 fn registers_of(kind: u64, a: Word, b: Word) -> RegistersFound
-    ensures { toldRegisters result ≡ manyCells kind a b }
+    ensures { told_registers result ≡ many_cells kind a b }
 {
     match kind {
         5 => RegistersFound::Are(OperationHelperRegisters::FriExt2Fold4 {
@@ -338,7 +338,7 @@ fn registers_of(kind: u64, a: Word, b: Word) -> RegistersFound
 
 // Number 0 the case, numbers 26 to 31 its cells in the order of its fields.
 pub fn registers_at(numbers: &[u64]) -> RegistersFound
-    ensures { toldRegisters result ≡ registersIn numbers.now }
+    ensures { told_registers result ≡ registers_in numbers.now }
 {
     let kind = number_at(numbers, 0);
     if kind == 18 {

@@ -1,6 +1,6 @@
 // What is stored for a cycle.
 ghost use Rattle.std.specs.Prelude.{◌≡◌};
-ghost use Rattle.rows.specs.records.Captured.{readCallee, readInfo, readCaptured};
+ghost use Rattle.rows.specs.records.Captured.{read_callee, read_info, read_captured};
 
 use crate::records::ids::MastNodeId;
 use field::felt::reduce;
@@ -56,7 +56,7 @@ pub enum ContextInfo {
 
 // The word read modulo p.
 fn read_callee(callee: CalleeWord) -> CalleeWord
-    ensures { result ≡ readCallee callee }
+    ensures { result ≡ read_callee callee }
 {
     match callee {
         CalleeWord::Absent => CalleeWord::Absent,
@@ -66,7 +66,7 @@ fn read_callee(callee: CalleeWord) -> CalleeWord
 
 // The next overflow address read modulo p.
 fn read_info(info: ContextInfo) -> ContextInfo
-    ensures { result ≡ readInfo info }
+    ensures { result ≡ read_info info }
 {
     match info {
         ContextInfo::Absent => ContextInfo::Absent,
@@ -88,7 +88,7 @@ pub struct Captured {
 impl Captured {
     // The captured values with their cells read modulo p.
     pub fn read(self) -> Self
-        ensures { result ≡ readCaptured self }
+        ensures { result ≡ read_captured self }
     {
         let condition = self.finish_loop_condition;
         let word = self.dyn_callee_hash;

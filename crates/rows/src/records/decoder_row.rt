@@ -1,6 +1,6 @@
 // The decoder part of a row.
 ghost use Rattle.std.specs.Prelude.{◌≡◌};
-ghost use Rattle.rows.specs.records.DecoderRows.{controlFlow, basicBlockBatch, operation, bit, end_word};
+ghost use Rattle.rows.specs.records.DecoderRows.{control_flow, basic_block_batch, operation, bit, end_word};
 
 use field::felt::Felt;
 use groups::batch::OpBatch;
@@ -63,7 +63,7 @@ impl EndBlockFlags {
 impl DecoderRow {
     // A start, REPEAT or END row.
     pub fn new_control_flow(opcode: u8, first: Word, second: Word, addr: u64) -> Self
-        ensures { result ≡ controlFlow opcode first second addr }
+        ensures { result ≡ control_flow opcode first second addr }
     {
         Self {
             addr,
@@ -85,7 +85,7 @@ impl DecoderRow {
         group_count: u64,
         batch_flags: BatchFlags,
     ) -> Self
-        ensures { result ≡ basicBlockBatch opcode batch addr group_count batch_flags }
+        ensures { result ≡ basic_block_batch opcode batch addr group_count batch_flags }
     {
         let first = batch.low;
         let second = batch.high;

@@ -1,7 +1,7 @@
 // The lent forest. Six numbers a node in `nodes`: what the slot holds, two children, and of a block its total of groups, the record
 // of its first batch and how many batches it has. Four cells a node in `digests`. `ops` has one opcode a byte.
 ghost use Rattle.std.specs.Prelude.{◌≡◌, ◌+◌, ◌*◌, ◌≤◌, ◌<◌};
-ghost use Rattle.rows.specs.records.Forests.{isSlot, slotBlock, nodeAt, digestAt, opcodeAt, block_of, toldNode, toldDigest, toldOpcode, toldBlock};
+ghost use Rattle.rows.specs.records.Forests.{is_slot, slot_block, node_at, digest_at, opcode_at, block_of, told_node, told_digest, told_opcode, told_block};
 ghost use Rattle.rows.specs.ways.Inner.{kind_at, IsNodeOf};
 
 use crate::records::ids::MastNodeId;
@@ -55,7 +55,7 @@ pub enum BlockFound {
 
 // Whether the slot's six numbers and four cells lie whole in the slices.
 fn is_slot(nodes: &[u32], digests: &[u64], id: MastNodeId) -> bool
-    ensures { result ≡ isSlot nodes.now digests.now id.0 }
+    ensures { result ≡ is_slot nodes.now digests.now id.0 }
 {
     let i = id.0 as usize;
     if nodes.len() < 6 * i + 6 {
@@ -76,7 +76,7 @@ pub(crate) fn kind_at(nodes: &[u32], digests: &[u64], id: MastNodeId) -> u32
 
 // The block of a slot, where it is one.
 pub(crate) fn slot_block(nodes: &[u32], id: MastNodeId) -> BasicBlockNode
-    ensures { result ≡ slotBlock nodes.now id.0 }
+    ensures { result ≡ slot_block nodes.now id.0 }
 {
     let at = 6 * (id.0 as usize);
     BasicBlockNode {
@@ -106,7 +106,7 @@ fn node_of(kind: u32, first: u32, second: u32, block: BasicBlockNode) -> MastNod
 
 // The node of an id, or 3; a number that names no kind is no node.
 pub fn node_at(nodes: &[u32], digests: &[u64], id: MastNodeId) -> NodeFound
-    ensures { toldNode result ≡ nodeAt nodes.now digests.now id.0 }
+    ensures { told_node result ≡ node_at nodes.now digests.now id.0 }
 {
     let kind = kind_at(nodes, digests, id);
     if kind < 2 {
@@ -128,7 +128,7 @@ pub fn node_at(nodes: &[u32], digests: &[u64], id: MastNodeId) -> NodeFound
 
 // The digest of an id, of a node or of a slot that has its digest alone, or 3.
 pub fn digest_at(nodes: &[u32], digests: &[u64], id: MastNodeId) -> DigestFound
-    ensures { toldDigest result ≡ digestAt nodes.now digests.now id.0 }
+    ensures { told_digest result ≡ digest_at nodes.now digests.now id.0 }
 {
     let kind = kind_at(nodes, digests, id);
     if kind == 0 {
@@ -142,7 +142,7 @@ pub fn digest_at(nodes: &[u32], digests: &[u64], id: MastNodeId) -> DigestFound
 
 // The opcode of operation `op` of the batch, or 6: the batch has no such operation, or it lies past the slice.
 pub fn opcode_at(ops: &[u8], batch: OpBatch, op: u32) -> OpcodeFound
-    ensures { toldOpcode result ≡ opcodeAt ops.now batch op }
+    ensures { told_opcode result ≡ opcode_at ops.now batch op }
 {
     if batch.num_ops <= op {
         return OpcodeFound::Missing;
@@ -157,7 +157,7 @@ pub fn opcode_at(ops: &[u8], batch: OpBatch, op: u32) -> OpcodeFound
 
 // The block that a node is, or 4.
 pub fn as_block(node: MastNode) -> BlockFound
-    ensures { toldBlock result ≡ block_of node }
+    ensures { told_block result ≡ block_of node }
 {
     match node {
         MastNode::Block(block) => BlockFound::Is(block),

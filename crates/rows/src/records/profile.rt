@@ -1,7 +1,7 @@
 // The profile: the opcodes that a trace is written and read with, and the step of block addresses.
 ghost use Rattle.std.specs.Prelude.{◌≡◌, drop};
 ghost use Rattle.field.specs.Bounds.{any_from};
-ghost use Rattle.rows.specs.records.Profiles.{opcodes, isOneOf, twoEqual, profileWrong};
+ghost use Rattle.rows.specs.records.Profiles.{opcodes, is_one_of, two_equal, profile_wrong};
 
 use field::felt::Felt;
 
@@ -60,7 +60,7 @@ pub fn any_big_opcode(opcodes: &[u8]) -> bool
 
 // Whether x stands among the opcodes from index i on.
 fn is_one_of(opcodes: &[u8], i: usize, x: u8) -> bool
-    ensures { result ≡ isOneOf x (drop i opcodes.now) }
+    ensures { result ≡ is_one_of x (drop i opcodes.now) }
 {
     let mut found = false;
     let mut j = i;
@@ -73,7 +73,7 @@ fn is_one_of(opcodes: &[u8], i: usize, x: u8) -> bool
 
 // Whether two of the opcodes are equal.
 fn two_equal(opcodes: &[u8]) -> bool
-    ensures { result ≡ twoEqual opcodes.now }
+    ensures { result ≡ two_equal opcodes.now }
 {
     let mut found = false;
     let mut j = 0;
@@ -86,7 +86,7 @@ fn two_equal(opcodes: &[u8]) -> bool
 
 // Refusal 2.
 pub fn is_wrong(profile: Profile) -> bool
-    ensures { result ≡ profileWrong profile }
+    ensures { result ≡ profile_wrong profile }
 {
     let opcodes = opcodes_of(profile);
     if any_big_opcode(&opcodes) {

@@ -1,10 +1,10 @@
 // One row of 49 cells, written into a buffer.
 ghost use Rattle.std.specs.Prelude.{◌≡◌, ◌++◌};
-ghost use Rattle.rows.specs.records.DecoderRows.{extra0, extra1, decoderCells};
+ghost use Rattle.rows.specs.records.DecoderRows.{extra0, extra1, decoder_cells};
 ghost use Rattle.field.specs.Cells.{reduced};
-ghost use Rattle.rows.specs.records.Built.{systemCells, stackCells};
-ghost use Rattle.rows.specs.records.Cells.{rowCells, put_in, copiedIn, rowWritten};
-ghost use Rattle.rows.specs.records.Cells.{fragmentWrong};
+ghost use Rattle.rows.specs.records.Built.{system_cells, stack_cells};
+ghost use Rattle.rows.specs.records.Cells.{row_cells, put_in, copied_in, row_written};
+ghost use Rattle.rows.specs.records.Cells.{fragment_wrong};
 
 use crate::records::decoder_row::DecoderRow;
 use crate::records::state::{StackCols, SystemCols};
@@ -20,7 +20,7 @@ fn wide(x: u8) -> u64
 
 // Copies all of `src`, read modulo p, into `dst` from index `at` on; where it does not fit, nothing is changed.
 pub fn copy_in(dst: &mut [u64], at: usize, src: &[u64])
-    ensures { dst.new ≡ copiedIn dst.old at src.now }
+    ensures { dst.new ≡ copied_in dst.old at src.now }
 {
     if dst.len() < src.len() {
         return;
@@ -66,7 +66,7 @@ fn extra_1(op: u64) -> u64
 
 // The system and decoder cells of a row, reduced. The op bits are reduced by themselves.
 pub(crate) fn first_cells(system: SystemCols, d: DecoderRow) -> [u64; 30]
-    ensures { result ≡ reduced (systemCells system ++ decoderCells d) }
+    ensures { result ≡ reduced (system_cells system ++ decoder_cells d) }
 {
     let op = wide(d.opcode);
     let s = system.read();
@@ -108,7 +108,7 @@ pub(crate) fn first_cells(system: SystemCols, d: DecoderRow) -> [u64; 30]
 
 // The stack cells of a row, reduced.
 fn last_cells(stack: StackCols) -> [u64; 19]
-    ensures { result ≡ reduced (stackCells stack) }
+    ensures { result ≡ reduced (stack_cells stack) }
 {
     let k = stack.read();
     let t = k.top;
@@ -120,7 +120,7 @@ fn last_cells(stack: StackCols) -> [u64; 19]
 
 // Writes the cells of row `row` in two parts; where the buffer has no such row, nothing is changed.
 pub(crate) fn put_cells(buffer: &mut [u64], row: usize, first: [u64; 30], last: [u64; 19])
-    ensures { buffer.new ≡ rowWritten buffer.old row (first ++ last) }
+    ensures { buffer.new ≡ row_written buffer.old row (first ++ last) }
 {
     if buffer.len() / Row::WIDTH <= row {
         return;
@@ -137,7 +137,7 @@ pub fn write_row(
     d: DecoderRow,
     stack: StackCols,
 )
-    ensures { buffer.new ≡ rowWritten buffer.old row (rowCells system d stack) }
+    ensures { buffer.new ≡ row_written buffer.old row (row_cells system d stack) }
 {
     let first = first_cells(system, d);
     let last = last_cells(stack);
@@ -146,7 +146,7 @@ pub fn write_row(
 
 // Refusal 11 of the fragment.
 pub fn fragment_wrong(cells: usize, rows: usize) -> bool
-    ensures { result ≡ fragmentWrong cells rows }
+    ensures { result ≡ fragment_wrong cells rows }
 {
     (0 < cells % Row::WIDTH) | ((Row::MOST < cells / Row::WIDTH) | (cells / Row::WIDTH < rows))
 }

@@ -1,6 +1,6 @@
 // What a cycle is given of the system and the stack, and the cells that are built of them for the next row.
 ghost use Rattle.std.specs.Prelude.{◌≡◌, ◌-◌};
-ghost use Rattle.rows.specs.records.Built.{builtSystem, builtStack, reversed16, noSystem, noStack, readSystem, readStack, read16};
+ghost use Rattle.rows.specs.records.Built.{built_system, built_stack, reversed16, no_system, no_stack, read_system, read_stack, read16};
 
 use crate::records::ids::{ContextId, RowIndex};
 use field::felt::{Felt, reduce};
@@ -39,7 +39,7 @@ pub struct StackCols {
 impl SystemCols {
     // The cells before any row is built.
     pub fn zeros() -> Self
-        ensures { result ≡ noSystem }
+        ensures { result ≡ no_system }
     {
         Self {
             clk: Felt::ZERO,
@@ -50,7 +50,7 @@ impl SystemCols {
 
     // The next row's cells.
     pub fn build(system: SystemState) -> Self
-        ensures { result ≡ builtSystem system }
+        ensures { result ≡ built_system system }
     {
         let fn_hash = system.fn_hash;
         Self {
@@ -62,7 +62,7 @@ impl SystemCols {
 
     // The cells read modulo p.
     pub fn read(self) -> Self
-        ensures { result ≡ readSystem self }
+        ensures { result ≡ read_system self }
     {
         let hash = self.fn_hash;
         Self {
@@ -106,7 +106,7 @@ fn read_top(t: [u64; 16]) -> [u64; 16]
 impl StackCols {
     // The cells before any row is built.
     pub fn zeros() -> Self
-        ensures { result ≡ noStack }
+        ensures { result ≡ no_stack }
     {
         Self {
             top: [Felt::ZERO; 16],
@@ -118,7 +118,7 @@ impl StackCols {
 
     // The next row's cells.
     pub fn build(stack: StackState) -> Self
-        ensures { result ≡ builtStack stack }
+        ensures { result ≡ built_stack stack }
     {
         let t = stack.stack_top;
         let stored = reversed(&t);
@@ -134,7 +134,7 @@ impl StackCols {
 
     // The cells read modulo p.
     pub fn read(self) -> Self
-        ensures { result ≡ readStack self }
+        ensures { result ≡ read_stack self }
     {
         let t = self.top;
         let top = read_top(t);

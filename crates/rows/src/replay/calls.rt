@@ -2,10 +2,10 @@
 // first; where one refuses, its number is answered and nothing is written.
 ghost use Rattle.std.specs.Prelude.{◌≡◌, ◌/◌, ◌<◌, length};
 ghost use Rattle.groups.specs.Answer.{refusal, accepted, pick};
-ghost use Rattle.rows.specs.replay.Calls.{lentSetting, lentScanned, refusing, callDone, callWritten, through, written, ending, nextState, nextPositions, told, replayed, replayedFragment};
-ghost use Rattle.rows.specs.ways.Inner.{storingDone};
+ghost use Rattle.rows.specs.replay.Calls.{lent_setting, lent_scanned, refusing, call_done, call_written, through, written, ending, next_state, next_positions, told, replayed, replayed_fragment};
+ghost use Rattle.rows.specs.ways.Inner.{storing_done};
 ghost use Rattle.rows.specs.ways.Pairs.{Goes};
-ghost use Rattle.rows.specs.records.CallRecords.{storedInRecord, toldStored, finishIn, finishes, call_in};
+ghost use Rattle.rows.specs.records.CallRecords.{stored_in_record, told_stored, finish_in, finishes, call_in};
 
 use crate::cycles::cycle::{cycle_with, kept};
 use crate::cycles::scan::{Scan, scan_lent};
@@ -47,7 +47,7 @@ fn refuse(n: u32, tracer: CoreTraceGenerationTracer) -> CoreTraceGenerationTrace
 
 // The number that a storing's record is refused with, or 0.
 fn stored_refusal(found: StoredFound) -> u32
-    ensures { result ≡ refusal (toldStored found) }
+    ensures { result ≡ refusal (told_stored found) }
 {
     match found {
         StoredFound::Refused(n) => n,
@@ -57,7 +57,7 @@ fn stored_refusal(found: StoredFound) -> u32
 
 // A storing.
 fn store(numbers: &[u64], tracer: CoreTraceGenerationTracer) -> CoreTraceGenerationTracer
-    ensures { result ≡ storingDone tracer (storedInRecord numbers.now) }
+    ensures { result ≡ storing_done tracer (stored_in_record numbers.now) }
 {
     let found = stored_at(numbers);
     let StoredFound::Are(values) = found else {
@@ -88,10 +88,10 @@ fn finish_in(
     tracer: CoreTraceGenerationTracer,
     fragment: &mut [u64],
 ) -> CoreTraceGenerationTracer
-    ensures value { result ≡ callDone (lentSetting scan profile nodes digests batches groups ops directory addresses parents ends fragment) tracer
+    ensures value { result ≡ call_done (lent_setting scan profile nodes digests batches groups ops directory addresses parents ends fragment) tracer
         (accepted (finishes forest_number system stack registers)) }
     ensures fragment_after { fragment.new ≡ pick write
-        (callWritten (lentSetting scan profile nodes digests batches groups ops directory addresses parents ends fragment)
+        (call_written (lent_setting scan profile nodes digests batches groups ops directory addresses parents ends fragment)
         tracer (accepted (finishes forest_number system stack registers)) fragment.old)
         fragment.old }
 {
@@ -140,11 +140,11 @@ fn cycle_call(
     tracer: CoreTraceGenerationTracer,
     fragment: &mut [u64],
 ) -> CoreTraceGenerationTracer
-    ensures value { result ≡ callDone (lentSetting scan profile nodes digests batches groups ops directory addresses parents ends fragment) tracer
-        (finishIn numbers.now) }
+    ensures value { result ≡ call_done (lent_setting scan profile nodes digests batches groups ops directory addresses parents ends fragment) tracer
+        (finish_in numbers.now) }
     ensures fragment_after { fragment.new ≡ pick write
-        (callWritten (lentSetting scan profile nodes digests batches groups ops directory addresses parents ends fragment)
-        tracer (finishIn numbers.now) fragment.old)
+        (call_written (lent_setting scan profile nodes digests batches groups ops directory addresses parents ends fragment)
+        tracer (finish_in numbers.now) fragment.old)
         fragment.old }
 {
     let system_found = system_at(numbers);
@@ -200,10 +200,10 @@ fn call(
     tracer: CoreTraceGenerationTracer,
     fragment: &mut [u64],
 ) -> CoreTraceGenerationTracer
-    ensures value { result ≡ callDone (lentSetting scan profile nodes digests batches groups ops directory addresses parents ends fragment) tracer
+    ensures value { result ≡ call_done (lent_setting scan profile nodes digests batches groups ops directory addresses parents ends fragment) tracer
         (call_in numbers.now) }
     ensures fragment_after { fragment.new ≡ pick write
-        (callWritten (lentSetting scan profile nodes digests batches groups ops directory addresses parents ends fragment)
+        (call_written (lent_setting scan profile nodes digests batches groups ops directory addresses parents ends fragment)
         tracer (call_in numbers.now) fragment.old)
         fragment.old }
 {
@@ -236,7 +236,7 @@ fn go_on(
     fragment: &mut [u64],
 ) -> Followed
     requires { k < length records.now / 32 }
-    ensures { Goes (lentSetting scan profile nodes digests batches groups ops directory addresses parents ends fragment)
+    ensures { Goes (lent_setting scan profile nodes digests batches groups ops directory addresses parents ends fragment)
         records.now k tracer write fragment.old fragment.new result }
 {
     let start = 32 * k;
@@ -302,10 +302,10 @@ fn run(
     first: CoreTraceGenerationTracer,
     fragment: &mut [u64],
 ) -> CoreTraceGenerationTracer
-    ensures value { result ≡ through (lentSetting scan profile nodes digests batches groups ops directory addresses parents ends fragment)
+    ensures value { result ≡ through (lent_setting scan profile nodes digests batches groups ops directory addresses parents ends fragment)
         records.now first (length records.now / 32) }
     ensures fragment_after { fragment.new ≡ pick write
-        (written (lentSetting scan profile nodes digests batches groups ops directory addresses parents ends fragment)
+        (written (lent_setting scan profile nodes digests batches groups ops directory addresses parents ends fragment)
         records.now first fragment.old (length records.now / 32))
         fragment.old }
 {
@@ -334,7 +334,7 @@ fn ended(numbers: usize, tracer: CoreTraceGenerationTracer) -> CoreTraceGenerati
 
 // The address state that the next fragment goes on from; zeros on a refusal.
 fn next_state(tracer: CoreTraceGenerationTracer) -> DecoderState
-    ensures { result ≡ nextState tracer }
+    ensures { result ≡ next_state tracer }
 {
     if tracer.refusal != 0 {
         return DecoderState {
@@ -347,7 +347,7 @@ fn next_state(tracer: CoreTraceGenerationTracer) -> DecoderState
 
 // The queue positions that the next fragment goes on from; zeros on a refusal.
 fn next_positions(tracer: CoreTraceGenerationTracer) -> Positions
-    ensures { result ≡ nextPositions tracer }
+    ensures { result ≡ next_positions tracer }
 {
     if tracer.refusal != 0 {
         return Positions {
@@ -394,10 +394,10 @@ pub fn replay_calls(
     records: &[u64],
     fragment: &mut [u64],
 ) -> Replayed
-    ensures value { result ≡ replayed (lentScanned profile nodes digests batches groups ops directory addresses parents ends fragment) state at
+    ensures value { result ≡ replayed (lent_scanned profile nodes digests batches groups ops directory addresses parents ends fragment) state at
         records.now }
-    ensures fragment_after { fragment.new ≡ replayedFragment
-        (lentScanned profile nodes digests batches groups ops directory addresses parents ends fragment) state at
+    ensures fragment_after { fragment.new ≡ replayed_fragment
+        (lent_scanned profile nodes digests batches groups ops directory addresses parents ends fragment) state at
         records.now fragment.old }
 {
     let scan = scan_lent(profile, nodes, batches, ops);

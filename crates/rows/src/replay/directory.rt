@@ -1,7 +1,7 @@
 // Several forests in the lent slices, found through a directory of six numbers a forest: its first slot and how many it has (of `nodes`
 // and `digests`), its first batch record and how many (of `batches` and `groups`), its first opcode and how many (of `ops`).
 ghost use Rattle.std.specs.Prelude.{◌≡◌, ◌+◌, ◌-◌, ◌≤◌};
-ghost use Rattle.rows.specs.replay.Calls.{directoryEntry, window};
+ghost use Rattle.rows.specs.replay.Calls.{directory_entry, window};
 ghost use Rattle.rows.specs.ways.Inner.{clipped};
 
 use groups::number::number;
@@ -19,7 +19,7 @@ pub struct DirectoryEntry {
 
 // The parts of a forest; of a number that is not in the directory, empty ones.
 pub fn directory_entry(directory: &[u32], forest: u64) -> DirectoryEntry
-    ensures { result ≡ directoryEntry directory.now forest }
+    ensures { result ≡ directory_entry directory.now forest }
 {
     if (directory.len() / 6) as u64 <= forest {
         return DirectoryEntry {

@@ -2,10 +2,10 @@
 // move; the tracer is made once, behind the last pair. A pair that is refused, and a record that is of no pair, end the stretch and are left to
 // the plain code.
 ghost use Rattle.std.specs.Prelude.{◌≡◌, ◌/◌, ◌≤◌, ◌<◌, ◌-◌, length};
-ghost use Rattle.rows.specs.records.Lent.{lentForest, lentQueues};
+ghost use Rattle.rows.specs.records.Lent.{lent_forest, lent_queues};
 ghost use Rattle.rows.specs.cycles.Made.{cursor};
-ghost use Rattle.rows.specs.replay.Calls.{lentSetting};
-ghost use Rattle.rows.specs.ways.Pairs.{ClkBehind, SystemBuilt, StackBuilt, StoresOperation, OperationIn, HelpersIn, RowBehind, pairMade, Makes, ArePair, TakesOperation, TakesPair, Walks, BuiltBefore, StandsAt, Follows};
+ghost use Rattle.rows.specs.replay.Calls.{lent_setting};
+ghost use Rattle.rows.specs.ways.Pairs.{ClkBehind, SystemBuilt, StackBuilt, StoresOperation, OperationIn, HelpersIn, RowBehind, pair_made, Makes, ArePair, TakesOperation, TakesPair, Walks, BuiltBefore, StandsAt, Follows};
 
 use crate::cycles::cycle::left_after;
 use crate::cycles::made::{Made, make};
@@ -170,7 +170,7 @@ fn operation_at(
     index: u32,
     op: u32,
 ) -> OpFound
-    ensures { OperationIn result (lentForest nodes digests batches groups ops) push id index op }
+    ensures { OperationIn result (lent_forest nodes digests batches groups ops) push id index op }
 {
     if kind_at(nodes, digests, id) != 2 {
         return OpFound::Not;
@@ -228,7 +228,7 @@ fn operation_pair(
     at: Positions,
     fragment: &mut [u64],
 ) -> PairFound
-    ensures { TakesOperation result (lentForest nodes digests batches groups ops) push id index op
+    ensures { TakesOperation result (lent_forest nodes digests batches groups ops) push id index op
         before.now c.now row (cursor state at) write fragment.old fragment.new }
 {
     let OpFound::Is(opcode, cells) = operation_at(
@@ -274,7 +274,7 @@ fn made_of(
     state: DecoderState,
     at: Positions,
 ) -> Made
-    ensures { Makes result (pairMade (lentForest nodes digests batches groups ops) (lentQueues addresses parents ends) profile
+    ensures { Makes result (pair_made (lent_forest nodes digests batches groups ops) (lent_queues addresses parents ends) profile
         s.now c.now (cursor state at)) }
 {
     let StoredFound::Are(values) = stored_at(s) else {
@@ -324,7 +324,7 @@ fn any_pair(
     at: Positions,
     fragment: &mut [u64],
 ) -> PairFound
-    ensures { TakesPair result (lentForest nodes digests batches groups ops) (lentQueues addresses parents ends) profile
+    ensures { TakesPair result (lent_forest nodes digests batches groups ops) (lent_queues addresses parents ends) profile
         before.now s.now c.now row (cursor state at) write fragment.old fragment.new }
 {
     let made = made_of(
@@ -367,7 +367,7 @@ fn pair(
     at: Positions,
     fragment: &mut [u64],
 ) -> PairFound
-    ensures { TakesPair result (lentForest nodes digests batches groups ops) (lentQueues addresses parents ends) profile
+    ensures { TakesPair result (lent_forest nodes digests batches groups ops) (lent_queues addresses parents ends) profile
         before.now s.now c.now row (cursor state at) write fragment.old fragment.new }
 {
     let OpStored::Is(id, index, op) = operation_of(s) else {
@@ -428,7 +428,7 @@ fn walk_pairs(
     fragment: &mut [u64],
 ) -> Walk
     requires { 0 < from.next }
-    ensures { Walks (lentForest nodes digests batches groups ops) (lentQueues addresses parents ends) profile forest
+    ensures { Walks (lent_forest nodes digests batches groups ops) (lent_queues addresses parents ends) profile forest
         records.now write from fragment.old result fragment.new }
 {
     let rows = fragment.len() / Row::WIDTH;
@@ -546,7 +546,7 @@ pub(crate) fn follow(
 ) -> Followed
     requires k_nonzero { (0 < k) × (k ≤ length records.now / 32) }
     requires built_before { BuiltBefore records.now k tracer }
-    ensures { Follows (lentSetting scan profile nodes digests batches groups ops directory addresses parents ends fragment)
+    ensures { Follows (lent_setting scan profile nodes digests batches groups ops directory addresses parents ends fragment)
         records.now k tracer write fragment.old fragment.new result }
 {
     let wrong = fragment_wrong(fragment.len(), tracer.row_write_index);

@@ -6,7 +6,7 @@ use borrow.Author.Rules.{rules}
 use lib.ListN.{length}
 use Rattle.theory_dumps.specs.Numerals.{binary}
 use Rattle.theory_dumps.proofs.NumeralLaws.{few-digits}
-use Rattle.dump.specs.ways.Places.{oldAt, value_at}
+use Rattle.dump.specs.ways.Places.{old_at, value_at}
 use Rattle.dump.proofs.LengthLaws.{no_bytes, some_bytes}
 use Rattle.dump.proofs.lengths.change_bytes.Statement.{statement}
 use Rattle.dump.proofs.lengths.change_bytes.Tie as tie
@@ -15,7 +15,7 @@ returns : tie.Need-returns
 returns c =
     let a = c.before.before.before.args in
     let s = a.cells.now in
-    no_bytes a.column (oldAt s a.row a.column) (value_at s a.row a.column) (sym c.before.unchanged.ensures ∙ c.if1.true)
+    no_bytes a.column (old_at s a.row a.column) (value_at s a.row a.column) (sym c.before.unchanged.ensures ∙ c.if1.true)
 
 add-result : tie.Need-overflow-add-result
 add-result c = omega (arith, c.binary-digits.ensures, few-digits 2 64 c.before.cell.result)
@@ -27,7 +27,7 @@ returns-2 c =
     let a = b.before.before.before.args in
     let s = a.cells.now in
     ap (λ (n : ℕ). 4 + n) (c.binary-digits.ensures ∙ ap (λ (n : ℕ). length (binary n)) v.ensures)
-    ∙ some_bytes a.column (oldAt s a.row a.column) (value_at s a.row a.column) (sym b.before.unchanged.ensures ∙ b.if1.false)
+    ∙ some_bytes a.column (old_at s a.row a.column) (value_at s a.row a.column) (sym b.before.unchanged.ensures ∙ b.if1.false)
 
 pub change-bytes-spec : {M : Type 1} → statement M
 change-bytes-spec =

@@ -4,20 +4,20 @@ use Prim.Native.Nat.{◌+◌, ◌-◌, ◌≤◌}
 use native.Mathlib.Omega.{arith}
 use borrow.Author.Rules.{rules}
 use lib.ListN.{length}
-use Rattle.dump.specs.ways.Places.{changesTo}
+use Rattle.dump.specs.ways.Places.{changes_to}
 use Rattle.dump.proofs.LengthLaws.{column-bytes}
 use Rattle.dump.proofs.Places.{changes-length}
 use Rattle.dump.proofs.lengths.changes_bytes.Statement.{statement}
 use Rattle.dump.proofs.lengths.changes_bytes.Tie as tie
 
 abbrev invariant-loop : tie.invariant-loop
-invariant-loop cells row bytes₀ column₀ bytes column = (bytes ≡ length (changesTo cells row column)) × (column ≤ 49)
+invariant-loop cells row bytes₀ column₀ bytes column = (bytes ≡ length (changes_to cells row column)) × (column ≤ 49)
 
 abbrev decreases-loop : tie.decreases-loop
 decreases-loop cells row bytes₀ column₀ bytes column = 49 - column
 
 loop-holds : tie.Need-loop-init invariant-loop decreases-loop
-unfolding changesTo
+unfolding changes_to
 loop-holds c = (omega arith, omega arith)
 
 add-bytes : tie.Need-overflow-add-bytes invariant-loop decreases-loop
@@ -37,7 +37,7 @@ returns c =
     let l = c.before.loop in
     let a = c.before.before.before.args in
     let e : l.column ≡ 49 = omega (arith, l.invariant.1, c.loop-test.false) in
-    l.invariant.0 ∙ ap (λ n. length (changesTo a.cells.now a.row n)) e
+    l.invariant.0 ∙ ap (λ n. length (changes_to a.cells.now a.row n)) e
 
 pub changes-bytes-spec : {M : Type 1} → statement M
 changes-bytes-spec =

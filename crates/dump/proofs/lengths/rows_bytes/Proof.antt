@@ -4,20 +4,20 @@ use Prim.Native.Nat.{◌+◌, ◌-◌, ◌/◌, ◌≤◌}
 use native.Mathlib.Omega.{arith}
 use borrow.Author.Rules.{rules}
 use lib.ListN.{length}
-use Rattle.dump.specs.ways.Places.{linesTo}
+use Rattle.dump.specs.ways.Places.{lines_to}
 use Rattle.dump.proofs.LengthLaws.{row-bytes}
 use Rattle.dump.proofs.Places.{lines-length}
 use Rattle.dump.proofs.lengths.rows_bytes.Statement.{statement}
 use Rattle.dump.proofs.lengths.rows_bytes.Tie as tie
 
 abbrev invariant-loop : tie.invariant-loop
-invariant-loop cells rows bytes₀ row₀ bytes row = (bytes ≡ length (linesTo cells row)) × (row ≤ length cells / 49)
+invariant-loop cells rows bytes₀ row₀ bytes row = (bytes ≡ length (lines_to cells row)) × (row ≤ length cells / 49)
 
 abbrev decreases-loop : tie.decreases-loop
 decreases-loop cells rows bytes₀ row₀ bytes row = length cells / 49 - row
 
 loop-holds : tie.Need-loop-init invariant-loop decreases-loop
-unfolding linesTo
+unfolding lines_to
 loop-holds c = (omega arith, omega arith)
 
 decimal-digits-requires : tie.Need-decimal-digits-requires invariant-loop decreases-loop
@@ -57,7 +57,7 @@ returns c =
     let l = c.before.loop in
     let a = c.before.before.before.args in
     let e : l.row ≡ length a.cells.now / 49 = omega (arith, l.invariant.1, c.loop-test.false) in
-    l.invariant.0 ∙ ap (λ n. length (linesTo a.cells.now n)) e
+    l.invariant.0 ∙ ap (λ n. length (lines_to a.cells.now n)) e
 
 pub rows-bytes-spec : {M : Type 1} → statement M
 rows-bytes-spec =

@@ -7,7 +7,7 @@ use native.Mathlib.Omega.{arith}
 use borrow.Author.Rules.{rules}
 use lib.ListN.{length, drop, length-set}
 use lib.Seq.{drop-length}
-use Rattle.theory_dumps.specs.Numerals.{numeralWithin}
+use Rattle.theory_dumps.specs.Numerals.{numeral_within}
 use Rattle.theory_dumps.proofs.NumeralLaws.{more-digits, fewer_digits, digit-put, first-digit-put}
 use Rattle.dump.proofs.numeral.put_digits.Statement.{statement}
 use Rattle.dump.proofs.numeral.put_digits.Tie as tie
@@ -15,7 +15,7 @@ use Rattle.dump.proofs.numeral.put_digits.Tie as tie
 abbrev invariant-loop : tie.invariant-loop
 invariant-loop base n out₀ at₀ rest₀ out at rest =
     (0 < at) × (at ≤ length out₀) × (length out ≡ length out₀) × (rest < base ^ at)
-    × (numeralWithin base at rest ++ drop at out ≡ numeralWithin base (length out₀) n)
+    × (numeral_within base at rest ++ drop at out ≡ numeral_within base (length out₀) n)
 
 abbrev decreases-loop : tie.decreases-loop
 decreases-loop base n out₀ at₀ rest₀ out at rest = at

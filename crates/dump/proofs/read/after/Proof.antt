@@ -4,7 +4,7 @@ use mathlib.Core.Bool.{true}
 use native.Mathlib.Omega.{arith}
 use borrow.Author.Rules.{rules}
 use lib.ListN.{drop, length-drop}
-use Rattle.dump.specs.ways.Scanning.{inFront}
+use Rattle.dump.specs.ways.Scanning.{in_front}
 use Rattle.dump.proofs.ScanLaws.{front_fits}
 use Rattle.dump.proofs.ReadLaws.{behind-good, behind-none}
 use Rattle.dump.proofs.read.after.Statement.{statement}
@@ -13,7 +13,7 @@ use Rattle.dump.proofs.read.after.Tie as tie
 add : tie.Need-overflow-add-t6
 add c =
     let a = c.before.before.before.before.args in
-    let e : inFront a.line.now (drop a.at a.text.now) ≡ true = sym c.before.stands_at.ensures ∙ c.if1.true in
+    let e : in_front a.line.now (drop a.at a.text.now) ≡ true = sym c.before.stands_at.ensures ∙ c.if1.true in
     omega (arith, front_fits a.line.now (drop a.at a.text.now) e, length-drop a.at a.text.now)
 
 returns : tie.Need-returns

@@ -4,7 +4,7 @@ use native.Mathlib.Omega.{arith}
 use borrow.Author.Rules.{rules}
 use borrow.Author.Tests.{not-true, not-false}
 use lib.ListN.{drop, length-drop}
-use Rattle.dump.specs.ways.Scanning.{digitsIn}
+use Rattle.dump.specs.ways.Scanning.{digits_in}
 use Rattle.dump.proofs.DigitLaws.{digits-front, fits}
 use Rattle.dump.proofs.InPlace.{other-value, too_many, not_plain, its-number}
 use Rattle.dump.proofs.read.after_number.Statement.{statement}
@@ -29,7 +29,7 @@ plain-digits-requires c κs =
     let a = c.before.before.before.before.before.before.args in
     let t = drop a.at a.text.now in
     let d = c.before.before.before.before.digits-at in
-    omega (arith, d.ensures.within, fits (digitsIn t) t (digits-front t), length-drop a.at a.text.now)
+    omega (arith, d.ensures.within, fits (digits_in t) t (digits-front t), length-drop a.at a.text.now)
 
 returns-3 : tie.Need-returns-3
 returns-3 c =
@@ -47,7 +47,7 @@ add-end c =
     let a = b.before.before.before.before.args in
     let t = drop a.at a.text.now in
     let d = b.before.before.digits-at in
-    omega (arith, d.ensures.within, fits (digitsIn t) t (digits-front t), length-drop a.at a.text.now)
+    omega (arith, d.ensures.within, fits (digits_in t) t (digits-front t), length-drop a.at a.text.now)
 
 returns-4 : tie.Need-returns-4
 returns-4 c =

@@ -8,7 +8,7 @@ use borrow.Author.Tests.{not-true, not-false}
 use lib.ListN.{length, get_or, drop, length-drop, get_or-eq_default}
 use lib.Seq.{drop-drop, get_or-drop}
 use Rattle.theory_dumps.specs.Numerals.{decimal}
-use Rattle.dump.specs.ways.Scanning.{digitsIn}
+use Rattle.dump.specs.ways.Scanning.{digits_in}
 use Rattle.dump.proofs.DigitLaws.{digits-front, fits}
 use Rattle.dump.proofs.InPlace.{time-there, time-not-there}
 use Rattle.dump.proofs.LineLaws.{first-at}
@@ -28,8 +28,8 @@ returns-2 c =
     time-not-there a.text.now a.at a.row (λ w. c.if2.true (sym (first-at a.text.now a.at) ∙ w.mark))
 
 -- the digits, and the byte behind them, as parts of the text
-digits_from : (text : List ℕ) (at : ℕ) → digitsIn (drop 1 (drop at text)) ≡ digitsIn (drop (at + 1) text)
-digits_from text at = ap digitsIn (drop-drop 1 at text)
+digits_from : (text : List ℕ) (at : ℕ) → digits_in (drop 1 (drop at text)) ≡ digits_in (drop (at + 1) text)
+digits_from text at = ap digits_in (drop-drop 1 at text)
 
 returns-3 : tie.Need-returns-3
 returns-3 c =
@@ -38,12 +38,12 @@ returns-3 c =
     time-not-there a.text.now a.at a.row
     (λ w. n.ensures.no_number (not-true n.result.good c.if3.true) (sym (digits_from a.text.now a.at) ∙ w.is_number))
 
-module _ (text : List ℕ) (at row end : ℕ) (e : digitsIn (drop (at + 1) text) ≡ decimal row) (p : end ≡ at + 1 + length (digitsIn (drop (at + 1) text))) where
+module _ (text : List ℕ) (at row end : ℕ) (e : digits_in (drop (at + 1) text) ≡ decimal row) (p : end ≡ at + 1 + length (digits_in (drop (at + 1) text))) where
   place : end ≡ at + 1 + length (decimal row)
   place = p ∙ ap (λ (l : List ℕ). at + 1 + length l) e
 
   inside : at + 1 ≤ length text → end ≤ length text
-  inside h = omega (arith, fits (digitsIn (drop (at + 1) text)) (drop (at + 1) text) (digits-front (drop (at + 1) text)), length-drop (at + 1) text)
+  inside h = omega (arith, fits (digits_in (drop (at + 1) text)) (drop (at + 1) text) (digits-front (drop (at + 1) text)), length-drop (at + 1) text)
 
   feed-from : get_or (drop at text) (1 + length (decimal row)) 0 ≡ get_or text end 0
   feed-from = get_or-drop at text (1 + length (decimal row)) 0 ∙ ap (λ (i : ℕ). get_or text i 0) (omega (arith, place))
@@ -56,7 +56,7 @@ returns-4 c =
     let t = a.text.now in
     let good = not-false n.result.good b.if3.false in
     let end = n.result.at in
-    let f = feed-from t a.at a.row end (n.ensures.is_number good) (n.ensures.is-end good) in
+    let f = feed-from t a.at a.row end (n.ensures.is_number good) (n.ensures.is_end good) in
     time-not-there t a.at a.row (λ w. omega (arith, w.feed, f, get_or-eq_default t 0 {n = end} (omega (arith, c.if4.true))))
 
 read-feed : tie.Need-shared-slice-read-if5
@@ -67,7 +67,7 @@ read-feed c =
     let a = r.before.before.before.before.args in
     let n = b.before.before.after-number in
     let good = not-false n.result.good b.if3.false in
-    omega (arith, inside a.text.now a.at a.row n.result.at (n.ensures.is_number good) (n.ensures.is-end good) (omega arith), d.if4.false)
+    omega (arith, inside a.text.now a.at a.row n.result.at (n.ensures.is_number good) (n.ensures.is_end good) (omega arith), d.if4.false)
 
 returns-5 : tie.Need-returns-5
 returns-5 c =
@@ -75,7 +75,7 @@ returns-5 c =
     let a = b.before.before.before.before.before.before.before.args in
     let n = b.before.before.after-number in
     let good = not-false n.result.good b.if3.false in
-    let f = feed-from a.text.now a.at a.row n.result.at (n.ensures.is_number good) (n.ensures.is-end good) in
+    let f = feed-from a.text.now a.at a.row n.result.at (n.ensures.is_number good) (n.ensures.is_end good) in
     time-not-there a.text.now a.at a.row (λ w. c.if5.true (sym f ∙ w.feed))
 
 add-end : tie.Need-overflow-add-t6
@@ -86,7 +86,7 @@ add-end c =
     let a = r.before.before.before.before.args in
     let n = b.before.before.after-number in
     let good = not-false n.result.good b.if3.false in
-    omega (arith, inside a.text.now a.at a.row n.result.at (n.ensures.is_number good) (n.ensures.is-end good) (omega arith), d.if4.false)
+    omega (arith, inside a.text.now a.at a.row n.result.at (n.ensures.is_number good) (n.ensures.is_end good) (omega arith), d.if4.false)
 
 returns-6 : tie.Need-returns-6
 returns-6 c =
@@ -98,7 +98,7 @@ returns-6 c =
     let t = a.text.now in
     let good = not-false n.result.good b.if3.false in
     let e = n.ensures.is_number good in
-    let p = n.ensures.is-end good in
+    let p = n.ensures.is_end good in
     let m = inside t a.at a.row n.result.at e p (omega arith) in
     time-there t a.at a.row n.result.at (record {
       mark = first-at t a.at ∙ r.if2.false;

@@ -39,7 +39,7 @@ returns c =
     let l = t.before.loop in
     let z = t.before.before.before in
     let a = z.args in
-    row-end a.text.now a.at a.row.now l.row l.column l.place i.result l.invariant (i.ensures ∙ n.ensures.is-identifier) (omega (arith, t.loop-test.true)) c.if1.true (full z)
+    row-end a.text.now a.at a.row.now l.row l.column l.place i.result l.invariant (i.ensures ∙ n.ensures.is_identifier) (omega (arith, t.loop-test.true)) c.if1.true (full z)
 
 sub-next : tie.Need-overflow-sub-next invariant-loop decreases-loop
 sub-next c = let l = c.before.before.before.before.loop in omega (arith, later c.before.index_of.result l.column c.if1.false)
@@ -67,7 +67,7 @@ returns-2 c =
     let l = b.before.before.before.before.loop in
     let a = b.before.before.before.before.before.before.args in
     let (f, g) = later i.result l.column b.if1.false in
-    line-stop a.text.now a.at a.row.now l.row l.column l.place i.result l.invariant (i.ensures ∙ n.ensures.is-identifier) (omega arith)
+    line-stop a.text.now a.at a.row.now l.row l.column l.place i.result l.invariant (i.ensures ∙ n.ensures.is_identifier) (omega arith)
     (i.result - 33) (omega arith) (omega arith) (omega arith) v.result.good n.result.value v.result.at v.ensures (not-true v.result.good c.if2.true)
 
 loop-again : tie.Need-loop-preserved invariant-loop decreases-loop
@@ -80,7 +80,7 @@ loop-again c =
     let a = b.before.before.before.before.before.before.args in
     let (f, g) = later i.result l.column b.if1.false in
     rw add-one
-    (line-more a.text.now a.at a.row.now l.row l.column l.place i.result l.invariant (i.ensures ∙ n.ensures.is-identifier) (omega arith)
+    (line-more a.text.now a.at a.row.now l.row l.column l.place i.result l.invariant (i.ensures ∙ n.ensures.is_identifier) (omega arith)
     (i.result - 33) (omega arith) (omega arith) (omega arith) v.result.good n.result.value v.result.at v.ensures (not-false v.result.good c.if2.false))
 
 -- the next column is one of the 49

@@ -5,7 +5,7 @@ use native.Mathlib.Numerals.{add-one}
 use borrow.Author.Rules.{rules}
 use borrow.Author.Tests.{not-true, not-false}
 use lib.ListN.{length}
-use Rattle.theory_dumps.specs.ways.Undump.{noValues}
+use Rattle.theory_dumps.specs.ways.Undump.{no_values}
 use Rattle.dump.proofs.RowsLaws.{RowsTo, rows_at, row-progress, count_none, count-end, count-more, count-bad}
 use Rattle.dump.proofs.UndumpLaws.{counted-few, count-over}
 use Rattle.dump.proofs.read_rows.count_rows.Statement.{statement}
@@ -29,7 +29,7 @@ returns c =
     let t = c.before.before.before.before in
     let l = t.before.loop in
     let a = t.before.before.before.args in
-    counted-few (rows_at a.text.now 0 noValues a.at) _ _
+    counted-few (rows_at a.text.now 0 no_values a.at) _ _
     (count-bad a.text.now a.at l.row l.place l.number l.invariant.0 (omega (arith, t.loop-test.true)) r.result.good r.new.1.1.1.0 r.result.at r.ensures (not-true r.result.good c.if1.true))
     (omega arith)
 
@@ -67,7 +67,7 @@ returns-3 : tie.Need-returns-3 invariant-loop decreases-loop
 returns-3 c =
     let l = c.before.loop in
     let a = c.before.before.before.args in
-    counted-few (rows_at a.text.now 0 noValues a.at) _ _ (count-end a.text.now a.at l.row l.place l.number l.invariant.0 (omega arith)) l.invariant.1
+    counted-few (rows_at a.text.now 0 no_values a.at) _ _ (count-end a.text.now a.at l.row l.place l.number l.invariant.0 (omega arith)) l.invariant.1
 
 pub count-rows-spec : {M : Type 1} → statement M
 count-rows-spec =

@@ -5,13 +5,13 @@ use native.Mathlib.Omega.{arith}
 use native.Mathlib.Numerals.{add-one}
 use borrow.Author.Rules.{rules}
 use lib.ListN.{length, drop}
-use Rattle.theory_dumps.specs.ways.Undump.{hasAll}
+use Rattle.theory_dumps.specs.ways.Undump.{has_all}
 use Rattle.dump.proofs.UndumpLaws.{has-next, has-not, has_end}
 use Rattle.dump.proofs.read_text.has_all.Statement.{statement}
 use Rattle.dump.proofs.read_text.has_all.Tie as tie
 
 abbrev invariant-loop : tie.invariant-loop
-invariant-loop row i₀ i = (length row ≡ 49) × (i ≤ 49) × (hasAll row ≡ hasAll (drop i row))
+invariant-loop row i₀ i = (length row ≡ 49) × (i ≤ 49) × (has_all row ≡ has_all (drop i row))
 
 abbrev decreases-loop : tie.decreases-loop
 decreases-loop row i₀ i = 49 - i

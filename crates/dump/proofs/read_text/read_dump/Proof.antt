@@ -6,22 +6,22 @@ use borrow.Author.Tests.{not-true, not-false}
 use lib.ListN.{length}
 use Rattle.groups.specs.Answer.{accepted, refused}
 use Rattle.theory_dumps.specs.ways.Undump.{undump}
-use Rattle.dump.specs.ways.Undumping.{rowsRead, cellsAfter}
-use Rattle.dump.specs.ways.Reading.{theRows}
+use Rattle.dump.specs.ways.Undumping.{rows_read, cells_after}
+use Rattle.dump.specs.ways.Reading.{the_rows}
 use Rattle.dump.proofs.UndumpLaws.{wrong-buffer, no_header, no_rows, too_short, read_all, rows_long, may-store}
 use Rattle.dump.proofs.Waveforms.{right-as}
 use Rattle.dump.proofs.read_text.read_dump.Statement.{statement}
 use Rattle.dump.proofs.read_text.read_dump.Tie as tie
 
 returns : tie.Need-returns
-unfolding rowsRead cellsAfter
+unfolding rows_read cells_after
 returns c =
     let w = c.before.buffer-wrong in
     let a = c.before.before.before.before.args in
     right-as a.text.now a.cells.now (refused 11) (wrong-buffer a.text.now (length a.cells.now) (sym w.ensures ∙ c.if1.true))
 
 returns-2 : tie.Need-returns-2
-unfolding rowsRead cellsAfter
+unfolding rows_read cells_after
 returns-2 c =
     let h = c.before.before.after-header in
     let b = c.before.before.before in
@@ -32,7 +32,7 @@ returns-2 c =
     right-as a.text.now a.cells.now (refused 29) e
 
 returns-3 : tie.Need-returns-3
-unfolding rowsRead cellsAfter
+unfolding rows_read cells_after
 returns-3 c =
     let g = c.before.before.good-rows in
     let d = c.before.before.before in
@@ -45,7 +45,7 @@ returns-3 c =
     right-as a.text.now a.cells.now (refused 29) e
 
 returns-4 : tie.Need-returns-4
-unfolding rowsRead cellsAfter
+unfolding rows_read cells_after
 returns-4 c =
     let t = c.before.before in
     let g = t.before.before.good-rows in
@@ -70,7 +70,7 @@ store-rows-requires c κs =
     (not-false h.result.good d.if2.false) g.result.good g.result.rows g.ensures (not-false g.result.good t.if3.false) (λ z. omega arith)
 
 returns-5 : tie.Need-returns-5
-unfolding rowsRead cellsAfter
+unfolding rows_read cells_after
 returns-5 c =
     let t = c.before.before.before.before.before.before in
     let g = t.before.before.good-rows in
@@ -83,7 +83,7 @@ returns-5 c =
     let good = not-false g.result.good t.if3.false in
     let e = read_all a.text.now (length a.cells.now) w h.result.good h.result.at h.ensures start g.result.good g.result.rows g.ensures good (λ z. omega arith) in
     let l = rows_long a.text.now (length a.cells.now) w h.result.good h.result.at h.ensures start g.result.good g.result.rows g.ensures good in
-    let answer = right-as a.text.now a.cells.now (accepted (theRows (undump a.text.now))) e in
+    let answer = right-as a.text.now a.cells.now (accepted (the_rows (undump a.text.now))) e in
     rw (c.before.before.store-rows.ensures, ← l) answer
 
 pub read-dump-spec : {M : Type 1} → statement M

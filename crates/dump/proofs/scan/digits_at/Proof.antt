@@ -8,7 +8,7 @@ use native.Mathlib.Numerals.{add-one}
 use borrow.Author.Rules.{rules}
 use lib.ListN.{length, get_or, drop, length-drop}
 use lib.Seq.{get_or-drop}
-use Rattle.dump.proofs.DigitLaws.{noDigit, DigitsTo, digits-none, read-end, read-stop, read_above, read_more, is_digit}
+use Rattle.dump.proofs.DigitLaws.{no_digit, DigitsTo, digits-none, read-end, read-stop, read_above, read_more, is_digit}
 use Rattle.dump.proofs.scan.digits_at.Statement.{statement}
 use Rattle.dump.proofs.scan.digits_at.Tie as tie
 
@@ -49,7 +49,7 @@ returns-2 c =
     let t : List ℕ = drop a.at a.text.now in
     let w = c.before.before.wide in
     let e : get_or t l.count 0 ≡ w.result = get_or-drop a.at a.text.now l.count 0 ∙ sym w.ensures in
-    let d : noDigit (get_or t l.count 0) ≡ false = rw e c.before.if1.false in
+    let d : no_digit (get_or t l.count 0) ≡ false = rw e c.before.if1.false in
     rw (← e) (read_above t a.most l.count l.value l.invariant (omega (arith, length-drop a.at a.text.now)) d (rw e c.if2.true))
 
 loop-again : tie.Need-loop-preserved invariant-loop decreases-loop
@@ -59,7 +59,7 @@ loop-again c =
     let t : List ℕ = drop a.at a.text.now in
     let w = c.before.before.wide in
     let e : get_or t l.count 0 ≡ w.result = get_or-drop a.at a.text.now l.count 0 ∙ sym w.ensures in
-    let d : noDigit (get_or t l.count 0) ≡ false = rw e c.before.if1.false in
+    let d : no_digit (get_or t l.count 0) ≡ false = rw e c.before.if1.false in
     rw (add-one, ← e) (read_more t a.most l.count l.value l.invariant (omega (arith, length-drop a.at a.text.now)) d (rw e (λ z. omega (arith, c.if2.false))))
 
 returns-3 : tie.Need-returns-3 invariant-loop decreases-loop

@@ -5,14 +5,14 @@ use native.Mathlib.Omega.{arith}
 use native.Mathlib.Numerals.{add-one}
 use borrow.Author.Rules.{rules}
 use lib.ListN.{length, drop, length-drop}
-use Rattle.dump.specs.ways.Scanning.{inFront}
+use Rattle.dump.specs.ways.Scanning.{in_front}
 use Rattle.dump.proofs.ScanLaws.{front-short, front_same, front-other, front-end}
 use Rattle.dump.proofs.scan.stands_at.Statement.{statement}
 use Rattle.dump.proofs.scan.stands_at.Tie as tie
 
 abbrev invariant-loop : tie.invariant-loop
 invariant-loop text at line i₀ i =
-    (at + length line ≤ length text) × (i ≤ length line) × (inFront line (drop at text) ≡ inFront (drop i line) (drop i (drop at text)))
+    (at + length line ≤ length text) × (i ≤ length line) × (in_front line (drop at text) ≡ in_front (drop i line) (drop i (drop at text)))
 
 abbrev decreases-loop : tie.decreases-loop
 decreases-loop text at line i₀ i = length line - i

@@ -18,7 +18,7 @@ abbrev decreases-loop : tie.decreases-loop
 decreases-loop text₀ at bytes end j₀ text j = length bytes - j
 
 returns : tie.Need-returns invariant-loop decreases-loop
-returns c = record { is-end = refl; long = refl; is-put = λ h. absurd (omega (arith, h, c.if1.true)) }
+returns c = record { is_end = refl; long = refl; is_put = λ h. absurd (omega (arith, h, c.if1.true)) }
 
 loop-holds : tie.Need-loop-init invariant-loop decreases-loop
 loop-holds c =
@@ -47,9 +47,9 @@ returns-2 c =
     let i = l.invariant in
     let e : l.j ≡ length a.bytes.now = omega (arith, i.1, c.loop-test.false) in
     record {
-      is-end = refl;
+      is_end = refl;
       long = i.2;
-      is-put = λ h. i.0 ∙ ap (paste a.text.now a.at a.bytes.now) e
+      is_put = λ h. i.0 ∙ ap (paste a.text.now a.at a.bytes.now) e
           ∙ ap (λ (x : List ℕ). take a.at a.text.now ++ x ++ drop (a.at + length a.bytes.now) a.text.now) (take-length a.bytes.now);
     }
 

@@ -3,20 +3,20 @@ use mathlib.Core.Path.{ap}
 use mathlib.Core.List.{List, [], ◌∷◌, ◌++◌}
 use Prim.Native.Nat.{ℕ}
 use borrow.Author.Rules.{rules}
-use Rattle.theory_dumps.specs.Dumps.{timeLine}
+use Rattle.theory_dumps.specs.Dumps.{time_line}
 use Rattle.dump.proofs.Putting.{line-put, part-is}
 use Rattle.dump.proofs.text.put_time.Statement.{statement}
 use Rattle.dump.proofs.text.put_time.Tie as tie
 
 returns : tie.Need-returns
-unfolding timeLine
+unfolding time_line
 returns c =
     let p = c.before.before in
     let q = p.before.before.before.before.before in
     let r = q.before.before.before.before.before.before in
     let d = r.before.before.before.before in
     let s = d.before.before.before in
-    line-put (timeLine s.args.row) r.put-bytes.ensures q.put-bytes2.ensures p.put-bytes3.ensures
+    line-put (time_line s.args.row) r.put-bytes.ensures q.put-bytes2.ensures p.put-bytes3.ensures
     (ap (λ (l : List ℕ). 35 ∷ (l ++ (10 ∷ []))) (part-is d.put-digits.new.1.1.0 20 d.put-digits.result d.put-digits.ensures.1 d.put-digits.ensures.2))
 
 pub put-time-spec : {M : Type 1} → statement M

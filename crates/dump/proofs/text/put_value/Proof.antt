@@ -3,20 +3,20 @@ use mathlib.Core.Path.{ap}
 use mathlib.Core.List.{List, [], ◌∷◌, ◌++◌}
 use Prim.Native.Nat.{ℕ}
 use borrow.Author.Rules.{rules}
-use Rattle.theory_dumps.specs.Dumps.{identifier, valueLine}
+use Rattle.theory_dumps.specs.Dumps.{identifier, value_line}
 use Rattle.dump.proofs.Putting.{line-put, part-is}
 use Rattle.dump.proofs.text.put_value.Statement.{statement}
 use Rattle.dump.proofs.text.put_value.Tie as tie
 
 returns : tie.Need-returns
-unfolding valueLine
+unfolding value_line
 returns c =
     let p = c.before.before in
     let q = p.before.before.before.before.before in
     let r = q.before.before.before.before.before.before in
     let d = r.before.before.before.before in
     let s = d.before.before.before in
-    line-put (valueLine s.args.column s.args.value) r.put-bytes.ensures q.put-bytes2.ensures p.put-bytes3.ensures
+    line-put (value_line s.args.column s.args.value) r.put-bytes.ensures q.put-bytes2.ensures p.put-bytes3.ensures
     (ap (λ (l : List ℕ). 98 ∷ (l ++ (32 ∷ identifier s.args.column ∷ 10 ∷ []))) (part-is d.put-digits.new.1.1.0 64 d.put-digits.result d.put-digits.ensures.1 d.put-digits.ensures.2))
 
 pub put-value-spec : {M : Type 1} → statement M

@@ -12,7 +12,7 @@ put-rows-requires : tie.Need-put-rows-requires
 put-rows-requires c κs =
     let h = c.before.before.before in
     let s = h.before.before.before.before in
-    (omega (arith, h.put-header.ensures.is-end, header-length), s.requires.1)
+    (omega (arith, h.put-header.ensures.is_end, header-length), s.requires.1)
 
 returns : tie.Need-returns
 returns c =

@@ -6,13 +6,13 @@ use native.Mathlib.Omega.{arith}
 use borrow.Author.Rules.{rules}
 use lib.ListN.{length, drop}
 use Rattle.theory_dumps.specs.Dumps.{dump}
-use Rattle.dump.specs.Dumping.{textAfter}
+use Rattle.dump.specs.Dumping.{text_after}
 use Rattle.dump.proofs.Writing.{rows-within, rows-wrong, text-short, text-fits}
 use Rattle.dump.proofs.write.write_dump.Statement.{statement}
 use Rattle.dump.proofs.write.write_dump.Tie as tie
 
 returns : tie.Need-returns
-unfolding textAfter
+unfolding text_after
 returns c =
     let t = c.before.rows-wrong in
     let a = c.before.before.before.before.args in
@@ -24,7 +24,7 @@ dump-bytes-requires c κs =
     rows-within (length a.cells.now) (sym c.before.rows-wrong.ensures ∙ c.if1.false)
 
 returns-2 : tie.Need-returns-2
-unfolding textAfter
+unfolding text_after
 returns-2 c =
     let b = c.before.before in
     let a = b.before.before.before.before.args in
@@ -38,17 +38,17 @@ put-dump-requires c κs =
     rows-within (length a.cells.now) (sym b.before.rows-wrong.ensures ∙ b.if1.false)
 
 returns-3 : tie.Need-returns-3
-unfolding textAfter
+unfolding text_after
 returns-3 c =
     let q = c.before.before in
     let t = q.before.before in
     let b = t.before.before in
     let a = b.before.before.before.before.args in
     let e : t.before.dump-bytes.result ≡ length (dump a.cells.now) = t.before.dump-bytes.ensures in
-    let f : q.put-dump.result ≡ length (dump a.cells.now) = omega (arith, q.put-dump.ensures.is-end) in
+    let f : q.put-dump.result ≡ length (dump a.cells.now) = omega (arith, q.put-dump.ensures.is_end) in
     rw (text-fits a.cells.now (length a.text.now) (sym b.before.rows-wrong.ensures ∙ b.if1.false) (omega (arith, t.if2.false, e))) (
       (refl, e),
-      q.put-dump.ensures.is-put (omega (arith, t.if2.false, e, f)) ∙ ap (λ (n : ℕ). dump a.cells.now ++ drop n a.text.now) f,
+      q.put-dump.ensures.is_put (omega (arith, t.if2.false, e, f)) ∙ ap (λ (n : ℕ). dump a.cells.now ++ drop n a.text.now) f,
     )
 
 pub write-dump-spec : {M : Type 1} → statement M

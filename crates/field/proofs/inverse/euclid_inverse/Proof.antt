@@ -4,7 +4,7 @@ use Prim.Native.Nat.{ℕ, ◌+◌, ◌*◌, ◌/◌, ◌%◌, ◌<◌, ◌≤◌
 use native.Mathlib.Nat.{mod-lt}
 use native.Mathlib.Omega.{arith}
 use Rattle.field.specs.Modulus.{P}
-use Rattle.field.specs.Inverse.{inverseOf}
+use Rattle.field.specs.Inverse.{inverse_of}
 use Rattle.field.proofs.InverseLaws.{inverse-is}
 use Rattle.field.proofs.Bezout.{Bezout, start, step-u, step-v, fits-u, fits-v, u-nonzero, v-nonzero, end-u, end-v}
 use Rattle.field.proofs.inverse.euclid_inverse.Statement.{statement}
@@ -37,7 +37,7 @@ module _ (x u v s t : ℕ) (b : Bezout x u v s t) (p : (0 < x) × (x < P)) (h : 
   less n = omega (arith, big n, mod-lt v {m = u % v} (omega (arith, big n)), mod-lt u {m = v} (omega arith))
 
 -- what the law of the inverse asks of the result
-is_inverse : (x y : ℕ) → (0 < x) × (x < P) → ((x * y) % P ≡ 1) × (y < P) → y ≡ inverseOf x
+is_inverse : (x y : ℕ) → (0 < x) × (x < P) → ((x * y) % P ≡ 1) × (y < P) → y ≡ inverse_of x
 is_inverse x y p e = inverse-is x y p.0 p.1 e.1 e.0
 
 finish : (x u v s t : ℕ) → Bezout x u v s t × (1 < u) → (0 < x) × (x < P) → v ≤ 1 → ((x * t) % P ≡ 1) × (t < P)

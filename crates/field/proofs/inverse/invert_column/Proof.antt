@@ -6,8 +6,8 @@ use Prim.Native.Nat.{ℕ, ◌+◌, ◌*◌, ◌-◌, ◌≤◌, ◌<◌}
 use native.Mathlib.Omega.{arith}
 use borrow.Author.Rules.{rules}
 use lib.ListN.{length, get_or, set, length-set}
-use Rattle.field.specs.Inverse.{inverseOf}
-use Rattle.field.specs.Column.{invertColumn}
+use Rattle.field.specs.Inverse.{inverse_of}
+use Rattle.field.specs.Column.{invert_column}
 use Rattle.field.specs.ways.KeptInverses.{KeptInverses}
 use Rattle.field.proofs.Columns.{column-length, column-outside, column-none, column-more, column-here, column-past}
 use Rattle.field.proofs.KeptLaws.{kept-none}
@@ -15,7 +15,7 @@ use Rattle.field.proofs.inverse.invert_column.Statement.{statement}
 use Rattle.field.proofs.inverse.invert_column.Tie as tie
 
 pub record Held (l : List ℕ) (n w c : ℕ) (m : List ℕ) (r k : ℕ) : Type 0 where
-  pub done : m ≡ invertColumn l r w c
+  pub done : m ≡ invert_column l r w c
   pub in_rows : r ≤ n
   pub place : k ≡ r * w + c
 
@@ -31,20 +31,20 @@ module _ (l : List ℕ) (n w c : ℕ) (m : List ℕ) (r k : ℕ) (held : Held l 
 
   module _ (h : c < w) where
     -- the rest of the rows lie past the buffer
-    stop : length m ≤ k → m ≡ invertColumn l n w c
+    stop : length m ≤ k → m ≡ invert_column l n w c
     stop b = held.done ∙ column-past w c h l r n held.in_rows (omega (arith, same_size, held.place))
 
     -- one row more
-    next : (x : ℕ) → k < length m → x ≡ inverseOf (get_or m k 0) → set m k x ≡ invertColumn l (r + 1) w c
+    next : (x : ℕ) → k < length m → x ≡ inverse_of (get_or m k 0) → set m k x ≡ invert_column l (r + 1) w c
     next x b e =
-        ap (λ (y : ℕ). set m k y) (e ∙ ap (λ (q : List ℕ). inverseOf (get_or q k 0)) held.done)
-        ∙ ap (λ (q : List ℕ). set q k (inverseOf (get_or (invertColumn l r w c) k 0))) held.done
-        ∙ ap (λ (j : ℕ). set (invertColumn l r w c) j (inverseOf (get_or (invertColumn l r w c) j 0))) held.place
-        ∙ ap (λ (y : ℕ). set (invertColumn l r w c) (r * w + c) (inverseOf y)) (column-here w c h l r)
+        ap (λ (y : ℕ). set m k y) (e ∙ ap (λ (q : List ℕ). inverse_of (get_or q k 0)) held.done)
+        ∙ ap (λ (q : List ℕ). set q k (inverse_of (get_or (invert_column l r w c) k 0))) held.done
+        ∙ ap (λ (j : ℕ). set (invert_column l r w c) j (inverse_of (get_or (invert_column l r w c) j 0))) held.place
+        ∙ ap (λ (y : ℕ). set (invert_column l r w c) (r * w + c) (inverse_of y)) (column-here w c h l r)
         ∙ column-more w c h l r (omega (arith, b, same_size, held.place))
 
     -- and none after it
-    last_row : (x : ℕ) → k < length m → r < n → x ≡ inverseOf (get_or m k 0) → length m - k ≤ w → set m k x ≡ invertColumn l n w c
+    last_row : (x : ℕ) → k < length m → r < n → x ≡ inverse_of (get_or m k 0) → length m - k ≤ w → set m k x ≡ invert_column l n w c
     last_row x b g e d =
         next x b e ∙ column-past w c h l (r + 1) n (omega arith) (omega (arith, same_size, held.place))
 
@@ -137,7 +137,7 @@ returns-4 : tie.Need-returns-4 invariant-loop decreases-loop
 returns-4 c =
     let l = c.before.loop in
     let a = c.before.before.before.before.before.args in
-    l.invariant.0.done ∙ ap (λ (n : ℕ). invertColumn a.cells.now n a.width a.column) (omega (arith, l.invariant.0.in_rows))
+    l.invariant.0.done ∙ ap (λ (n : ℕ). invert_column a.cells.now n a.width a.column) (omega (arith, l.invariant.0.in_rows))
 
 pub invert-column-spec : {M : Type 1} → statement M
 invert-column-spec =

@@ -2,7 +2,7 @@
 use native.Mathlib.Omega.{arith}
 use borrow.Author.Tests.{le-leb, lt-leb}
 use borrow.Author.Rules.{rules}
-use Rattle.groups.specs.Batches.{lentBatches}
+use Rattle.groups.specs.Batches.{lent_batches}
 use Rattle.groups.proofs.batch.lent_batches.Statement.{statement}
 use Rattle.groups.proofs.batch.lent_batches.Tie as tie
 
@@ -16,7 +16,7 @@ add-if1 : tie.Need-overflow-add-if1
 add-if1 c = search rules
 
 returns : tie.Need-returns
-unfolding lentBatches
+unfolding lent_batches
 returns c = rw (le-leb _ _ c.if1.true)
 
 sub-result : tie.Need-overflow-sub-result
@@ -26,11 +26,11 @@ cast-result : tie.Need-overflow-cast-result
 cast-result c = search rules
 
 returns-2 : tie.Need-returns-2
-unfolding lentBatches
+unfolding lent_batches
 returns-2 c = rw (lt-leb _ _ c.before.if1.false) (omega arith)
 
 returns-3 : tie.Need-returns-3
-unfolding lentBatches
+unfolding lent_batches
 returns-3 c = rw (lt-leb _ _ c.before.if1.false)
 
 pub lent-batches-spec : {M : Type 1} → statement M

@@ -4,7 +4,7 @@ use Prim.Native.Nat.{◌+◌}
 use borrow.Author.Tests.{lt-ltb, le-ltb}
 use borrow.Author.Rules.{rules}
 use Rattle.groups.specs.Contexts.{consumed}
-use Rattle.groups.specs.ways.ContextsByCount.{contextIn}
+use Rattle.groups.specs.ways.ContextsByCount.{context_in}
 use Rattle.groups.proofs.Contexts.{counts-first, consumed-is}
 use Rattle.groups.proofs.context.in_group.Statement.{statement}
 use Rattle.groups.proofs.context.in_group.Tie as tie
@@ -17,11 +17,11 @@ consumed-at c =
     consumed-is a.push a.batches.now a.groups.now a.block a.index a.place _ _ _ s.sum-groups.ensures.0 c.before.cell.ensures c.push-count.ensures.0
 
 returns : tie.Need-returns
-unfolding contextIn
+unfolding context_in
 returns c = rw (consumed-at c.before.before.before.before, lt-ltb _ _ c.if1.true)
 
 returns-2 : tie.Need-returns-2
-unfolding contextIn
+unfolding context_in
 returns-2 c =
     let t = c.before in
     let i = t.before in
@@ -32,7 +32,7 @@ returns-2 c =
     rw (consumed-at u, le-ltb _ _ i.if1.false, ← z, ← s.sum-groups.ensures.0, ← t.is-too-large.ensures, c.if2.true)
 
 returns-3 : tie.Need-returns-3
-unfolding contextIn
+unfolding context_in
 returns-3 c =
     let e = c.before in
     let t = e.before in

@@ -5,13 +5,13 @@ use Prim.Native.Nat.{ℕ, ◌-◌, ◌≤◌}
 use borrow.Author.Rules.{rules}
 use borrow.Author.Tests.{lt-ltb, le-ltb, lt-leb, le-leb}
 use lib.ListN.{get_or, drop}
-use Rattle.groups.specs.GroupOfOperation.{place_in, group_of, groupFrom}
+use Rattle.groups.specs.GroupOfOperation.{place_in, group_of, group_from}
 use Rattle.groups.proofs.Starts.{group-turn, group-last}
 use Rattle.groups.proofs.group.op_idx_in_batch_to_group.Statement.{statement}
 use Rattle.groups.proofs.group.op_idx_in_batch_to_group.Tie as tie
 
 abbrev invariant-loop : tie.invariant-loop
-invariant-loop num-ops op starts group₀ group = (group ≤ 8) × (group_of starts num-ops op ≡ groupFrom (drop group starts) num-ops op group)
+invariant-loop num-ops op starts group₀ group = (group ≤ 8) × (group_of starts num-ops op ≡ group_from (drop group starts) num-ops op group)
 
 abbrev decreases-loop : tie.decreases-loop
 decreases-loop num-ops op starts group₀ group = 8 - group

@@ -6,7 +6,7 @@ use native.Mathlib.Omega.{arith}
 use borrow.Author.Rules.{rules}
 use borrow.Author.Tests.{le-leb, lt-leb, le-ltb, lt-ltb}
 use lib.Dec.{leb}
-use Rattle.groups.specs.GroupOfOperation.{placeOfOp}
+use Rattle.groups.specs.GroupOfOperation.{place_of_op}
 use Rattle.groups.proofs.group.op_place.Statement.{statement}
 use Rattle.groups.proofs.group.op_place.Tie as tie
 
@@ -17,11 +17,11 @@ not-whole : (length r : ℕ) → length / 12 ≤ r → leb (12 * r + 12) length 
 not-whole length r h = lt-leb (12 * r + 12) length (omega arith)
 
 returns : tie.Need-returns
-unfolding placeOfOp
+unfolding place_of_op
 returns c = rw (not-whole _ _ c.if1.true)
 
 returns-2 : tie.Need-returns-2
-unfolding placeOfOp
+unfolding place_of_op
 returns-2 c =
     let o = c.before.before in
     let n = o.before in
@@ -29,7 +29,7 @@ returns-2 c =
     rw (whole _ _ s.before.if1.false, ← s.starts-of.ensures, ← n.number.ensures, ← o.op-idx-in-batch-to-group.ensures, c.enum_told.given.1)
 
 returns-3 : tie.Need-returns-3
-unfolding placeOfOp
+unfolding place_of_op
 returns-3 c =
     let g = c.before in
     let p = g.before.before in
@@ -39,7 +39,7 @@ returns-3 c =
     rw (whole _ _ s.before.if1.false, ← s.starts-of.ensures, ← n.number.ensures, ← o.op-idx-in-batch-to-group.ensures, p.place.given.1, ← g.number2.ensures, lt-ltb _ _ c.if2.true)
 
 returns-4 : tie.Need-returns-4
-unfolding placeOfOp
+unfolding place_of_op
 returns-4 c =
     let g = c.before in
     let p = g.before.before in

@@ -7,7 +7,7 @@ use lib.ListN.{length}
 use Rattle.theory_indexes.specs.ways.IndexScan.{starts}
 use Rattle.reader.specs.Rows.{word_in}
 use Rattle.reader.specs.ways.FromRow.{rows_from}
-use Rattle.index.specs.ways.Steps.{toldChange}
+use Rattle.index.specs.ways.Steps.{told_change}
 use Rattle.reader.proofs.RowTokens.{rows_in}
 use Rattle.index.proofs.ChangeLaws.{at_most, starts-cons, starts_none}
 use Rattle.index.proofs.change.count_starts.Statement.{statement}
@@ -28,7 +28,7 @@ loop-again c =
     let h : l.loop.at < length w = omega (arith, rows_in a.profile a.cells.now) in
     let e = starts-cons w l.loop.at _ h c.before.change-at.ensures in
     let b = c.begun.ensures in
-    let m = at_most (toldChange c.before.change-at.result) in
+    let m = at_most (told_change c.before.change-at.result) in
     (omega arith, omega arith, omega arith)
 
 returns : tie.Need-returns invariant-loop decreases-loop
@@ -39,7 +39,7 @@ returns c =
 
 add-count : tie.Need-overflow-add-count invariant-loop decreases-loop
 add-count c =
-    let m = at_most (toldChange c.before.change-at.result) in
+    let m = at_most (told_change c.before.change-at.result) in
     let b = c.begun.ensures in
     omega arith
 

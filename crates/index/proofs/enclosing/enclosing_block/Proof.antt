@@ -7,13 +7,13 @@ use borrow.Author.Rules.{rules}
 use borrow.Author.Tests.{eq-eqb, ne_eqb}
 use lib.ListN.{length, drop}
 use Rattle.groups.specs.Answer.{accepted}
-use Rattle.theory_indexes.specs.Enclosing.{encloses, lastFrom, enclosing}
+use Rattle.theory_indexes.specs.Enclosing.{encloses, last_from, enclosing}
 use Rattle.index.proofs.LookupLaws.{found_here, missed_here, none-past}
 use Rattle.index.proofs.enclosing.enclosing_block.Statement.{statement}
 use Rattle.index.proofs.enclosing.enclosing_block.Tie as tie
 
 abbrev invariant-loop : tie.invariant-loop
-invariant-loop index row place₀ place = (3 * place ≤ length index) × (length index % 3 ≡ 0) × (lastFrom place (drop (3 * place) index) row ≡ none)
+invariant-loop index row place₀ place = (3 * place ≤ length index) × (length index % 3 ≡ 0) × (last_from place (drop (3 * place) index) row ≡ none)
 
 abbrev decreases-loop : tie.decreases-loop
 decreases-loop index row place₀ place = place

@@ -3,12 +3,12 @@ use Prim.Native.Nat.{◌<◌}
 use native.Mathlib.Omega.{arith}
 use borrow.Author.Rules.{rules}
 use borrow.Author.Tests.{ne_eqb}
-use Rattle.index.specs.ways.Steps.{aroundIn}
+use Rattle.index.specs.ways.Steps.{around_in}
 use Rattle.index.proofs.fill.around.Statement.{statement}
 use Rattle.index.proofs.fill.around.Tie as tie
 
 returns : tie.Need-returns
-unfolding aroundIn
+unfolding around_in
 returns c = rw c.if1.true
 
 mul-result : tie.Need-overflow-mul-result
@@ -22,7 +22,7 @@ shared-slice-read-result c =
     c.before.before.before.requires.1 h
 
 returns-2 : tie.Need-returns-2
-unfolding aroundIn
+unfolding around_in
 returns-2 c = rw (ne_eqb c.before.before.before.args.opened 0 c.before.before.if1.false)
 
 pub around-spec : {M : Type 1} → statement M

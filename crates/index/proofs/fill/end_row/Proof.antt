@@ -1,7 +1,7 @@
 -- `fill::end_row` meets its contract.
 use native.Mathlib.Omega.{arith}
 use borrow.Author.Rules.{rules}
-use Rattle.index.specs.ways.Steps.{indexBehind, progressBehind, Room}
+use Rattle.index.specs.ways.Steps.{index_behind, progress_behind, Room}
 use Rattle.index.proofs.fill.end_row.Statement.{statement}
 use Rattle.index.proofs.fill.end_row.Tie as tie
 
@@ -30,7 +30,7 @@ unfolding Room
 slice-write-index c = omega arith
 
 returns : tie.Need-returns
-unfolding indexBehind progressBehind
+unfolding index_behind progress_behind
 returns c = search rules
 
 pub end-row-spec : {M : Type 1} → statement M

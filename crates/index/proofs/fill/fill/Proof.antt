@@ -4,7 +4,7 @@ use mathlib.Core.List.{[]}
 use Prim.Native.Nat.{◌+◌, ◌*◌, ◌-◌, ◌/◌, ◌≤◌, ◌<◌}
 use native.Mathlib.Omega.{arith}
 use lib.ListN.{length, drop}
-use Rattle.theory_indexes.specs.ways.IndexScan.{indexScan, starts}
+use Rattle.theory_indexes.specs.ways.IndexScan.{index_scan, starts}
 use Rattle.reader.specs.Rows.{word_in}
 use Rattle.reader.specs.ways.FromRow.{rows_from}
 use Rattle.reader.proofs.RowTokens.{rows_in, rows-cons, rows_none}
@@ -16,7 +16,7 @@ abbrev invariant-loop : tie.invariant-loop
 invariant-loop profile cells index₀ table kinds stack₀ s₀ at₀ index stack s at =
     (at ≤ length cells / 49)
     × Building
-    (indexScan (rows_from (word_in profile cells) 0) [] [])
+    (index_scan (rows_from (word_in profile cells) 0) [] [])
     (starts (rows_from (word_in profile cells) 0))
     (drop (3 * starts (rows_from (word_in profile cells) 0)) index₀)
     (length index₀)

@@ -3,7 +3,7 @@ use mathlib.Core.Path.{refl}
 use native.Mathlib.Omega.{arith}
 use borrow.Author.Rules.{rules}
 use lib.ListN.{length-set}
-use Rattle.index.specs.ways.Steps.{indexBehind, stackBehind, progressBehind, Room}
+use Rattle.index.specs.ways.Steps.{index_behind, stack_behind, progress_behind, Room}
 use Rattle.index.proofs.fill.start_row.Statement.{statement}
 use Rattle.index.proofs.fill.start_row.Tie as tie
 
@@ -60,7 +60,7 @@ unfolding Room
 add-next c = omega arith
 
 returns : tie.Need-returns
-unfolding indexBehind stackBehind progressBehind
+unfolding index_behind stack_behind progress_behind
 returns c = (refl, (refl, rw c.around.ensures refl))
 
 pub start-row-spec : {M : Type 1} → statement M

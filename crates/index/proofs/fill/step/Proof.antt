@@ -1,7 +1,7 @@
 -- `fill::step` meets its contract.
 use mathlib.Core.Path.{refl}
 use borrow.Author.Rules.{rules}
-use Rattle.index.specs.ways.Steps.{indexBehind, stackBehind, progressBehind}
+use Rattle.index.specs.ways.Steps.{index_behind, stack_behind, progress_behind}
 use Rattle.index.proofs.fill.step.Statement.{statement}
 use Rattle.index.proofs.fill.step.Tie as tie
 
@@ -15,13 +15,13 @@ returns : tie.Need-returns
 returns c = rw c.before.before.before.before.before.enum_told.given.1 c.before.before.start-row.ensures
 
 returns-2 : tie.Need-returns-2
-unfolding stackBehind
+unfolding stack_behind
 returns-2 c =
     let e = c.before.before.end_row.ensures in
     rw c.before.before.before.before.before.enum-told2.given.1 (e.0, (refl, e.1))
 
 returns-3 : tie.Need-returns-3
-unfolding indexBehind stackBehind progressBehind
+unfolding index_behind stack_behind progress_behind
 returns-3 c = rw c.enum-told3.given.1 (refl, (refl, refl))
 
 pub step_spec : {M : Type 1} → statement M

@@ -8,7 +8,7 @@ use lib.ListN.{length}
 use Rattle.theory_readings.specs.Readings.{all_rows}
 use Rattle.reader.specs.Rows.{word_in}
 use Rattle.reader.specs.KeptKinds.{KeptKinds}
-use Rattle.reader.specs.ways.Parts.{PartRead, toldWrong, toldPart, Ahead}
+use Rattle.reader.specs.ways.Parts.{PartRead, told_wrong, told_part, Ahead}
 use Rattle.reader.specs.declared.token.RowKind.TheVariants.{Span, Join, One, Loop, Repeat, End}
 use Rattle.reader.proofs.RowTokens.{rows_in, Stands, stands}
 use Rattle.reader.proofs.PartLaws.{ahead-done, ahead-from, deep-ahead, closed-ahead, at_left, block-deep, block_no, block-span, one-refused, one-closed, first-refused, second-refused, join-closed, block-loop, PassesFrom, from-none, body_refused, pass-last, pass-more, pass-no}
@@ -93,7 +93,7 @@ block-returns-2 t c =
     let h = join-row t c.before.before.before.before.before.before in (
       record {
         ahead = ahead-from _ _ _ _ (omega arith) c.before.before.before.before.block.ensures.0.ahead;
-        right = at_left _ _ _ _ _ _ (omega (arith, c.before.before.before.before.before.before.before.before.if1.false)) (first-refused _ _ _ _ _ h.below h.token _ c.before.before.before.before.block.ensures.0.right _ _ (ap toldPart c.enum-told3.given.1));
+        right = at_left _ _ _ _ _ _ (omega (arith, c.before.before.before.before.before.before.before.before.if1.false)) (first-refused _ _ _ _ _ h.below h.token _ c.before.before.before.before.block.ensures.0.right _ _ (ap told_part c.enum-told3.given.1));
       },
       c.before.before.before.before.block.ensures.1,
     )
@@ -103,19 +103,19 @@ block-block-requires-2 t c κs =
     let d = c.before.before.before.before.before.before.before.before in
     let a = d.before.before.before.before.before.before.before.before.before.args in
     let i = (join-row t d).inside in
-    let h = ahead-done _ _ _ _ _ (ap toldPart c.before.before.one.given.1) c.before.before.before.before.before.before.block.ensures.0.ahead in
+    let h = ahead-done _ _ _ _ _ (ap told_part c.before.before.one.given.1) c.before.before.before.before.before.before.block.ensures.0.ahead in
     let n = rows_in a.profile a.cells.now in
     (omega arith, (omega arith, c.before.before.before.before.before.before.block.ensures.1))
 
 block-returns-3 : (t : ℕ) → block-lts.Need-returns-3 (block-claims t) (block_at t) block.Post
 block-returns-3 t c =
     let h = join-row t c.before.before.before.before.before.before.before.before.before.before.before.before.before in
-    let l = ahead-done _ _ _ _ _ (ap toldPart c.before.before.before.before.before.before.before.one.given.1) c.before.before.before.before.before.before.before.before.before.before.before.block.ensures.0.ahead in (
+    let l = ahead-done _ _ _ _ _ (ap told_part c.before.before.before.before.before.before.before.one.given.1) c.before.before.before.before.before.before.before.before.before.before.before.block.ensures.0.ahead in (
       record {
         ahead = ahead-from _ _ _ _ (omega arith) c.before.before.before.before.block2.ensures.0.ahead;
         right =
             at_left _ _ _ _ _ _ (omega (arith, c.before.before.before.before.before.before.before.before.before.before.before.before.before.before.before.if1.false))
-            (second-refused _ _ _ _ _ h.below h.token _ c.before.before.before.before.before.before.before.before.before.before.before.block.ensures.0.right _ _ (ap toldPart c.before.before.before.before.before.before.before.one.given.1) _ c.before.before.before.before.block2.ensures.0.right _ _ (ap toldPart c.enum-told4.given.1));
+            (second-refused _ _ _ _ _ h.below h.token _ c.before.before.before.before.before.before.before.before.before.before.before.block.ensures.0.right _ _ (ap told_part c.before.before.before.before.before.before.before.one.given.1) _ c.before.before.before.before.block2.ensures.0.right _ _ (ap told_part c.enum-told4.given.1));
       },
       c.before.before.before.before.block2.ensures.1,
     )
@@ -131,7 +131,7 @@ block-returns-4 t c =
     let h = one-row t c.before.before.before.before.before.before in (
       record {
         ahead = ahead-from _ _ _ _ (omega arith) c.before.before.before.before.block3.ensures.0.ahead;
-        right = at_left _ _ _ _ _ _ (omega (arith, c.before.before.before.before.before.before.before.before.if1.false)) (one-refused _ _ _ _ _ h.below _ h.token.1 _ c.before.before.before.before.block3.ensures.0.right _ _ (ap toldPart c.enum-told6.given.1));
+        right = at_left _ _ _ _ _ _ (omega (arith, c.before.before.before.before.before.before.before.before.if1.false)) (one-refused _ _ _ _ _ h.below _ h.token.1 _ c.before.before.before.before.block3.ensures.0.right _ _ (ap told_part c.enum-told6.given.1));
       },
       c.before.before.before.before.block3.ensures.1,
     )
@@ -152,14 +152,14 @@ block-returns-5 t c =
 block-returns-6 : (t : ℕ) → block-lts.Need-returns-6 (block-claims t) (block_at t) block.Post
 block-returns-6 t c =
     let h = join-row t c.before.before.before.before.before.before.before.before.before.before.before.before.before.before.before.before.before.before.before in
-    let l = ahead-done _ _ _ _ _ (ap toldPart c.before.before.before.before.before.before.before.before.before.before.before.before.before.one.given.1) c.before.before.before.before.before.before.before.before.before.before.before.before.before.before.before.before.before.block.ensures.0.ahead in
-    let m = ahead-done _ _ _ _ _ (ap toldPart c.before.before.before.before.before.before.two.given.1) c.before.before.before.before.before.before.before.before.before.before.block2.ensures.0.ahead in (
+    let l = ahead-done _ _ _ _ _ (ap told_part c.before.before.before.before.before.before.before.before.before.before.before.before.before.one.given.1) c.before.before.before.before.before.before.before.before.before.before.before.before.before.before.before.before.before.block.ensures.0.ahead in
+    let m = ahead-done _ _ _ _ _ (ap told_part c.before.before.before.before.before.before.two.given.1) c.before.before.before.before.before.before.before.before.before.before.block2.ensures.0.ahead in (
       record {
         ahead = ahead-from _ _ _ _ (omega arith) (closed-ahead _ _ _ _ _ _ c.before.before.close.ensures.0);
         right =
             at_left _ _ _ _ _ _ (omega (arith, c.before.before.before.before.before.before.before.before.before.before.before.before.before.before.before.before.before.before.before.before.before.if1.false))
             (rw (c.before.before.close.ensures.0, c.before.before.before.before.first.ensures)
-            (join-closed _ _ _ _ _ h.below h.token _ c.before.before.before.before.before.before.before.before.before.before.before.before.before.before.before.before.before.block.ensures.0.right _ _ (ap toldPart c.before.before.before.before.before.before.before.before.before.before.before.before.before.one.given.1) _ c.before.before.before.before.before.before.before.before.before.before.block2.ensures.0.right _ _ (ap toldPart c.before.before.before.before.before.before.two.given.1) m.1));
+            (join-closed _ _ _ _ _ h.below h.token _ c.before.before.before.before.before.before.before.before.before.before.before.before.before.before.before.before.before.block.ensures.0.right _ _ (ap told_part c.before.before.before.before.before.before.before.before.before.before.before.before.before.one.given.1) _ c.before.before.before.before.before.before.before.before.before.before.block2.ensures.0.right _ _ (ap told_part c.before.before.before.before.before.before.two.given.1) m.1));
       },
       c.before.before.close.ensures.1,
     )
@@ -167,12 +167,12 @@ block-returns-6 t c =
 block-returns-7 : (t : ℕ) → block-lts.Need-returns-7 (block-claims t) (block_at t) block.Post
 block-returns-7 t c =
     let h = one-row t c.before.before.before.before.before.before.before.before.before.before.before in
-    let l = ahead-done _ _ _ _ _ (ap toldPart c.before.before.before.before.before.only.given.1) c.before.before.before.before.before.before.before.before.before.block3.ensures.0.ahead in (
+    let l = ahead-done _ _ _ _ _ (ap told_part c.before.before.before.before.before.only.given.1) c.before.before.before.before.before.before.before.before.before.block3.ensures.0.ahead in (
       record {
         ahead = ahead-from _ _ _ _ (omega arith) (closed-ahead _ _ _ _ _ _ c.before.before.close2.ensures.0);
         right =
             at_left _ _ _ _ _ _ (omega (arith, c.before.before.before.before.before.before.before.before.before.before.before.before.before.if1.false))
-            (rw c.before.before.close2.ensures.0 (one-closed _ _ _ _ _ h.below _ h.token.1 _ c.before.before.before.before.before.before.before.before.before.block3.ensures.0.right _ _ (ap toldPart c.before.before.before.before.before.only.given.1) l.1));
+            (rw c.before.before.close2.ensures.0 (one-closed _ _ _ _ _ h.below _ h.token.1 _ c.before.before.before.before.before.before.before.before.before.block3.ensures.0.right _ _ (ap told_part c.before.before.before.before.before.only.given.1) l.1));
       },
       c.before.before.close2.ensures.1,
     )
@@ -201,7 +201,7 @@ block-returns-9 t c =
 abbrev passes-Inv-loop : passes-lts.invariant-loop
 passes-Inv-loop profile cells row left flag table kinds₀ at₀ count₀ so-far₀ kinds at count so_far =
     (length kinds ≡ length kinds₀) × KeptKinds profile cells table kinds × (row < at) × (at ≤ length cells / 49) × (1 ≤ count) × (count ≤ at)
-    × ((r : PartRead) → PassesFrom (all_rows cells) (word_in profile cells) row at left flag (count - 1) (toldWrong so_far) r → PassesFrom (all_rows cells) (word_in profile cells) row (row + 1) left flag 0 none r)
+    × ((r : PartRead) → PassesFrom (all_rows cells) (word_in profile cells) row at left flag (count - 1) (told_wrong so_far) r → PassesFrom (all_rows cells) (word_in profile cells) row (row + 1) left flag 0 none r)
 
 abbrev passes-μ-loop : passes-lts.decreases-loop
 passes-μ-loop profile cells row left flag table kinds₀ at₀ count₀ so-far₀ kinds at count so_far = length cells / 49 - at
@@ -216,14 +216,14 @@ passes-returns : (t : ℕ) → passes-lts.Need-returns (passes-claims t) (passes
 passes-returns t c = (
   record {
     ahead = ahead-from _ _ _ _ (omega arith) c.before.before.before.before.block.ensures.0.ahead;
-    right = from-none _ _ _ _ _ _ (c.before.before.before.before.before.before.loop.invariant.6 _ (body_refused _ _ _ _ _ _ _ _ _ c.before.before.before.before.block.ensures.0.right _ _ (ap toldPart c.enum_told.given.1)));
+    right = from-none _ _ _ _ _ _ (c.before.before.before.before.before.before.loop.invariant.6 _ (body_refused _ _ _ _ _ _ _ _ _ c.before.before.before.before.block.ensures.0.right _ _ (ap told_part c.enum_told.given.1)));
   },
   c.before.before.before.before.block.ensures.1,
 )
 
 passes-add-at-2 : (t : ℕ) → passes-lts.Need-overflow-add-at-2 (passes-claims t) (passes_at t) passes.Post passes-Inv-loop passes-μ-loop
 passes-add-at-2 t c =
-    let l = ahead-done _ _ _ _ _ (ap toldPart c.before.before.before.before.before.before.before.before.body.given.1) c.before.before.before.before.before.before.before.before.before.before.before.before.block.ensures.0.ahead in
+    let l = ahead-done _ _ _ _ _ (ap told_part c.before.before.before.before.before.before.before.before.body.given.1) c.before.before.before.before.before.before.before.before.before.before.before.before.block.ensures.0.ahead in
     let h = stands _ _ _ _ Repeat c.before.before.before.before.before.note-kind.ensures.0 c.enum-told2.given.1 tt in
     let i = h.inside in
     omega arith
@@ -233,14 +233,14 @@ passes-add-count t c = omega arith
 
 passes-loop-less : (t : ℕ) → passes-lts.Need-loop-smaller (passes-claims t) (passes_at t) passes.Post passes-Inv-loop passes-μ-loop
 passes-loop-less t c =
-    let l = ahead-done _ _ _ _ _ (ap toldPart c.before.before.before.before.before.before.before.before.body.given.1) c.before.before.before.before.before.before.before.before.before.before.before.before.block.ensures.0.ahead in
+    let l = ahead-done _ _ _ _ _ (ap told_part c.before.before.before.before.before.before.before.before.body.given.1) c.before.before.before.before.before.before.before.before.before.before.before.before.block.ensures.0.ahead in
     let h = stands _ _ _ _ Repeat c.before.before.before.before.before.note-kind.ensures.0 c.enum-told2.given.1 tt in
     let i = h.inside in
     omega arith
 
 passes-loop-again : (t : ℕ) → passes-lts.Need-loop-preserved (passes-claims t) (passes_at t) passes.Post passes-Inv-loop passes-μ-loop
 passes-loop-again t c =
-    let l = ahead-done _ _ _ _ _ (ap toldPart c.before.before.before.before.before.before.before.before.body.given.1) c.before.before.before.before.before.before.before.before.before.before.before.before.block.ensures.0.ahead in
+    let l = ahead-done _ _ _ _ _ (ap told_part c.before.before.before.before.before.before.before.before.body.given.1) c.before.before.before.before.before.before.before.before.before.before.before.before.block.ensures.0.ahead in
     let h = stands _ _ _ _ Repeat c.before.before.before.before.before.note-kind.ensures.0 c.enum-told2.given.1 tt in
     let i = h.inside in (
       search rules,
@@ -249,7 +249,7 @@ passes-loop-again t c =
       omega arith,
       omega arith,
       omega arith,
-      λ r k. c.before.before.before.before.before.before.before.before.before.before.before.before.before.before.loop.invariant.6 r (pass-more _ _ _ _ _ _ _ _ _ c.before.before.before.before.before.before.before.before.before.before.before.before.block.ensures.0.right _ _ (ap toldPart c.before.before.before.before.before.before.before.before.body.given.1) _ (omega arith) h.token h.below r (rw c.before.before.first.ensures at k)),
+      λ r k. c.before.before.before.before.before.before.before.before.before.before.before.before.before.before.loop.invariant.6 r (pass-more _ _ _ _ _ _ _ _ _ c.before.before.before.before.before.before.before.before.before.before.before.before.block.ensures.0.right _ _ (ap told_part c.before.before.before.before.before.before.before.before.body.given.1) _ (omega arith) h.token h.below r (rw c.before.before.first.ensures at k)),
     )
 
 passes-ask-requires-2 : (t : ℕ) → passes-lts.Need-ask-requires-2 (passes-claims t) (passes_at t) passes.Post passes-Inv-loop passes-μ-loop
@@ -257,7 +257,7 @@ passes-ask-requires-2 t c κs = ((stands _ _ _ _ End c.before.before.before.befo
 
 passes-add-t21 : (t : ℕ) → passes-lts.Need-overflow-add-t21 (passes-claims t) (passes_at t) passes.Post passes-Inv-loop passes-μ-loop
 passes-add-t21 t c =
-    let l = ahead-done _ _ _ _ _ (ap toldPart c.before.before.before.before.before.before.before.before.before.before.body.given.1) c.before.before.before.before.before.before.before.before.before.before.before.before.before.before.block.ensures.0.ahead in
+    let l = ahead-done _ _ _ _ _ (ap told_part c.before.before.before.before.before.before.before.before.before.before.body.given.1) c.before.before.before.before.before.before.before.before.before.before.before.before.before.before.block.ensures.0.ahead in
     let h = stands _ _ _ _ End c.before.before.before.before.before.before.before.note-kind.ensures.0 c.before.before.enum-told3.given.1 tt in
     let i = h.inside in
     omega (arith, i, c.before.before.before.before.before.before.before.before.before.before.before.before.before.before)
@@ -265,14 +265,14 @@ passes-add-t21 t c =
 passes-returns-2 : (t : ℕ) → passes-lts.Need-returns-2 (passes-claims t) (passes_at t) passes.Post passes-Inv-loop passes-μ-loop
 unfolding Ahead
 passes-returns-2 t c =
-    let l = ahead-done _ _ _ _ _ (ap toldPart c.before.before.before.before.before.before.before.before.before.before.before.before.body.given.1) c.before.before.before.before.before.before.before.before.before.before.before.before.before.before.before.before.block.ensures.0.ahead in
+    let l = ahead-done _ _ _ _ _ (ap told_part c.before.before.before.before.before.before.before.before.before.before.before.before.body.given.1) c.before.before.before.before.before.before.before.before.before.before.before.before.before.before.before.before.block.ensures.0.ahead in
     let h = stands _ _ _ _ End c.before.before.before.before.before.before.before.before.before.note-kind.ensures.0 c.before.before.before.before.enum-told3.given.1 tt in
     let i = h.inside in (
       record {
         ahead = (omega arith, omega (arith, h.below));
         right =
             rw (c.first3.ensures, c.before.first2.ensures, c.before.before.ask2.ensures, c.before.before.before.ask.ensures, c.before.before.before.before.before.before.first.ensures)
-            (from-none _ _ _ _ _ _ (c.before.before.before.before.before.before.before.before.before.before.before.before.before.before.before.before.before.before.loop.invariant.6 _ (pass-last _ _ _ _ _ _ _ _ _ c.before.before.before.before.before.before.before.before.before.before.before.before.before.before.before.before.block.ensures.0.right _ _ (ap toldPart c.before.before.before.before.before.before.before.before.before.before.before.before.body.given.1) _ (omega arith) h.token h.below)));
+            (from-none _ _ _ _ _ _ (c.before.before.before.before.before.before.before.before.before.before.before.before.before.before.before.before.before.before.loop.invariant.6 _ (pass-last _ _ _ _ _ _ _ _ _ c.before.before.before.before.before.before.before.before.before.before.before.before.before.before.before.before.block.ensures.0.right _ _ (ap told_part c.before.before.before.before.before.before.before.before.before.before.before.before.body.given.1) _ (omega arith) h.token h.below)));
       },
       c.before.before.before.before.before.before.before.before.before.note-kind.ensures.1,
     )
@@ -280,12 +280,12 @@ passes-returns-2 t c =
 passes-returns-3 : (t : ℕ) → passes-lts.Need-returns-3 (passes-claims t) (passes_at t) passes.Post passes-Inv-loop passes-μ-loop
 unfolding Ahead
 passes-returns-3 t c =
-    let l = ahead-done _ _ _ _ _ (ap toldPart c.before.before.before.before.before.before.before.body.given.1) c.before.before.before.before.before.before.before.before.before.before.before.block.ensures.0.ahead in (
+    let l = ahead-done _ _ _ _ _ (ap told_part c.before.before.before.before.before.before.before.body.given.1) c.before.before.before.before.before.before.before.before.before.before.before.block.ensures.0.ahead in (
       record {
         ahead = tt;
         right =
             from-none _ _ _ _ _ _
-            (c.before.before.before.before.before.before.before.before.before.before.before.before.before.loop.invariant.6 _ (pass-no _ _ _ _ _ _ _ _ _ c.before.before.before.before.before.before.before.before.before.before.before.block.ensures.0.right _ _ (ap toldPart c.before.before.before.before.before.before.before.body.given.1) (rw c.before.before.before.before.note-kind.ensures.0 at c.match2.keys3) l.1));
+            (c.before.before.before.before.before.before.before.before.before.before.before.before.before.loop.invariant.6 _ (pass-no _ _ _ _ _ _ _ _ _ c.before.before.before.before.before.before.before.before.before.before.before.block.ensures.0.right _ _ (ap told_part c.before.before.before.before.before.before.before.body.given.1) (rw c.before.before.before.before.note-kind.ensures.0 at c.match2.keys3) l.1));
       },
       c.before.before.before.before.note-kind.ensures.1,
     )

@@ -7,7 +7,7 @@ returns : tie.Need-returns
 returns c = λ p kept. kept.at_row _ (search rules)
 
 returns-2 : tie.Need-returns-2
-returns-2 c = λ p kept. c.number_by.ensures p kept.by-table
+returns-2 c = λ p kept. c.number_by.ensures p kept.by_table
 
 pub kept-number-spec : {M : Type 1} → statement M
 kept-number-spec = tie.close (tie.spec (λ c. search rules) returns (λ c κs. search rules) returns-2)

@@ -1,11 +1,11 @@
 -- `kept::kind_number` meets its contract.
 use borrow.Author.Rules.{rules}
-use Rattle.reader.specs.KeptKinds.{kindNumbered}
+use Rattle.reader.specs.KeptKinds.{kind_numbered}
 use Rattle.reader.proofs.kept.kind_number.Statement.{statement}
 use Rattle.reader.proofs.kept.kind_number.Tie as tie
 
 pub kind-number-spec : {M : Type 1} → statement M
-unfolding kindNumbered
+unfolding kind_numbered
 kind-number-spec =
     tie.close
     (tie.spec

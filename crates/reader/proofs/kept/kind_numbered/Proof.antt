@@ -1,11 +1,11 @@
 -- `kept::kind_numbered` meets its contract: each arm by the number that it knows.
-use Rattle.reader.specs.KeptKinds.{kindNumbered}
+use Rattle.reader.specs.KeptKinds.{kind_numbered}
 use Rattle.reader.proofs.KindLaws.{numbered-rest}
 use Rattle.reader.proofs.kept.kind_numbered.Statement.{statement}
 use Rattle.reader.proofs.kept.kind_numbered.Tie as tie
 
 pub kind-numbered-spec : {M : Type 1} → statement M
-unfolding kindNumbered
+unfolding kind_numbered
 kind-numbered-spec =
     tie.close
     (tie.spec

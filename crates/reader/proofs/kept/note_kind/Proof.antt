@@ -16,9 +16,9 @@ returns : tie.Need-returns
 returns c =
     let n = c.before.before.number_by in
     let s = c.before.before.before.before.before in (
-      c.kind-told.ensures (n.ensures _ s.requires.by-table),
+      c.kind-told.ensures (n.ensures _ s.requires.by_table),
       ⊎_elim
-          (λ w. rw w.1 (kinds-more _ _ _ _ _ n.result s.requires (n.ensures _ s.requires.by-table)))
+          (λ w. rw w.1 (kinds-more _ _ _ _ _ n.result s.requires (n.ensures _ s.requires.by_table)))
           (λ w. rw w.1 s.requires)
           c.before.if1.branch,
     )

@@ -1,12 +1,12 @@
 -- `token::op` meets its contract.
 use borrow.Author.Rules.{rules}
-use Rattle.reader.specs.Rows.{opKind}
+use Rattle.reader.specs.Rows.{op_kind}
 use Rattle.reader.proofs.CellTokens.{op-no}
 use Rattle.reader.proofs.token.op.Statement.{statement}
 use Rattle.reader.proofs.token.op.Tie as tie
 
 returns : tie.Need-returns
-unfolding opKind
+unfolding op_kind
 returns c = search rules
 
 returns-2 : tie.Need-returns-2

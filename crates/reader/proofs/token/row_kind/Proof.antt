@@ -5,14 +5,14 @@ use native.Mathlib.Omega.{arith}
 use borrow.Author.Rules.{rules}
 use lib.ListN.{length}
 use Rattle.theory_readings.specs.Readings.{row_at, all_rows}
-use Rattle.reader.specs.Rows.{word_in, rowKindOf}
+use Rattle.reader.specs.Rows.{word_in, row_kind_of}
 use Rattle.reader.proofs.RowTokens.{rows_in, token-of, token-past}
 use Rattle.reader.proofs.CellTokens.{cell-of, kind-control, kind-op, kind-none}
 use Rattle.reader.proofs.token.row_kind.Statement.{statement}
 use Rattle.reader.proofs.token.row_kind.Tie as tie
 
 returns : tie.Need-returns
-unfolding rowKindOf
+unfolding row_kind_of
 returns c =
     let a = c.before.before.args in
     rw (token-past (word_in a.profile a.cells.now) a.row (omega (arith, rows_in a.profile a.cells.now, c.if1.true)))

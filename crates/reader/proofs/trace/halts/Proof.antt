@@ -5,7 +5,7 @@ use native.Mathlib.Omega.{arith}
 use borrow.Author.Rules.{rules}
 use lib.ListN.{length}
 use Rattle.theory_readings.specs.Readings.{Block}
-use Rattle.theory_readings.specs.ways.Parser.{afterHalt}
+use Rattle.theory_readings.specs.ways.Parser.{after_halt}
 use Rattle.reader.specs.Rows.{word_in}
 use Rattle.reader.specs.ways.FromRow.{rows_from}
 use Rattle.reader.specs.KeptKinds.{KeptKinds}
@@ -19,7 +19,7 @@ use Rattle.reader.proofs.trace.halts.Tie as tie
 abbrev invariant-loop : tie.invariant-loop
 invariant-loop profile cells from table kinds₀ at₀ kinds at =
     (length kinds ≡ length kinds₀) × KeptKinds profile cells table kinds × (from ≤ at) × (at ≤ length cells / 49)
-    × ((b : Block) → afterHalt b (rows_from (word_in profile cells) from) ≡ afterHalt b (rows_from (word_in profile cells) at))
+    × ((b : Block) → after_halt b (rows_from (word_in profile cells) from) ≡ after_halt b (rows_from (word_in profile cells) at))
 
 abbrev decreases-loop : tie.decreases-loop
 decreases-loop profile cells from table kinds₀ at₀ kinds at = length cells / 49 - at

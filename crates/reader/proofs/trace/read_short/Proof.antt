@@ -1,11 +1,11 @@
 -- `trace::read_short` meets its contract.
 use borrow.Author.Rules.{rules}
-use Rattle.reader.proofs.KindLaws.{shortList, kinds-none}
+use Rattle.reader.proofs.KindLaws.{short_list, kinds-none}
 use Rattle.reader.proofs.trace.read_short.Statement.{statement}
 use Rattle.reader.proofs.trace.read_short.Tie as tie
 
 read-with-requires : tie.Need-read-with-requires
-read-with-requires c κs = kinds-none _ _ _ shortList c.before.before.before.table-for.ensures
+read-with-requires c κs = kinds-none _ _ _ short_list c.before.before.before.table-for.ensures
 
 pub read-short-spec : {M : Type 1} → statement M
 read-short-spec =

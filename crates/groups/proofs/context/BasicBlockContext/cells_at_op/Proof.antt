@@ -1,20 +1,20 @@
 -- `BasicBlockContext::cells_at_op` meets its contract.
 use borrow.Author.Tests.{not-true, not-false}
 use borrow.Author.Rules.{rules}
-use Rattle.groups.specs.Batches.{batchAt}
-use Rattle.groups.specs.Contexts.{contextAtOp, cellsAtOp}
+use Rattle.groups.specs.Batches.{batch_at}
+use Rattle.groups.specs.Contexts.{context_at_op, cells_at_op}
 use Rattle.groups.proofs.Contexts.{in-batch, in-group-is}
 use Rattle.groups.proofs.context.BasicBlockContext.cells_at_op.Statement.{statement}
 use Rattle.groups.proofs.context.BasicBlockContext.cells_at_op.Tie as tie
 
 returns : tie.Need-returns
-unfolding cellsAtOp contextAtOp batchAt
+unfolding cells_at_op context_at_op batch_at
 returns c =
     let b = c.before.is-batch in
     rw (← b.ensures, not-true b.result c.if1.true)
 
 returns-2 : tie.Need-returns-2
-unfolding cellsAtOp contextAtOp batchAt
+unfolding cells_at_op context_at_op batch_at
 returns-2 c =
     let o = c.before.before in
     let n = o.before in
@@ -33,7 +33,7 @@ in-group-requires c κs =
     in-batch a.batches.now a.block a.index n.number.result a.op s.starts-at.result o.op-idx-in-batch-to-group.result p.place.given.0.0 s.starts-at.ensures o.op-idx-in-batch-to-group.ensures p.place.given.1
 
 returns-3 : tie.Need-returns-3
-unfolding cellsAtOp contextAtOp batchAt
+unfolding cells_at_op context_at_op batch_at
 returns-3 c =
     let f = c.before in
     let g = f.before.before in
@@ -47,7 +47,7 @@ returns-3 c =
     rw (← b.ensures, not-false b.result i.if1.false, ← s.starts-at.ensures, ← n.number.ensures, ← o.op-idx-in-batch-to-group.ensures, p.place.given.1, in-group-is, ← m.number2.ensures, ← g.in_group.ensures, c.context-refusal.ensures, f.enum-told2.given.1)
 
 returns-4 : tie.Need-returns-4
-unfolding cellsAtOp contextAtOp batchAt
+unfolding cells_at_op context_at_op batch_at
 returns-4 c =
     let f = c.before in
     let g = f.before.before in

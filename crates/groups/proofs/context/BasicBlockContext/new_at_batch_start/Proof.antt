@@ -1,15 +1,15 @@
 -- `BasicBlockContext::new_at_batch_start` meets its contract.
 use borrow.Author.Rules.{rules}
-use Rattle.groups.specs.Contexts.{contextAtBatchStart, tooLarge}
+use Rattle.groups.specs.Contexts.{context_at_batch_start, too_large}
 use Rattle.groups.proofs.context.BasicBlockContext.new_at_batch_start.Statement.{statement}
 use Rattle.groups.proofs.context.BasicBlockContext.new_at_batch_start.Tie as tie
 
 returns : tie.Need-returns
-unfolding contextAtBatchStart tooLarge
+unfolding context_at_batch_start too_large
 returns c = rw (← c.before.before.batch-at.ensures, c.enum_told.given.1)
 
 returns-2 : tie.Need-returns-2
-unfolding contextAtBatchStart tooLarge
+unfolding context_at_batch_start too_large
 returns-2 c =
     let f = c.before.before in
     let s = f.before in
@@ -18,7 +18,7 @@ returns-2 c =
     rw (← b.before.before.batch-at.ensures, b.batch.given.1, ← l.lent-batches.ensures, ← s.sum-groups.ensures.0, ← f.get-op-batch-flags.ensures, c.enum-told2.given.1)
 
 returns-3 : tie.Need-returns-3
-unfolding contextAtBatchStart tooLarge
+unfolding context_at_batch_start too_large
 returns-3 c =
     let t = c.before in
     let g = t.before.before in
@@ -29,7 +29,7 @@ returns-3 c =
     rw (← b.before.before.batch-at.ensures, b.batch.given.1, ← l.lent-batches.ensures, ← s.sum-groups.ensures.0, ← f.get-op-batch-flags.ensures, g.flags.given.1, ← t.is-too-large.ensures, c.if1.true)
 
 returns-4 : tie.Need-returns-4
-unfolding contextAtBatchStart tooLarge
+unfolding context_at_batch_start too_large
 returns-4 c =
     let t = c.before in
     let g = t.before.before in

@@ -1,16 +1,16 @@
 -- `BasicBlockContext::new_at_op` meets its contract.
 use borrow.Author.Rules.{rules}
-use Rattle.groups.specs.Contexts.{contextAtOp}
+use Rattle.groups.specs.Contexts.{context_at_op}
 use Rattle.groups.proofs.Contexts.{in-batch, in-group-is}
 use Rattle.groups.proofs.context.BasicBlockContext.new_at_op.Statement.{statement}
 use Rattle.groups.proofs.context.BasicBlockContext.new_at_op.Tie as tie
 
 returns : tie.Need-returns
-unfolding contextAtOp
+unfolding context_at_op
 returns c = rw (← c.before.before.batch-at.ensures, c.enum_told.given.1)
 
 returns-2 : tie.Need-returns-2
-unfolding contextAtOp
+unfolding context_at_op
 returns-2 c =
     let o = c.before.before in
     let s = o.before in
@@ -27,7 +27,7 @@ in-group-requires c κs =
     in-batch a.batches.now a.block a.index b.batch.given.0.0.num_ops a.op s.starts-at.result o.op-idx-in-batch-to-group.result p.place.given.0.0 s.starts-at.ensures o.op-idx-in-batch-to-group.ensures p.place.given.1
 
 returns-3 : tie.Need-returns-3
-unfolding contextAtOp
+unfolding context_at_op
 returns-3 c =
     let f = c.before in
     let g = f.before.before in
@@ -38,7 +38,7 @@ returns-3 c =
     rw (← b.before.before.batch-at.ensures, b.batch.given.1, ← s.starts-at.ensures, ← o.op-idx-in-batch-to-group.ensures, p.place.given.1, in-group-is, ← g.in_group.ensures, c.context-refusal.ensures, f.enum-told3.given.1)
 
 returns-4 : tie.Need-returns-4
-unfolding contextAtOp
+unfolding context_at_op
 returns-4 c =
     let f = c.before in
     let g = f.before.before in

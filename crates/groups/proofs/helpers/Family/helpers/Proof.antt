@@ -1,15 +1,15 @@
 -- `Family::helpers` meets its contract: each arm by the constructor that it knows.
 use borrow.Author.Rules.{rules}
-use Rattle.groups.specs.ways.Families.{foundOf}
+use Rattle.groups.specs.ways.Families.{found_of}
 use Rattle.groups.proofs.helpers.Family.helpers.Statement.{statement}
 use Rattle.groups.proofs.helpers.Family.helpers.Tie as tie
 
 returns : tie.Need-returns
-unfolding foundOf
+unfolding found_of
 returns c = rw (c.before.before.self.given.1, c.are.ensures)
 
 returns-2 : tie.Need-returns-2
-unfolding foundOf
+unfolding found_of
 returns-2 c = rw (c.before.before.before.before.self2.given.1, c.are2.ensures, c.before.inverse.ensures, c.before.before.sub.ensures)
 
 returns-3 : tie.Need-returns-3

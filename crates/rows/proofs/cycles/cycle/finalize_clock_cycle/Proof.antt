@@ -1,6 +1,6 @@
 -- `cycle::finalize_clock_cycle` meets its contract: a scan, the checks, the tally, and what they leave.
 use borrow.Author.Rules.{rules}
-use Rattle.rows.specs.cycles.LentTally.{talliedCycle}
+use Rattle.rows.specs.cycles.LentTally.{tallied_cycle}
 use Rattle.rows.proofs.cycles.Tallying.{room-kept, countable}
 use Rattle.rows.proofs.cycles.cycle.finalize_clock_cycle.Statement.{statement}
 use Rattle.rows.proofs.cycles.cycle.finalize_clock_cycle.Tie as tie
@@ -17,7 +17,7 @@ finish-made-requires c κs =
     room-kept _ _ _ _ k.checked.result w.count-row.result _ _ w.count-row.ensures.0 k.checked.ensures.1.0
 
 returns : tie.Need-returns
-unfolding talliedCycle
+unfolding tallied_cycle
 returns c =
     let d = c.before.before in
     let w = d.before.before.before.before in

@@ -1,6 +1,6 @@
 -- `cycle::finish_made` meets its contract: the row that is made is put, and the tracer moves on; a refusal is kept.
 use borrow.Author.Rules.{rules}
-use Rattle.rows.specs.cycles.Cycles.{tracerAfter, fragmentAfter}
+use Rattle.rows.specs.cycles.Cycles.{tracer_after, fragment_after}
 use Rattle.rows.proofs.cycles.Picks.{pick_same}
 use Rattle.rows.proofs.records.Rooms.{row_next}
 use Rattle.rows.proofs.cycles.cycle.finish_made.Statement.{statement}
@@ -15,7 +15,7 @@ moved-requires c κs =
     row_next _ _ (rw k.made.given.1 at k.before.before.before.requires) k.before.before.before.well-formed.1.1.1.1.1.0.0
 
 returns : tie.Need-returns
-unfolding tracerAfter fragmentAfter
+unfolding tracer_after fragment_after
 returns c =
     let n = c.before in
     let e = n.before in
@@ -23,7 +23,7 @@ returns c =
     (n.made-refusal.ensures, (rw (c.kept.ensures, n.made-refusal.ensures, e.enum_told.given.1), (rw e.enum_told.given.1, rw e.enum_told.given.1 (pick_same a.write _))))
 
 returns-2 : tie.Need-returns-2
-unfolding tracerAfter fragmentAfter
+unfolding tracer_after fragment_after
 returns-2 c =
     let p = c.before.before.before in
     let e = p.before.before.before.before.made.given.1 in

@@ -1,11 +1,11 @@
 -- `cycle::left_after` meets its contract.
 use borrow.Author.Rules.{rules}
-use Rattle.rows.specs.cycles.Cycles.{leftAfter}
+use Rattle.rows.specs.cycles.Cycles.{left_after}
 use Rattle.rows.proofs.cycles.cycle.left_after.Statement.{statement}
 use Rattle.rows.proofs.cycles.cycle.left_after.Tie as tie
 
 pub left-after-spec : {M : Type 1} → statement M
-unfolding leftAfter
+unfolding left_after
 left-after-spec =
     tie.close
     (tie.spec

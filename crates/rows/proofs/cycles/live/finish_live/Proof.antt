@@ -54,8 +54,8 @@ use Rattle.rows.specs.declared.records.state.SystemState.{SystemState}
 use Rattle.rows.specs.declared.records.state.StackState.{StackState}
 use Rattle.rows.specs.records.Forests.{forest}
 use Rattle.rows.specs.records.Addresses.{queues}
-use Rattle.rows.specs.cycles.Cycles.{tracerAfter, followingOf, fragmentAfter}
-use Rattle.rows.specs.cycles.LentTally.{talliedCycle, tallyAfter}
+use Rattle.rows.specs.cycles.Cycles.{tracer_after, following_of, fragment_after}
+use Rattle.rows.specs.cycles.LentTally.{tallied_cycle, tally_after}
 use Rattle.rows.specs.contracts.records.profile.Profile as Pr
 use Rattle.rows.proofs.records.profile.Profile.TheLaws as Pr'
 use Rattle.rows.specs.contracts.records.state.SystemState as Sy
@@ -209,12 +209,12 @@ module _ {M : Type 1} {𝓤 : Ura M} (𝓛 : Logic 𝓤) (mem : Memory → SProp
 
   -- what is known of the result, the last tally and the last fragment
   abbrev made : Answer MadeRow
-  made = talliedCycle profile (forest a.0.now a.1.0.now a.1.1.0.now a.1.1.1.0.now a.1.1.1.1.0.now) (queues a.1.1.1.1.1.0.now a.1.1.1.1.1.1.0.now a.1.1.1.1.1.1.1.0.now) stack registers live.tally.now frag.now live.tracer
+  made = tallied_cycle profile (forest a.0.now a.1.0.now a.1.1.0.now a.1.1.1.0.now a.1.1.1.1.0.now) (queues a.1.1.1.1.1.0.now a.1.1.1.1.1.1.0.now a.1.1.1.1.1.1.1.0.now) stack registers live.tally.now frag.now live.tracer
 
   abbrev Said : Finished → List ℕ → List ℕ → SProp 𝓤
   Said r z w =
-      sep 𝓤 (fact 𝓤 (r.refusal ≡ refusal made)) (sep 𝓤 (fact 𝓤 (r.tracer ≡ tracerAfter system stack live.tracer made)) (sep 𝓤 (fact 𝓤 (r.following ≡ followingOf made))
-      (sep 𝓤 (fact 𝓤 (z ≡ tallyAfter profile live.tally.now frag.now live.tracer.row_write_index made)) (fact 𝓤 (w ≡ fragmentAfter frag.now live.tracer made)))))
+      sep 𝓤 (fact 𝓤 (r.refusal ≡ refusal made)) (sep 𝓤 (fact 𝓤 (r.tracer ≡ tracer_after system stack live.tracer made)) (sep 𝓤 (fact 𝓤 (r.following ≡ following_of made))
+      (sep 𝓤 (fact 𝓤 (z ≡ tally_after profile live.tally.now frag.now live.tracer.row_write_index made)) (fact 𝓤 (w ≡ fragment_after frag.now live.tracer made)))))
 
   -- what is had of the record's fields at exit
   abbrev had : List ℕ → List Val × (List Val × Unit {0}) → Fml

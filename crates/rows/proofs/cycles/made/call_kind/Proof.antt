@@ -1,11 +1,11 @@
 -- `made::call_kind` meets its contract.
 use borrow.Author.Rules.{rules}
-use Rattle.rows.specs.cycles.Made.{callKind}
+use Rattle.rows.specs.cycles.Made.{call_kind}
 use Rattle.rows.proofs.cycles.made.call_kind.Statement.{statement}
 use Rattle.rows.proofs.cycles.made.call_kind.Tie as tie
 
 pub call-kind-spec : {M : Type 1} → statement M
-unfolding callKind
+unfolding call_kind
 call-kind-spec =
     tie.close
     (tie.spec

@@ -1,11 +1,11 @@
 -- `made::dyn_kind` meets its contract.
 use borrow.Author.Rules.{rules}
-use Rattle.rows.specs.cycles.Made.{dynKind}
+use Rattle.rows.specs.cycles.Made.{dyn_kind}
 use Rattle.rows.proofs.cycles.made.dyn_kind.Statement.{statement}
 use Rattle.rows.proofs.cycles.made.dyn_kind.Tie as tie
 
 pub dyn-kind-spec : {M : Type 1} → statement M
-unfolding dynKind
+unfolding dyn_kind
 dyn-kind-spec =
     tie.close
     (tie.spec

@@ -1,11 +1,11 @@
 -- `made::entry_kind` meets its contract.
 use borrow.Author.Rules.{rules}
-use Rattle.rows.specs.cycles.Made.{entryKind}
+use Rattle.rows.specs.cycles.Made.{entry_kind}
 use Rattle.rows.proofs.cycles.made.entry_kind.Statement.{statement}
 use Rattle.rows.proofs.cycles.made.entry_kind.Tie as tie
 
 pub entry-kind-spec : {M : Type 1} → statement M
-unfolding entryKind
+unfolding entry_kind
 entry-kind-spec =
     tie.close
     (tie.spec

@@ -1,21 +1,21 @@
 -- `made::finish_loop` meets its contract.
 use borrow.Author.Rules.{rules}
-use Rattle.rows.specs.cycles.Made.{finishLoop}
+use Rattle.rows.specs.cycles.Made.{finish_loop}
 use Rattle.rows.proofs.cycles.made.finish_loop.Statement.{statement}
 use Rattle.rows.proofs.cycles.made.finish_loop.Tie as tie
 
 returns : tie.Need-returns
-unfolding finishLoop
+unfolding finish_loop
 returns c = rw c.enum_told.given.1
 
 returns-2 : tie.Need-returns-2
-unfolding finishLoop
+unfolding finish_loop
 returns-2 c =
     let i = c.before in
     rw (i.before.before.condition.given.1, i.if1.true) c.repeat-row.ensures
 
 returns-3 : tie.Need-returns-3
-unfolding finishLoop
+unfolding finish_loop
 returns-3 c =
     let i = c.before in
     rw (i.before.before.condition.given.1, i.if1.false) c.finish-node.ensures

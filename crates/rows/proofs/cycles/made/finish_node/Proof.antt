@@ -2,23 +2,23 @@
 use borrow.Author.Rules.{rules}
 use Rattle.rows.specs.records.DecoderRows.{end_word}
 use Rattle.rows.proofs.cycles.Steps.{end_refused, end_moved}
-use Rattle.rows.specs.cycles.Made.{madeEnd}
+use Rattle.rows.specs.cycles.Made.{made_end}
 use Rattle.rows.proofs.cycles.made.finish_node.Statement.{statement}
 use Rattle.rows.proofs.cycles.made.finish_node.Tie as tie
 
 returns : tie.Need-returns
-unfolding madeEnd
+unfolding made_end
 returns c = rw (← c.before.before.Node-at.ensures, c.enum_told.given.1)
 
 returns-2 : tie.Need-returns-2
-unfolding madeEnd
+unfolding made_end
 returns-2 c =
     let e = c.before.before in
     let a = e.before.before in
     rw (← a.before.before.Node-at.ensures, a.entry.given.1, ← e.entry-kind.ensures, c.enum-told2.given.1)
 
 returns-3 : tie.Need-returns-3
-unfolding madeEnd
+unfolding made_end
 returns-3 c =
     let l = c.before.before in
     let k = l.before.before in
@@ -29,7 +29,7 @@ returns-3 c =
     rw (← n.Node-at.ensures, e.entry.given.1, ← i.entry-kind.ensures, k.entry-kind2.given.1, end_refused a.ends.now a.at a.state l.end-lent.result l.end-lent.ensures c.enum-told3.given.0.0 c.enum-told3.given.1)
 
 returns-4 : tie.Need-returns-4
-unfolding madeEnd end_word
+unfolding made_end end_word
 returns-4 c =
     let r = c.before in
     let w = r.before in

@@ -8,7 +8,7 @@ use denote.Enum.Declared.{tag_of}
 use Rattle.groups.specs.Answer.{refused}
 use Rattle.rows.specs.declared.records.forest.MastNode.{MastNode}
 use Rattle.rows.specs.contracts.records.forest.MastNode.{the_type}
-use Rattle.rows.specs.cycles.Made.{madeRepeat, body_of}
+use Rattle.rows.specs.cycles.Made.{made_repeat, body_of}
 use Rattle.rows.proofs.cycles.made.repeat_row.Statement.{statement}
 use Rattle.rows.proofs.cycles.made.repeat_row.Tie as tie
 
@@ -29,17 +29,17 @@ not-loop MastNode.Dyncall h = refl
 not-loop MastNode.External h = refl
 
 returns : tie.Need-returns
-unfolding madeRepeat
+unfolding made_repeat
 returns c = rw (← c.before.before.Node-at.ensures, c.enum_told.given.1)
 
 returns-2 : tie.Need-returns-2
-unfolding madeRepeat
+unfolding made_repeat
 returns-2 c =
     let e = c.before.before in
     rw (← e.before.before.Node-at.ensures, e.entry.given.1, not-loop e.entry.given.0.0.node c.match2.keys2)
 
 returns-3 : tie.Need-returns-3
-unfolding madeRepeat body_of
+unfolding made_repeat body_of
 returns-3 c =
     let d = c.before.before in
     let n = d.before.before in
@@ -47,7 +47,7 @@ returns-3 c =
     rw (← e.before.before.Node-at.ensures, e.entry.given.1, n.node.given.1, ← d.digest-at.ensures, c.enum-told2.given.1)
 
 returns-4 : tie.Need-returns-4
-unfolding madeRepeat body_of
+unfolding made_repeat body_of
 returns-4 c =
     let d = c.before.before in
     let a = d.before.before in

@@ -1,22 +1,22 @@
 -- `made::respan` meets its contract.
 use borrow.Author.Rules.{rules}
-use Rattle.rows.specs.cycles.Made.{madeRespan}
+use Rattle.rows.specs.cycles.Made.{made_respan}
 use Rattle.rows.proofs.cycles.made.respan.Statement.{statement}
 use Rattle.rows.proofs.cycles.made.respan.Tie as tie
 
 returns : tie.Need-returns
-unfolding madeRespan
+unfolding made_respan
 returns c = rw (← c.before.before.Node-at.ensures, c.enum_told.given.1)
 
 returns-2 : tie.Need-returns-2
-unfolding madeRespan
+unfolding made_respan
 returns-2 c =
     let a = c.before.before in
     let e = a.before.before in
     rw (← e.before.before.Node-at.ensures, e.entry.given.1, ← a.as-block.ensures, c.enum-told2.given.1)
 
 returns-3 : tie.Need-returns-3
-unfolding madeRespan
+unfolding made_respan
 returns-3 c =
     let f = c.before in
     let n = f.before.before in
@@ -26,7 +26,7 @@ returns-3 c =
     rw (← e.before.before.Node-at.ensures, e.entry.given.1, ← a.as-block.ensures, b.block.given.1, ← n.new-at-batch-start.ensures, c.batch-refusal.ensures, f.enum-told3.given.1)
 
 returns-4 : tie.Need-returns-4
-unfolding madeRespan
+unfolding made_respan
 returns-4 c =
     let n = c.before in
     let f = n.before.before.before.before in

@@ -1,15 +1,15 @@
 -- `made::start_dyn` meets its contract.
 use borrow.Author.Rules.{rules}
-use Rattle.rows.specs.cycles.Made.{startDyn}
+use Rattle.rows.specs.cycles.Made.{start_dyn}
 use Rattle.rows.proofs.cycles.made.start_dyn.Statement.{statement}
 use Rattle.rows.proofs.cycles.made.start_dyn.Tie as tie
 
 returns : tie.Need-returns
-unfolding startDyn
+unfolding start_dyn
 returns c = rw c.enum_told.given.1
 
 returns-2 : tie.Need-returns-2
-unfolding startDyn
+unfolding start_dyn
 returns-2 c = rw (c.before.before.callee.given.1, c.new-control-flow.ensures)
 
 pub start-dyn-spec : {M : Type 1} → statement M

@@ -1,19 +1,19 @@
 -- `made::start_dyncall` meets its contract.
 use borrow.Author.Rules.{rules}
-use Rattle.rows.specs.cycles.Made.{startDyncall}
+use Rattle.rows.specs.cycles.Made.{start_dyncall}
 use Rattle.rows.proofs.cycles.made.start_dyncall.Statement.{statement}
 use Rattle.rows.proofs.cycles.made.start_dyncall.Tie as tie
 
 returns : tie.Need-returns
-unfolding startDyncall
+unfolding start_dyncall
 returns c = rw c.enum_told.given.1
 
 returns-2 : tie.Need-returns-2
-unfolding startDyncall
+unfolding start_dyncall
 returns-2 c = rw (c.before.before.before.callee.given.1, c.enum-told2.given.1)
 
 returns-3 : tie.Need-returns-3
-unfolding startDyncall
+unfolding start_dyncall
 returns-3 c =
     let i = c.before.before.before in
     rw (i.before.before.before.callee.given.1, i.info.given.1, c.new-control-flow.ensures)

@@ -1,11 +1,11 @@
 -- `made::start_kind` meets its contract.
 use borrow.Author.Rules.{rules}
-use Rattle.rows.specs.cycles.Made.{startKind}
+use Rattle.rows.specs.cycles.Made.{start_kind}
 use Rattle.rows.proofs.cycles.made.start_kind.Statement.{statement}
 use Rattle.rows.proofs.cycles.made.start_kind.Tie as tie
 
 pub start-kind-spec : {M : Type 1} → statement M
-unfolding startKind
+unfolding start_kind
 start-kind-spec =
     tie.close
     (tie.spec

@@ -1,12 +1,12 @@
 -- `made::start_node` meets its contract.
 use borrow.Author.Rules.{rules}
 use Rattle.rows.proofs.cycles.Steps.{start-refused, start-moved}
-use Rattle.rows.specs.cycles.Made.{startNode}
+use Rattle.rows.specs.cycles.Made.{start_node}
 use Rattle.rows.proofs.cycles.made.start_node.Statement.{statement}
 use Rattle.rows.proofs.cycles.made.start_node.Tie as tie
 
 returns : tie.Need-returns
-unfolding startNode
+unfolding start_node
 returns c =
     let e = c.before in
     let s = e.before.before in
@@ -14,7 +14,7 @@ returns c =
     rw (c.start-refusal.ensures, e.enum_told.given.1, start-refused a.addresses.now a.parents.now a.at a.state s.start-lent.result s.start-lent.ensures e.enum_told.given.0.0 e.enum_told.given.1)
 
 returns-2 : tie.Need-returns-2
-unfolding startNode
+unfolding start_node
 returns-2 c =
     let n = c.before.before in
     let p = n.before.before in
@@ -24,7 +24,7 @@ returns-2 c =
     rw (m.0, ← n.Node-at.ensures, c.enum-told2.given.1)
 
 returns-3 : tie.Need-returns-3
-unfolding startNode
+unfolding start_node
 returns-3 c =
     let e = c.before.before.before in
     let n = e.before.before in

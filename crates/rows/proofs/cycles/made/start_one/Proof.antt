@@ -1,15 +1,15 @@
 -- `made::start_one` meets its contract.
 use borrow.Author.Rules.{rules}
-use Rattle.rows.specs.cycles.Made.{startOne}
+use Rattle.rows.specs.cycles.Made.{start_one}
 use Rattle.rows.proofs.cycles.made.start_one.Statement.{statement}
 use Rattle.rows.proofs.cycles.made.start_one.Tie as tie
 
 returns : tie.Need-returns
-unfolding startOne
+unfolding start_one
 returns c = rw (← c.before.before.digest-at.ensures, c.enum_told.given.1)
 
 returns-2 : tie.Need-returns-2
-unfolding startOne
+unfolding start_one
 returns-2 c =
     let a = c.before.before in
     rw (← a.before.before.digest-at.ensures, a.a.given.1, c.new-control-flow.ensures)

@@ -1,11 +1,11 @@
 -- `tally::cannot_count` meets its contract.
 use borrow.Author.Rules.{rules}
-use Rattle.rows.specs.cycles.LentTally.{cannotCount}
+use Rattle.rows.specs.cycles.LentTally.{cannot_count}
 use Rattle.rows.proofs.cycles.tally.cannot_count.Statement.{statement}
 use Rattle.rows.proofs.cycles.tally.cannot_count.Tie as tie
 
 returns : tie.Need-returns
-unfolding cannotCount
+unfolding cannot_count
 returns c = rw (← c.number_at.ensures)
 
 pub cannot-count-spec : {M : Type 1} → statement M

@@ -2,7 +2,7 @@
 use native.Mathlib.Omega.{arith}
 use borrow.Author.Rules.{rules}
 use lib.ListN.{length-set}
-use Rattle.rows.specs.cycles.LentTally.{countedAt}
+use Rattle.rows.specs.cycles.LentTally.{counted_at}
 use Rattle.rows.proofs.cycles.tally.count_at.Statement.{statement}
 use Rattle.rows.proofs.cycles.tally.count_at.Tie as tie
 
@@ -10,11 +10,11 @@ slice-write-tally-2 : tie.Need-slice-write-tally-2
 slice-write-tally-2 c = simp length-set (omega arith)
 
 returns : tie.Need-returns
-unfolding countedAt
+unfolding counted_at
 returns c = rw (← c.before.is_free.ensures, c.if1.true)
 
 returns-2 : tie.Need-returns-2
-unfolding countedAt
+unfolding counted_at
 returns-2 c = rw (← c.before.before.is_free.ensures, c.before.if1.false)
 
 pub count-at-spec : {M : Type 1} → statement M

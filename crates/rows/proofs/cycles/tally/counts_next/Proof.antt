@@ -1,13 +1,13 @@
 -- `tally::counts_next` meets its contract.
 use mathlib.Core.Path.{sym, ◌∙◌}
 use borrow.Author.Rules.{rules}
-use Rattle.rows.specs.cycles.LentTally.{countsNext}
+use Rattle.rows.specs.cycles.LentTally.{counts_next}
 use Rattle.rows.proofs.cycles.Tallying.{counts-after}
 use Rattle.rows.proofs.cycles.tally.counts_next.Statement.{statement}
 use Rattle.rows.proofs.cycles.tally.counts_next.Tie as tie
 
 returns : tie.Need-returns
-unfolding countsNext
+unfolding counts_next
 returns c = rw c.if1.true
 
 returns-2 : tie.Need-returns-2

@@ -1,11 +1,11 @@
 -- `tally::is_free` meets its contract.
 use borrow.Author.Rules.{rules}
-use Rattle.rows.specs.cycles.LentTally.{isFree}
+use Rattle.rows.specs.cycles.LentTally.{is_free}
 use Rattle.rows.proofs.cycles.tally.is_free.Statement.{statement}
 use Rattle.rows.proofs.cycles.tally.is_free.Tie as tie
 
 returns : tie.Need-returns
-unfolding isFree
+unfolding is_free
 returns c = rw (← c.number_at.ensures)
 
 pub is-free-spec : {M : Type 1} → statement M

@@ -4,8 +4,8 @@ use native.Mathlib.Omega.{arith}
 use borrow.Author.Rules.{rules}
 use lib.ListN.{length}
 use Rattle.groups.specs.Answer.{first_of}
-use Rattle.rows.specs.passes.Passes.{refusalAll, sum_of}
-use Rattle.rows.specs.ways.Finisher.{Passed, otherPasses}
+use Rattle.rows.specs.passes.Passes.{refusal_all, sum_of}
+use Rattle.rows.specs.ways.Finisher.{Passed, other_passes}
 use Rattle.rows.proofs.passes.Refusals.{refused-pass, made-pass}
 use Rattle.rows.proofs.passes.Finishing.{sum-held, sum-uncapped, ready}
 use Rattle.rows.proofs.passes.PassOrder.{second-first}
@@ -28,32 +28,32 @@ write-multiplicities-requires c κs =
     (omega (arith, s, f.in_buffer), omega (arith, s, f.few))
 
 returns-2 : tie.Need-returns-2
-unfolding refusalAll first_of
+unfolding refusal_all first_of
 returns-2 c =
     let a = c.before.before.before.before.before.before.before.before.before.before.before.before.args in
     let h = passed c.before.before.before.before.before.before in
     let w = rw (c.if2.true, sum_is c.before.before.before.before.before) at c.before.before.before.write-multiplicities.ensures in
-    let e : 14 ≡ refusalAll a.profile a.buffer.now a.fragment-size a.counts.now a.built.now a.height = rw (h.profile-right, h.fragments, h.height-right, h.fragment, h.full, ← w.0) in
+    let e : 14 ≡ refusal_all a.profile a.buffer.now a.fragment-size a.counts.now a.built.now a.height = rw (h.profile_right, h.fragments, h.height_right, h.fragment, h.full, ← w.0) in
     (e, w.1 ∙ (refused-pass 14 _ _ _ e (λ z. absurd (omega (arith, z)))).1)
 
 finish-rows-requires : tie.Need-finish-rows-requires
 finish-rows-requires c κs =
     let h = passed c.before.before.before.before.before.before.before in
     let l = c.before.before.before.buffer.given in
-    (sum_is c.before.before.before.before.before.before, (rw l (h.fragments, h.height-right), (h.fragment, h.full)))
+    (sum_is c.before.before.before.before.before.before, (rw l (h.fragments, h.height_right), (h.fragment, h.full)))
 
 returns-3 : tie.Need-returns-3
-unfolding refusalAll first_of
+unfolding refusal_all first_of
 returns-3 c =
     let a = c.before.before.before.before.before.before.before.before.before.before.before.before.before.before.before.before.args in
     let h = passed c.before.before.before.before.before.before.before.before.before.before in
     let f = sum-held (length a.buffer.now) a.fragment-size a.counts.now a.built.now h.fragments in
-    let r = ready (length a.buffer.now) a.fragment-size _ a.height a.counts.now a.built.now h.fragments h.height-right h.fragment h.full refl in
+    let r = ready (length a.buffer.now) a.fragment-size _ a.height a.counts.now a.built.now h.fragments h.height_right h.fragment h.full refl in
     let w = rw (c.before.before.before.before.if2.false, sum_is c.before.before.before.before.before.before.before.before.before) at c.before.before.before.before.before.before.before.write-multiplicities.ensures in
-    let e : 0 ≡ refusalAll a.profile a.buffer.now a.fragment-size a.counts.now a.built.now a.height = rw (h.profile-right, h.fragments, h.height-right, h.fragment, h.full, ← w.0) in
+    let e : 0 ≡ refusal_all a.profile a.buffer.now a.fragment-size a.counts.now a.built.now a.height = rw (h.profile_right, h.fragments, h.height_right, h.fragment, h.full, ← w.0) in
     made-pass 0 _ _ _ _ e refl
-    (c.before.before.finish-rows.ensures ∙ ap (otherPasses a.profile a.fragment-size a.counts.now a.built.now a.first-stack-top a.height) w.1
-    ∙ second-first a.profile a.fragment-size a.counts.now a.built.now a.first-stack-top a.height a.buffer.now f.in_buffer r.in-built)
+    (c.before.before.finish-rows.ensures ∙ ap (other_passes a.profile a.fragment-size a.counts.now a.built.now a.first-stack-top a.height) w.1
+    ∙ second-first a.profile a.fragment-size a.counts.now a.built.now a.first-stack-top a.height a.buffer.now f.in_buffer r.in_built)
 
 pub finish_spec : {M : Type 1} → statement M
 finish_spec =

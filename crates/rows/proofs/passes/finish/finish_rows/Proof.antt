@@ -4,8 +4,8 @@ use Prim.Native.Nat.{◌+◌, ◌-◌, ◌≤◌}
 use native.Mathlib.Omega.{arith}
 use borrow.Author.Rules.{rules}
 use lib.ListN.{length}
-use Rattle.rows.specs.passes.Passes.{lastBuilt}
-use Rattle.rows.specs.ways.Finisher.{otherPasses}
+use Rattle.rows.specs.passes.Passes.{last_built}
+use Rattle.rows.specs.ways.Finisher.{other_passes}
 use Rattle.rows.proofs.passes.Finishing.{Ready, ready, sum-uncapped, last-part, last-length, tall-at}
 use Rattle.rows.proofs.passes.finish.finish_rows.Statement.{statement}
 use Rattle.rows.proofs.passes.finish.finish_rows.Tie as tie
@@ -39,7 +39,7 @@ push-halt-requires : tie.Need-push-halt-requires
 push-halt-requires c κs =
     let u = c.before.before.before.before.before.before.before.before.before.before.before.before.before in
     let f = ready_at u in
-    (omega arith, last-length u.args.built.now (length u.args.counts.now) f.some f.in-built)
+    (omega arith, last-length u.args.built.now (length u.args.counts.now) f.some f.in_built)
 
 add-pad : tie.Need-overflow-add-pad
 add-pad c = let f = ready_at c.before.before.before.before.before.before.before.before.before.before.before.before.before.before.before.before.before in omega arith
@@ -52,7 +52,7 @@ pad-requires c κs =
     (omega arith, below, tall-at u.args.height (length u.args.buffer.now) _ f.tall (omega (arith, c.before.before.buffer3.given, c.before.before.before.before.before.before.before.buffer2.given, c.before.before.before.before.before.before.before.before.before.before.before.buffer.given)))
 
 returns : tie.Need-returns
-unfolding otherPasses lastBuilt
+unfolding other_passes last_built
 returns c =
     let u = c.before.before.before.before.before.before.before.before.before.before.before.before.before.before.before.before.before.before.before.before in
     let f = ready_at u in

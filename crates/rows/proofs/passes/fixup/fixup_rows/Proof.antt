@@ -3,7 +3,7 @@ use Prim.Native.Nat.{◌-◌}
 use native.Mathlib.Omega.{arith}
 use borrow.Author.Rules.{rules}
 use lib.ListN.{length}
-use Rattle.rows.specs.passes.Passes.{builtOf, sum_of}
+use Rattle.rows.specs.passes.Passes.{built_of, sum_of}
 use Rattle.rows.proofs.passes.Counts.{fits}
 use Rattle.rows.proofs.passes.FirstRows.{first-then-later}
 use Rattle.rows.proofs.passes.fixup.fixup_rows.Statement.{statement}
@@ -19,7 +19,7 @@ write-later-rows-requires : tie.Need-write-later-rows-requires
 write-later-rows-requires c κs =
     let s = c.before.before.before.before.before.before.before.before in
     let f = fits (length s.args.buffer.now) s.args.fragment-size s.args.counts.now s.args.built.now s.requires.0 s.requires.1 s.requires.2 in
-    (f.some, f.in_rows, omega arith, f.in-built)
+    (f.some, f.in_rows, omega arith, f.in_built)
 
 returns : tie.Need-returns
 returns c =
@@ -29,7 +29,7 @@ returns c =
     let n = sum_of s.args.counts.now in
     let f = fits (length s.args.buffer.now) s.args.fragment-size s.args.counts.now s.args.built.now s.requires.0 s.requires.1 s.requires.2 in
     rw (l.write-later-rows.ensures, w.write-first-stack.ensures)
-    (first-then-later n s.args.fragment-size s.args.buffer.now s.args.first-stack-top (builtOf (length s.args.counts.now - 1) s.args.built.now) f.rows f.some f.in_buffer)
+    (first-then-later n s.args.fragment-size s.args.buffer.now s.args.first-stack-top (built_of (length s.args.counts.now - 1) s.args.built.now) f.rows f.some f.in_buffer)
 
 pub fixup-rows-spec : {M : Type 1} → statement M
 fixup-rows-spec =

@@ -6,11 +6,11 @@ use borrow.Author.Tests.{ne_eqb}
 use native.Mathlib.Omega.{arith}
 use lib.Dec.{eqb}
 use lib.ListN.{length}
-use Rattle.rows.specs.passes.Passes.{noFragment}
+use Rattle.rows.specs.passes.Passes.{no_fragment}
 use Rattle.rows.proofs.passes.fixup.no_fragment.Statement.{statement}
 use Rattle.rows.proofs.passes.fixup.no_fragment.Tie as tie
 
-none : (counts : List ℕ) → eqb (length counts) 0 ≡ noFragment counts
+none : (counts : List ℕ) → eqb (length counts) 0 ≡ no_fragment counts
 none [] = refl
 none (count ∷ counts) = ne_eqb (length (count ∷ counts)) 0 (λ e. omega arith)
 

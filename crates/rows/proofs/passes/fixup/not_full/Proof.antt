@@ -6,7 +6,7 @@ use native.Mathlib.Omega.{arith}
 use borrow.Author.Rules.{rules}
 use lib.Dec.{ltb}
 use lib.ListN.{length, get_or, drop, length-drop}
-use Rattle.rows.specs.passes.Passes.{notFull}
+use Rattle.rows.specs.passes.Passes.{not_full}
 use Rattle.rows.proofs.passes.Counts.{full-none, full-cons, full-last}
 use Rattle.field.proofs.AnyFrom.{gather-turn}
 use Rattle.rows.proofs.passes.fixup.not_full.Statement.{statement}
@@ -14,7 +14,7 @@ use Rattle.rows.proofs.passes.fixup.not_full.Tie as tie
 
 abbrev invariant-loop : tie.invariant-loop
 invariant-loop size counts last found₀ i₀ found i =
-    (i ≤ last) × (last + 1 ≡ length counts) × ((found || notFull size (drop i counts)) ≡ notFull size counts)
+    (i ≤ last) × (last + 1 ≡ length counts) × ((found || not_full size (drop i counts)) ≡ not_full size counts)
 
 abbrev decreases-loop : tie.decreases-loop
 decreases-loop size counts last found₀ i₀ found i = last - i
@@ -33,7 +33,7 @@ loop-again c =
     let s = a.fragment-size in
     let whole = a.counts.now in
     let cons = full-cons s (get_or whole i 0) (drop (suc i) whole) (omega (arith, length-drop (suc i) whole)) in
-    (omega arith, l.loop.invariant.1, gather-turn (notFull s) l.loop.found (ltb c.count_at.result s) whole i (omega arith) (rw c.count_at.ensures cons) l.loop.invariant.2)
+    (omega arith, l.loop.invariant.1, gather-turn (not_full s) l.loop.found (ltb c.count_at.result s) whole i (omega arith) (rw c.count_at.ensures cons) l.loop.invariant.2)
 
 returns-2 : tie.Need-returns-2 invariant-loop decreases-loop
 returns-2 c =

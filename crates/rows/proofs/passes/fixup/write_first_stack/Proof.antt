@@ -9,13 +9,13 @@ use Rattle.field.specs.Cells.{reduced}
 use Rattle.field.proofs.CellLaws.{length-reduced}
 use Rattle.rows.specs.records.Built.{reversed16}
 use Rattle.rows.proofs.records.Rooms.{copy-fits}
-use Rattle.rows.specs.passes.Passes.{firstRow}
+use Rattle.rows.specs.passes.Passes.{first_row}
 use Rattle.rows.proofs.passes.Sides.{stack-copied}
 use Rattle.rows.proofs.passes.fixup.write_first_stack.Statement.{statement}
 use Rattle.rows.proofs.passes.fixup.write_first_stack.Tie as tie
 
 returns : tie.Need-returns
-unfolding firstRow
+unfolding first_row
 returns c =
     let d = c.before.before in
     let a = d.before.before.before.before.args in

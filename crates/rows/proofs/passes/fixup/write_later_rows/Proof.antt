@@ -5,15 +5,15 @@ use native.Mathlib.Nat.{mul-le-mul_right}
 use native.Mathlib.Omega.{arith}
 use borrow.Author.Rules.{rules}
 use lib.ListN.{length, length-take, length-drop}
-use Rattle.rows.specs.records.Buffers.{onRows}
-use Rattle.rows.specs.passes.Passes.{laterRows, builtOf, sum_of}
+use Rattle.rows.specs.records.Buffers.{on_rows}
+use Rattle.rows.specs.passes.Passes.{later_rows, built_of, sum_of}
 use Rattle.rows.proofs.passes.FirstRows.{later-start, later-turn}
 use Rattle.rows.proofs.passes.fixup.write_later_rows.Statement.{statement}
 use Rattle.rows.proofs.passes.fixup.write_later_rows.Tie as tie
 
 abbrev invariant-loop : tie.invariant-loop
 invariant-loop buffer₀ size counts built k₀ buffer k =
-    (1 ≤ k) × (k - 1 ≤ length counts - 1) × (length buffer ≡ length buffer₀) × (buffer ≡ onRows (sum_of counts) (laterRows size size (builtOf (k - 1) built)) buffer₀)
+    (1 ≤ k) × (k - 1 ≤ length counts - 1) × (length buffer ≡ length buffer₀) × (buffer ≡ on_rows (sum_of counts) (later_rows size size (built_of (k - 1) built)) buffer₀)
 
 abbrev decreases-loop : tie.decreases-loop
 decreases-loop buffer₀ size counts built k₀ buffer k = length counts - k

@@ -7,9 +7,9 @@ use borrow.Author.Rules.{rules}
 use lib.Dec.{leb}
 use lib.ListN.{length}
 use Rattle.rows.specs.declared.records.profile.Profile.{Profile}
-use Rattle.rows.specs.records.Profiles.{profileWrong}
+use Rattle.rows.specs.records.Profiles.{profile_wrong}
 use Rattle.rows.specs.passes.Passes.{refusal4}
-use Rattle.rows.specs.records.Buffers.{bufferWrong}
+use Rattle.rows.specs.records.Buffers.{buffer_wrong}
 use Rattle.groups.specs.Answer.{first_of}
 use Rattle.rows.proofs.passes.Refusals.{fewer-more}
 use Rattle.rows.proofs.passes.halt.halt_refusal.Statement.{statement}
@@ -20,7 +20,7 @@ unfolding refusal4 first_of
 returns c = rw (← c.before.is-wrong.ensures, c.if1.true)
 
 -- where the profile passes, the lengths decide
-lengths-left : (p : Profile) (b : List ℕ) (n : ℕ) {wrong : Bool} → wrong ≡ profileWrong p → wrong ≡ false → refusal4 p b n ≡ first_of ((bufferWrong (length b) || leb (length b / 49) n, 11) ∷ [])
+lengths-left : (p : Profile) (b : List ℕ) (n : ℕ) {wrong : Bool} → wrong ≡ profile_wrong p → wrong ≡ false → refusal4 p b n ≡ first_of ((buffer_wrong (length b) || leb (length b / 49) n, 11) ∷ [])
 unfolding refusal4 first_of
 lengths-left p b n e right = rw (← e, right, fewer-more)
 

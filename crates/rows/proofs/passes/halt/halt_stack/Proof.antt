@@ -7,7 +7,7 @@ use borrow.Author.Rules.{rules}
 use lib.ListN.{length, drop}
 use lib.Seq.{take-take}
 use Rattle.rows.specs.declared.records.state.StackCols.{StackCols}
-use Rattle.rows.specs.records.Built.{stackCells}
+use Rattle.rows.specs.records.Built.{stack_cells}
 use Rattle.rows.proofs.passes.HaltRows.{halt-stack}
 use Rattle.rows.proofs.passes.halt.halt_stack.Statement.{statement}
 use Rattle.rows.proofs.passes.halt.halt_stack.Tie as tie
@@ -18,7 +18,7 @@ returns c =
     let s = k.before.before.before in
     let built : List ℕ = s.args.built.now in
     let stack : StackCols = k.stack_of.result in
-    ap (λ (h : ℕ). stackCells (record { top = stack.top; b0 = stack.b0; b1 = stack.b1; h0 = h })) c.inverse.ensures
+    ap (λ (h : ℕ). stack_cells (record { top = stack.top; b0 = stack.b0; b1 = stack.b1; h0 = h })) c.inverse.ensures
     ∙ halt-stack built stack (k.stack_of.ensures ∙ take-take 19 (length built - 6) (drop 6 built) (omega (arith, s.requires)))
 
 pub halt-stack-spec : {M : Type 1} → statement M

@@ -2,13 +2,13 @@
 use mathlib.Core.Path.{◌∙◌, sym}
 use native.Mathlib.Omega.{arith}
 use borrow.Author.Rules.{rules}
-use Rattle.rows.specs.records.Buffers.{rows_of, lastRow}
+use Rattle.rows.specs.records.Buffers.{rows_of, last_row}
 use Rattle.rows.proofs.passes.HaltRows.{last-half}
 use Rattle.rows.proofs.passes.halt.last_half.Statement.{statement}
 use Rattle.rows.proofs.passes.halt.last_half.Tie as tie
 
 returns : tie.Need-returns
-unfolding rows_of lastRow
+unfolding rows_of last_row
 returns c = rw c.if1.true
 
 returns-2 : tie.Need-returns-2

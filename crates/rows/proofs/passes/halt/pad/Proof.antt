@@ -7,12 +7,12 @@ use borrow.Author.Rules.{rules}
 use lib.ListN.{length, take, drop}
 use lib.Seq.{take-take}
 use Rattle.rows.specs.declared.records.profile.Profile.{Profile}
-use Rattle.rows.specs.records.DecoderRows.{zeroWord, controlFlow}
-use Rattle.rows.specs.records.Built.{stackCells}
-use Rattle.rows.specs.records.Buffers.{rows_of, onRows, lastRow}
-use Rattle.rows.specs.records.Cells.{rowCells}
+use Rattle.rows.specs.records.DecoderRows.{zero_word, control_flow}
+use Rattle.rows.specs.records.Built.{stack_cells}
+use Rattle.rows.specs.records.Buffers.{rows_of, on_rows, last_row}
+use Rattle.rows.specs.records.Cells.{row_cells}
 use Rattle.rows.proofs.records.Rooms.{row_fits}
-use Rattle.rows.specs.passes.Passes.{firstHalf, padded}
+use Rattle.rows.specs.passes.Passes.{first_half, padded}
 use Rattle.rows.proofs.passes.RowLists.{length-put}
 use Rattle.rows.proofs.passes.HaltRows.{last-stack, length-row, padding-row, padded-none, put-padding}
 use Rattle.rows.proofs.passes.halt.pad.Statement.{statement}
@@ -21,7 +21,7 @@ use Rattle.rows.proofs.passes.halt.pad.Tie as tie
 abbrev invariant-loop : tie.invariant-loop
 invariant-loop buffer₀ rows height decoder at stack row₀ buffer row =
     (rows ≤ row) × (row ≤ height) × (length buffer ≡ length buffer₀)
-    × ((p : Profile) → decoder ≡ controlFlow p.halt (firstHalf (lastRow (rows_of rows buffer₀))) zeroWord 0 → buffer ≡ onRows rows (padded p row) buffer₀)
+    × ((p : Profile) → decoder ≡ control_flow p.halt (first_half (last_row (rows_of rows buffer₀))) zero_word 0 → buffer ≡ on_rows rows (padded p row) buffer₀)
 
 abbrev decreases-loop : tie.decreases-loop
 decreases-loop buffer₀ rows height decoder at stack row₀ buffer row = height - row
@@ -42,12 +42,12 @@ loop-again c =
     let b : List ℕ = s.args.buffer.now in
     let n : ℕ = s.args.rows in
     let at : ℕ = 49 * n - 19 in
-    let before : List ℕ = lastRow (rows_of n b) in
-    let cells : List ℕ = rowCells y.padding-system.result d.halt-decoder.result k.stack_of.result in
+    let before : List ℕ = last_row (rows_of n b) in
+    let cells : List ℕ = row_cells y.padding-system.result d.halt-decoder.result k.stack_of.result in
     let room : 49 * l.loop.row + 49 ≤ length l.loop.buffer = omega arith in
     let written = w.write-row.ensures ∙ row_fits l.loop.buffer l.loop.row cells room in
-    let own : stackCells k.stack_of.result ≡ take 19 (drop at b) = k.stack_of.ensures ∙ take-take 19 (length b - at) (drop at b) (omega arith) in
-    let stack : stackCells k.stack_of.result ≡ take 19 (drop 30 before) = own ∙ sym (last-stack n b (omega arith)) in (
+    let own : stack_cells k.stack_of.result ≡ take 19 (drop at b) = k.stack_of.ensures ∙ take-take 19 (length b - at) (drop at b) (omega arith) in
+    let stack : stack_cells k.stack_of.result ≡ take 19 (drop 30 before) = own ∙ sym (last-stack n b (omega arith)) in (
       omega arith,
       omega arith,
       ap length written ∙ length-put l.loop.buffer l.loop.row cells (length-row _ _ _) room ∙ l.loop.invariant.2,

@@ -5,7 +5,7 @@ use Prim.Native.Nat.{ℕ}
 use native.Mathlib.Omega.{arith}
 use borrow.Author.Rules.{rules}
 use Rattle.rows.proofs.records.Rooms.{row_fits}
-use Rattle.rows.specs.records.Buffers.{rows_of, lastRow}
+use Rattle.rows.specs.records.Buffers.{rows_of, last_row}
 use Rattle.rows.proofs.passes.HaltRows.{halt-row, put-halt}
 use Rattle.rows.proofs.passes.halt.push_halt.Statement.{statement}
 use Rattle.rows.proofs.passes.halt.push_halt.Tie as tie
@@ -23,7 +23,7 @@ returns c =
     w.write-row.ensures
     ∙ row_fits b n _ s.requires.0
     ∙ put-halt s.args.profile built b n (omega arith)
-    (halt-row s.args.profile (lastRow (rows_of n b)) y.system-of.result d.halt-decoder.result k.halt-stack.result d.halt-decoder.ensures built
+    (halt-row s.args.profile (last_row (rows_of n b)) y.system-of.result d.halt-decoder.result k.halt-stack.result d.halt-decoder.ensures built
     y.system-of.ensures
     k.halt-stack.ensures)
 

@@ -1,13 +1,13 @@
 -- `halt::stack_of` meets its contract.
 use native.Mathlib.Omega.{arith}
 use borrow.Author.Rules.{rules}
-use Rattle.rows.specs.records.Built.{stackCells}
+use Rattle.rows.specs.records.Built.{stack_cells}
 use Rattle.rows.proofs.records.Windows.{read_take}
 use Rattle.rows.proofs.passes.halt.stack_of.Statement.{statement}
 use Rattle.rows.proofs.passes.halt.stack_of.Tie as tie
 
 returns : tie.Need-returns
-unfolding stackCells
+unfolding stack_cells
 returns c =
     let d = c.before.before.before in
     let e = d.before.before.before.before in

@@ -1,13 +1,13 @@
 -- `halt::system_of` meets its contract.
 use native.Mathlib.Omega.{arith}
 use borrow.Author.Rules.{rules}
-use Rattle.rows.specs.records.Built.{systemCells}
+use Rattle.rows.specs.records.Built.{system_cells}
 use Rattle.rows.proofs.records.Windows.{read_take}
 use Rattle.rows.proofs.passes.halt.system_of.Statement.{statement}
 use Rattle.rows.proofs.passes.halt.system_of.Tie as tie
 
 returns : tie.Need-returns
-unfolding systemCells
+unfolding system_cells
 returns c =
     let s = c.before.before.before.before in
     rw (c.before.before.number_at.ensures, c.before.number-at2.ensures, c.word_in.ensures) (read_take s.args.cells.now 0 6 (omega arith))

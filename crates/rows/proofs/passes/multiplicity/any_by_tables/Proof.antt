@@ -4,13 +4,13 @@ use Prim.Native.Nat.{ℕ, ◌-◌, ◌≤◌}
 use native.Mathlib.Omega.{arith}
 use lib.ListN.{length, length-replicate}
 use lib.Seq.{length-take-le}
-use Rattle.rows.specs.ways.LoopCounts.{endsIn, lacksFrom}
+use Rattle.rows.specs.ways.LoopCounts.{ends_in, lacks_from}
 use Rattle.rows.proofs.passes.RowsFrom.{lacks-first, lacks-last}
 use Rattle.rows.proofs.passes.multiplicity.any_by_tables.Statement.{statement}
 use Rattle.rows.proofs.passes.multiplicity.any_by_tables.Tie as tie
 
 abbrev invariant-loop : tie.invariant-loop
-invariant-loop profile buffer rows keys₀ from₀ keys from = (from ≤ rows) × (length keys ≡ 8192) × (lacksFrom profile (endsIn profile rows buffer) rows from buffer ≡ lacksFrom profile (endsIn profile rows buffer) rows 0 buffer)
+invariant-loop profile buffer rows keys₀ from₀ keys from = (from ≤ rows) × (length keys ≡ 8192) × (lacks_from profile (ends_in profile rows buffer) rows from buffer ≡ lacks_from profile (ends_in profile rows buffer) rows 0 buffer)
 
 abbrev decreases-loop : tie.decreases-loop
 decreases-loop profile buffer rows keys₀ from₀ keys from = rows - from
@@ -56,7 +56,7 @@ returns-2 : tie.Need-returns-2 invariant-loop decreases-loop
 returns-2 c =
     let a = c.before.before.before.args in
     let l = c.before.loop in
-    sym (lacks-last a.profile (endsIn a.profile a.rows a.buffer.now) a.rows l.from a.buffer.now (omega arith)) ∙ l.invariant.2 ∙ sym (lacks-first a.profile a.rows a.buffer.now)
+    sym (lacks-last a.profile (ends_in a.profile a.rows a.buffer.now) a.rows l.from a.buffer.now (omega arith)) ∙ l.invariant.2 ∙ sym (lacks-first a.profile a.rows a.buffer.now)
 
 pub any-by-tables-spec : {M : Type 1} → statement M
 any-by-tables-spec =

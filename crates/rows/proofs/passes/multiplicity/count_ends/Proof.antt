@@ -3,13 +3,13 @@ use mathlib.Core.Path.{◌≡◌, sym, ap, ◌∙◌}
 use Prim.Native.Nat.{ℕ, ◌+◌, ◌-◌, ◌≤◌, ◌<◌}
 use native.Mathlib.Omega.{arith}
 use lib.ListN.{length, get_or, length-replicate}
-use Rattle.rows.specs.ways.LoopCounts.{endsIn, Tallied}
+use Rattle.rows.specs.ways.LoopCounts.{ends_in, Tallied}
 use Rattle.rows.proofs.passes.Tallies.{zero-at, tally-none, tally-more, tally-skip}
 use Rattle.rows.proofs.passes.multiplicity.count_ends.Statement.{statement}
 use Rattle.rows.proofs.passes.multiplicity.count_ends.Tie as tie
 
 abbrev invariant-loop : tie.invariant-loop
-invariant-loop profile buffer rows keys counts₀ i₀ counts i = (i < rows) × (length counts ≡ 4096) × ((p : ℕ) → get_or counts p 0 ≤ i) × Tallied keys counts (endsIn profile (i + 1) buffer)
+invariant-loop profile buffer rows keys counts₀ i₀ counts i = (i < rows) × (length counts ≡ 4096) × ((p : ℕ) → get_or counts p 0 ≤ i) × Tallied keys counts (ends_in profile (i + 1) buffer)
 
 abbrev decreases-loop : tie.decreases-loop
 decreases-loop profile buffer rows keys counts₀ i₀ counts i = rows - i

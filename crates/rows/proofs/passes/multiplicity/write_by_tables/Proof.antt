@@ -4,14 +4,14 @@ use Prim.Native.Nat.{ℕ, ◌-◌, ◌≤◌}
 use native.Mathlib.Omega.{arith}
 use lib.ListN.{length, length-replicate}
 use lib.Seq.{length-take-le}
-use Rattle.rows.specs.ways.LoopCounts.{endsIn, countedFrom, Alike}
+use Rattle.rows.specs.ways.LoopCounts.{ends_in, counted_from, Alike}
 use Rattle.rows.proofs.passes.RowCells.{alike_refl, alike-trans}
 use Rattle.rows.proofs.passes.Written.{counted-first, counted-last, counted-on}
 use Rattle.rows.proofs.passes.multiplicity.write_by_tables.Statement.{statement}
 use Rattle.rows.proofs.passes.multiplicity.write_by_tables.Tie as tie
 
 abbrev invariant-loop : tie.invariant-loop
-invariant-loop profile buffer₀ rows keys₀ from₀ buffer keys from = (from ≤ rows) × (length keys ≡ 8192) × Alike buffer buffer₀ × (countedFrom profile (endsIn profile rows buffer₀) rows from buffer ≡ countedFrom profile (endsIn profile rows buffer₀) rows 0 buffer₀)
+invariant-loop profile buffer₀ rows keys₀ from₀ buffer keys from = (from ≤ rows) × (length keys ≡ 8192) × Alike buffer buffer₀ × (counted_from profile (ends_in profile rows buffer₀) rows from buffer ≡ counted_from profile (ends_in profile rows buffer₀) rows 0 buffer₀)
 
 abbrev decreases-loop : tie.decreases-loop
 decreases-loop profile buffer₀ rows keys₀ from₀ buffer keys from = rows - from
@@ -51,13 +51,13 @@ loop-again c =
     let l = c.before.before.before.before.before.before.before.before.before.before.before.before.before.before.before.before.loop in
     let w = c.before.before.write-between in
     let t = c.before.before.before.before.before.before.before.before.before.before.before.before.take-loops in
-    (omega (arith, t.ensures.0.within), omega arith, alike-trans w.new.1.0 l.buffer a.buffer.now w.ensures.0 l.invariant.2, counted-on a.profile a.rows l.from t.result.next l.buffer w.new.1.0 a.buffer.now (countedFrom a.profile (endsIn a.profile a.rows a.buffer.now) a.rows 0 a.buffer.now) l.invariant.2 w.ensures.1 l.invariant.3)
+    (omega (arith, t.ensures.0.within), omega arith, alike-trans w.new.1.0 l.buffer a.buffer.now w.ensures.0 l.invariant.2, counted-on a.profile a.rows l.from t.result.next l.buffer w.new.1.0 a.buffer.now (counted_from a.profile (ends_in a.profile a.rows a.buffer.now) a.rows 0 a.buffer.now) l.invariant.2 w.ensures.1 l.invariant.3)
 
 returns : tie.Need-returns invariant-loop decreases-loop
 returns c =
     let a = c.before.before.before.args in
     let l = c.before.loop in
-    sym (counted-last a.profile (endsIn a.profile a.rows a.buffer.now) a.rows l.from l.buffer (omega arith) (omega arith)) ∙ l.invariant.3 ∙ sym (counted-first a.profile a.rows a.buffer.now)
+    sym (counted-last a.profile (ends_in a.profile a.rows a.buffer.now) a.rows l.from l.buffer (omega arith) (omega arith)) ∙ l.invariant.3 ∙ sym (counted-first a.profile a.rows a.buffer.now)
 
 pub write-by-tables-spec : {M : Type 1} → statement M
 write-by-tables-spec =

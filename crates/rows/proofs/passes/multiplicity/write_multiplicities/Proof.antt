@@ -5,8 +5,8 @@ use Prim.Native.Nat.{ℕ}
 use native.Mathlib.Omega.{arith}
 use borrow.Author.Rules.{rules}
 use lib.ListN.{length}
-use Rattle.rows.specs.records.Buffers.{rows_of, onRows}
-use Rattle.rows.specs.passes.Passes.{loopWithoutBody, multiplied}
+use Rattle.rows.specs.records.Buffers.{rows_of, on_rows}
+use Rattle.rows.specs.passes.Passes.{loop_without_body, multiplied}
 use Rattle.rows.proofs.passes.RowsFrom.{lacks-first}
 use Rattle.rows.proofs.passes.Written.{counted-first}
 use Rattle.rows.proofs.passes.multiplicity.write_multiplicities.Statement.{statement}
@@ -26,7 +26,7 @@ returns-2 : tie.Need-returns-2
 returns-2 c =
     let a = c.before.before.before.before.before.before.before.before.before.args in
     let e = c.before.before.before.before.before.before.count-nested.ensures.1 c.before.before.before.if1.false in
-    (sym c.if2.true ∙ c.before.any-by-tables.ensures ∙ ap (λ (l : List ℕ). loopWithoutBody a.profile (rows_of a.rows l)) e, e)
+    (sym c.if2.true ∙ c.before.any-by-tables.ensures ∙ ap (λ (l : List ℕ). loop_without_body a.profile (rows_of a.rows l)) e, e)
 
 write-by-tables-requires : tie.Need-write-by-tables-requires
 write-by-tables-requires c κs = let e = c.before.before.before.before.before.before.before.count-nested.ensures.1 c.before.before.before.before.if1.false in (omega (arith, ap (λ (l : List ℕ). length l) e), omega arith)
@@ -35,8 +35,8 @@ returns-3 : tie.Need-returns-3
 returns-3 c =
     let a = c.before.before.before.before.before.before.before.before.before.before.before.before.before.args in
     let e = c.before.before.before.before.before.before.before.before.before.before.count-nested.ensures.1 c.before.before.before.before.before.before.before.if1.false in (
-      sym c.before.before.before.before.if2.false ∙ c.before.before.before.before.before.any-by-tables.ensures ∙ ap (λ (l : List ℕ). loopWithoutBody a.profile (rows_of a.rows l)) e,
-      c.before.before.write-by-tables.ensures ∙ ap (λ (l : List ℕ). onRows a.rows (multiplied a.profile) l) e,
+      sym c.before.before.before.before.if2.false ∙ c.before.before.before.before.before.any-by-tables.ensures ∙ ap (λ (l : List ℕ). loop_without_body a.profile (rows_of a.rows l)) e,
+      c.before.before.write-by-tables.ensures ∙ ap (λ (l : List ℕ). on_rows a.rows (multiplied a.profile) l) e,
     )
 
 pub write-multiplicities-spec : {M : Type 1} → statement M

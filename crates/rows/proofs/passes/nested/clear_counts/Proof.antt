@@ -5,8 +5,8 @@ use mathlib.Core.List.{List}
 use Prim.Native.Nat.{ℕ, ◌-◌, ◌≤◌}
 use native.Mathlib.Omega.{arith}
 use lib.ListN.{length, length-set}
-use Rattle.rows.specs.records.Buffers.{bufferRow}
-use Rattle.rows.specs.ways.LoopCounts.{isLoop}
+use Rattle.rows.specs.records.Buffers.{buffer_row}
+use Rattle.rows.specs.ways.LoopCounts.{is_loop}
 use Rattle.rows.specs.ways.OpenLoops.{CountsIn}
 use Rattle.rows.proofs.passes.RowCells.{opcode-alike}
 use Rattle.rows.proofs.passes.OpenLoops.{clear_none, clear-one, cleared-all}
@@ -27,7 +27,7 @@ loop-again c =
       simp length-set l.invariant.1,
       λ first was.
           let k = l.invariant.2 first was in
-          let y : isLoop a.profile (bufferRow l.i first) ≡ true = rw (← (opcode-alike l.buffer first k.alike l.i)) (sym c.before.is_Loop.ensures ∙ c.if1.true) in
+          let y : is_loop a.profile (buffer_row l.i first) ≡ true = rw (← (opcode-alike l.buffer first k.alike l.i)) (sym c.before.is_Loop.ensures ∙ c.if1.true) in
           clear-one a.profile first l.buffer l.i a.end k (omega arith) y (omega (arith, l.invariant.1)),
     )
 
@@ -39,7 +39,7 @@ loop-again-2 c =
       l.invariant.1,
       λ first was.
           let k = l.invariant.2 first was in
-          let n : isLoop a.profile (bufferRow l.i first) ≡ false = rw (← (opcode-alike l.buffer first k.alike l.i)) (sym c.before.is_Loop.ensures ∙ c.if1.false) in
+          let n : is_loop a.profile (buffer_row l.i first) ≡ false = rw (← (opcode-alike l.buffer first k.alike l.i)) (sym c.before.is_Loop.ensures ∙ c.if1.false) in
           clear_none a.profile first l.buffer l.i a.end k n,
     )
 

@@ -3,7 +3,7 @@ use mathlib.Core.Path.{sym, ◌∙◌}
 use native.Mathlib.Omega.{arith}
 use borrow.Author.Rules.{rules}
 use borrow.Author.Tests.{eq-eqb, ne_eqb}
-use Rattle.rows.specs.records.Buffers.{bufferRow, opcode_of}
+use Rattle.rows.specs.records.Buffers.{buffer_row, opcode_of}
 use Rattle.rows.specs.ways.OpenLoops.{RoleOf}
 use Rattle.rows.proofs.passes.RowCells.{flagged-yes, flagged-no}
 use Rattle.rows.proofs.passes.nested.end_role.Statement.{statement}
@@ -18,7 +18,7 @@ unfolding RoleOf
 returns-2 c =
     let a = c.before.before.before.before.before.args in
     let o = c.before.before.before.before.before.requires.2 in (
-      ne_eqb (opcode_of (bufferRow a.i a.buffer.now)) _ (λ e. c.before.before.if1.false (sym e ∙ o)),
+      ne_eqb (opcode_of (buffer_row a.i a.buffer.now)) _ (λ e. c.before.before.if1.false (sym e ∙ o)),
       flagged-no a.profile a.buffer.now a.i (λ e. c.if2.true (c.before.cell.ensures ∙ e)),
     )
 
@@ -31,7 +31,7 @@ unfolding RoleOf
 returns-4 c =
     let a = c.before.before.before.before.before.before.before.before.before.args in
     let o = c.before.before.before.before.before.before.before.before.before.requires.2 in (
-      ne_eqb (opcode_of (bufferRow a.i a.buffer.now)) _ (λ e. c.before.before.before.before.before.before.if1.false (sym e ∙ o)),
+      ne_eqb (opcode_of (buffer_row a.i a.buffer.now)) _ (λ e. c.before.before.before.before.before.before.if1.false (sym e ∙ o)),
       flagged-yes a.profile a.buffer.now a.i (sym c.before.before.before.before.before.cell.ensures ∙ c.before.before.before.before.if2.false) ∙ eq-eqb _ _ o,
       omega (arith, c.before.before.before.if3.false),
       sym c.before.before.addr_at.ensures ∙ c.if4.true ∙ c.before.addr-at2.ensures,

@@ -10,8 +10,8 @@ use borrow.Author.Tests.{eqb-true, not-false}
 use lib.ListN.{length, get_or, length-set, length-replicate}
 use Rattle.field.proofs.CellLaws.{cell_below}
 use Rattle.rows.specs.declared.records.profile.Profile.{Profile}
-use Rattle.rows.specs.records.Buffers.{bufferRow}
-use Rattle.rows.specs.ways.LoopCounts.{isLoop, nextAddr, endsIn, countedFrom}
+use Rattle.rows.specs.records.Buffers.{buffer_row}
+use Rattle.rows.specs.ways.LoopCounts.{is_loop, next_addr, ends_in, counted_from}
 use Rattle.rows.specs.ways.OpenLoops.{RoleOf, CountsIn}
 use Rattle.rows.proofs.passes.RowCells.{opcode-alike, flagged_alike, cell-alike}
 use Rattle.rows.proofs.cycles.PartScans.{never}
@@ -22,7 +22,7 @@ use Rattle.rows.proofs.passes.nested.sweep.Tie as tie
 abbrev invariant-loop : tie.invariant-loop
 invariant-loop profile buffer₀ rows stack₀ depth₀ above₀ i₀ buffer stack depth above i =
     (i ≤ rows - 1) × (length stack ≡ 65) × (depth ≤ 64) × CountsIn profile buffer₀ 0 i buffer × LoopsCounted profile buffer₀ buffer stack depth above i
-    × (countedFrom profile (endsIn profile rows buffer₀) rows 0 buffer ≡ countedFrom profile (endsIn profile rows buffer₀) rows 0 buffer₀)
+    × (counted_from profile (ends_in profile rows buffer₀) rows 0 buffer ≡ counted_from profile (ends_in profile rows buffer₀) rows 0 buffer₀)
     × LoopsEnded profile buffer₀ rows stack depth i
 
 abbrev decreases-loop : tie.decreases-loop
@@ -76,7 +76,7 @@ loop-again-2 c =
     let y = rw (opcode-alike l.buffer first g l.i) at r.0 in
     let f = rw (flagged_alike l.buffer first g l.i a.profile) at r.1 in
     let s = c.before.before.before.addr_at.ensures ∙ cell-alike l.buffer first g (l.i + 1) 6 (omega arith) in
-    let high : l.above ≤ nextAddr l.i first = omega (arith, s, o.1) in (
+    let high : l.above ≤ next_addr l.i first = omega (arith, s, o.1) in (
       omega arith,
       simp length-set l.invariant.1,
       omega (arith, o.0),
@@ -87,7 +87,7 @@ loop-again-2 c =
     )
 
 -- the innermost open LOOP row stands before row i
-top-row : (p : Profile) (first cells stack : List ℕ) (depth above i : ℕ) → LoopsCounted p first cells stack depth above i → 0 < depth → (get_or stack depth 0 < i) × (isLoop p (bufferRow (get_or stack depth 0) first) ≡ true)
+top-row : (p : Profile) (first cells stack : List ℕ) (depth above i : ℕ) → LoopsCounted p first cells stack depth above i → 0 < depth → (get_or stack depth 0 < i) × (is_loop p (buffer_row (get_or stack depth 0) first) ≡ true)
 top-row p first cells stack depth above i was some = was.opened depth some (omega arith)
 
 slice-read-buffer : tie.Need-slice-read-buffer invariant-loop decreases-loop
@@ -127,9 +127,9 @@ loop-again-3 c =
     let n = rw (opcode-alike l.buffer first g l.i) at r.0 in
     let f = rw (flagged_alike l.buffer first g l.i a.profile) at r.1 in
     let top : ℕ = get_or l.stack l.depth 0 in
-    let same : nextAddr top first ≡ nextAddr l.i first = sym (cell-alike l.buffer first g (top + 1) 6 (omega arith)) ∙ r.3 ∙ cell-alike l.buffer first g (l.i + 1) 6 (omega arith) in
+    let same : next_addr top first ≡ next_addr l.i first = sym (cell-alike l.buffer first g (top + 1) 6 (omega arith)) ∙ r.3 ∙ cell-alike l.buffer first g (l.i + 1) 6 (omega arith) in
     let t = top-row a.profile first l.buffer l.stack l.depth l.above l.i l.invariant.4 r.2 in
-    let y : isLoop a.profile (bufferRow top l.buffer) ≡ true = rw (opcode-alike l.buffer first g top) t.1 in
+    let y : is_loop a.profile (buffer_row top l.buffer) ≡ true = rw (opcode-alike l.buffer first g top) t.1 in
     let o = c.left_open.ensures in
     let count : ℕ = get_or l.buffer (49 * top + 23) 0 + 1 in (
       omega arith,
@@ -137,7 +137,7 @@ loop-again-3 c =
       omega (arith, o.0),
       in-ends a.profile first l.buffer l.i l.invariant.3 top count t.0 t.1 n,
       counted-ends a.profile first l.buffer l.stack l.depth l.above l.i l.invariant.4 n f r.2 same c.left_open.result o.0 (omega (arith, g.size, t.0)),
-      still-counted a.profile (endsIn a.profile a.rows first) a.rows top count l.buffer (omega (arith, t.0)) y ∙ l.invariant.5,
+      still-counted a.profile (ends_in a.profile a.rows first) a.rows top count l.buffer (omega (arith, t.0)) y ∙ l.invariant.5,
       ended-ends a.profile first a.rows l.stack l.depth l.i l.invariant.6 c.left_open.result (omega arith) o.0 o.1 n f same,
     )
 
@@ -185,7 +185,7 @@ sweep-spec =
     (λ c κs. tt)
     (λ c. c.before.before.before.before.before.before.before.before.before.before.loop.invariant.3.alike.size)
     returns
-    (λ c. omega (arith, c.before.before.before.addr_at.ensures, cell_below (bufferRow (c.before.before.before.before.before.before.before.before.before.before.loop.i + 1) c.before.before.before.before.before.before.before.before.before.before.loop.buffer) 6))
+    (λ c. omega (arith, c.before.before.before.addr_at.ensures, cell_below (buffer_row (c.before.before.before.before.before.before.before.before.before.before.loop.i + 1) c.before.before.before.before.before.before.before.before.before.before.loop.buffer) 6))
     (λ c. omega (arith, opens_at c))
     (λ c. omega (arith, opens_at c))
     (λ c. omega (arith, opens_at c))

@@ -41,7 +41,7 @@ use denote.Triple.Spec.{Meets, triple_of}
 use denote.Triple.Table.{entered, cited}
 use denote.Triple.Walked.{says, Stays, stay_none, stay_none_slice, walk_of, Goes-none, Goes-none_slice, Walks, ends_at, walked, walk_Meets}
 use denote.Exit.{yes}
-use Rattle.rows.specs.records.Addresses.{toldEnded, endAnswer, endState}
+use Rattle.rows.specs.records.Addresses.{told_ended, end_answer, end_state}
 use Rattle.rows.specs.declared.records.address_state.DecoderState.{DecoderState}
 use Rattle.rows.specs.declared.records.address_state.Positions.{Positions}
 use Rattle.rows.specs.declared.records.address_state.EndStep.{EndStep}
@@ -74,7 +74,7 @@ Step 𝓛 mem run = triple_of 𝓛 step.signature (step.spec 𝓛 mem run)
 abbrev val : Ended → Val
 val r = EL.val E.the_type E'.the_laws r
 
-module _ {M : Type 1} {𝓤 : Ura M} (𝓛 : Logic 𝓤) (at_mem : Memory → SProp 𝓤) (run : Routine → Fun 𝓤) (κ : Lft) (q : Share) (h : DecoderState) (was : Is T.the_row h (T'.lowered h ∷ [])) (s : Bor (List ℕ)) (p : Positions) (isP : Is P.the_row p (P'.lowered p ∷ [])) where
+module _ {M : Type 1} {𝓤 : Ura M} (𝓛 : Logic 𝓤) (at_mem : Memory → SProp 𝓤) (run : Routine → Fun 𝓤) (κ : Lft) (q : Share) (h : DecoderState) (was : Is T.the_row h (T'.lowered h ∷ [])) (s : Bor (List ℕ)) (p : Positions) (is_p : Is P.the_row p (P'.lowered p ∷ [])) where
   -- the machine value of the queue
   open 𝓛 use {H}
 
@@ -114,13 +114,13 @@ module _ {M : Type 1} {𝓤 : Ura M} (𝓛 : Logic 𝓤) (at_mem : Memory → SP
   made r d is is' = LL.owes S.the_type S'.the_laws (both r d) (is, (is', tt))
 
   abbrev Said : Ended → DecoderState → Type 0
-  Said r d = (toldEnded r ≡ endAnswer s.now p) × (d ≡ endState s.now p h)
+  Said r d = (told_ended r ≡ end_answer s.now p) × (d ≡ end_state s.now p h)
 
   exits : (r : Ended) (d : DecoderState) → Said r d → Is E.the_row r (val r ∷ []) → Is T.the_row d (T'.lowered d ∷ []) → ent 𝓤 (⋆ 𝓛 ((‵ (flft κ q) ⊛ ‵ ftrue) ∷ ‵ Own ∷ [])) (Post (LL.val S.the_type S'.the_laws (both r d)))
   exits r d e is is' =
       qed 𝓛 ((‵ (flft κ q) ⊛ ‵ ftrue) ∷ ‵ Own ∷ []) ∵
       suffices ! _ (ends_at 𝓛 f.ended stayed (f.clauses 𝓛 at_mem run) (((κ, tt), (q, tt), tt, x, at), tt) (LL.val S.the_type S'.the_laws (both r d)) (both r d) (tt, (tt, (tt, tt))) (tt, (tt, (tt, tt)))) $ says ! e $
-      frame ! $ nothing ! $ owned ! P.the_row (Is P.the_row) (LL.makes P.the_type P'.the_plain 𝓛) p _ isP $ fjoin ! $ move ! (1 ∷ 0 ∷ []) $ fjoin ! $ owned ! T.the_row (Is T.the_row) (LL.makes T.the_type T'.the_plain 𝓛) h _ was $ fjoin ! $
+      frame ! $ nothing ! $ owned ! P.the_row (Is P.the_row) (LL.makes P.the_type P'.the_plain 𝓛) p _ is_p $ fjoin ! $ move ! (1 ∷ 0 ∷ []) $ fjoin ! $ owned ! T.the_row (Is T.the_row) (LL.makes T.the_type T'.the_plain 𝓛) h _ was $ fjoin ! $
       owned ! S.the_row (Is S.the_row) (LL.makes S.the_type S'.the_plain 𝓛) (both r d) _ (made r d is is') $ move ! (1 ∷ 0 ∷ []) $ done !
 
   module _ (C : Calls 𝓤 H) (Λ : Loops 𝓤 H) (fm : FmC 𝓤 H 𝓛.laws C) (known : Triple 𝓤 (C #step) (Step 𝓛 at_mem run)) where
@@ -128,7 +128,7 @@ module _ {M : Type 1} {𝓤 : Ura M} (𝓛 : Logic 𝓤) (at_mem : Memory → SP
     walk is₁ =
         qed 𝓛 ((‵ (flft κ q) ⊛ ‵ ftrue) ∷ ‵ (owns (T.the_row ∷ ShrSlice (named 0) κ u64 ∷ P.the_row ∷ []) x at) ∷ []) ∵ enter ! C Λ code.function (T'.lowered h ∷ v ∷ P'.lowered p ∷ []) _ $
         alloc1 ! (λ l₀. alloc1 ! (λ l₁. alloc1 ! (λ l₂. alloc1 ! (λ l₃. alloc1 ! (λ l₄. alloc1 ! (λ l₅. alloc1 ! (λ l₆. alloc1 ! (λ l₇. alloc0 ! $ params1 ! $ pass1 ! (init ! 12 refl ((LL.lawful T.the_type T'.the_laws 𝓛).typed h _ was).0) $
-        pass1 ! (init ! 10 refl ((shr_slice_Lawful 𝓛 (named 0) κ u64).typed s (v ∷ []) is₁).0) $ pass1 ! (init ! 8 refl ((LL.lawful P.the_type P'.the_laws 𝓛).typed p _ isP).0) $ pass0 ! $
+        pass1 ! (init ! 10 refl ((shr_slice_Lawful 𝓛 (named 0) κ u64).typed s (v ∷ []) is₁).0) $ pass1 ! (init ! 8 refl ((LL.lawful P.the_type P'.the_laws 𝓛).typed p _ is_p).0) $ pass0 ! $
         assigns ! (of_opd ! (load ! (from ! (stop !)) (look ! 12 refl))) (from ! (stop !)) (init ! 6 refl ((LL.lawful T.the_type T'.the_laws 𝓛).typed h _ was).0) $
         assigns ! (addr ! (from ! (stop !))) (from ! (stop !)) (init ! 2 refl (tt, tt)) $
         -- the local is lent for a new lifetime

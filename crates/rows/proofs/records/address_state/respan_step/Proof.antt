@@ -1,11 +1,11 @@
 -- `address_state::respan_step` meets its contract.
 use borrow.Author.Rules.{rules}
-use Rattle.rows.specs.records.Addresses.{respanStep}
+use Rattle.rows.specs.records.Addresses.{respan_step}
 use Rattle.rows.proofs.records.address_state.respan_step.Statement.{statement}
 use Rattle.rows.proofs.records.address_state.respan_step.Tie as tie
 
 returns : tie.Need-returns
-unfolding respanStep
+unfolding respan_step
 returns c = rw c.add.ensures
 
 pub respan-step-spec : {M : Type 1} → statement M

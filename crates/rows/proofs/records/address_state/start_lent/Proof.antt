@@ -42,7 +42,7 @@ use denote.Triple.Spec.{Meets, triple_of}
 use denote.Triple.Table.{entered, cited}
 use denote.Triple.Walked.{says, Stays, stay_none, stay_none_slice, walk_of, Goes-none, Goes-none_slice, Walks, ends_at, walked, walk_Meets}
 use denote.Exit.{yes}
-use Rattle.rows.specs.records.Addresses.{toldStarted, startAnswer, startState}
+use Rattle.rows.specs.records.Addresses.{told_started, start_answer, start_state}
 use Rattle.rows.specs.declared.records.address_state.DecoderState.{DecoderState}
 use Rattle.rows.specs.declared.records.address_state.Positions.{Positions}
 use Rattle.rows.specs.declared.records.address_state.StartStep.{StartStep}
@@ -75,7 +75,7 @@ Step 𝓛 mem run = triple_of 𝓛 step.signature (step.spec 𝓛 mem run)
 abbrev val : Started → Val
 val r = EL.val E.the_type E'.the_laws r
 
-module _ {M : Type 1} {𝓤 : Ura M} (𝓛 : Logic 𝓤) (at_mem : Memory → SProp 𝓤) (run : Routine → Fun 𝓤) (κ₁ κ₂ : Lft) (bounds : AllOutlive 2 (f.signature).outlives (κ₁, (κ₂, tt))) (q₁ q₂ : Share) (h : DecoderState) (was : Is T.the_row h (T'.lowered h ∷ [])) (s t : Bor (List ℕ)) (p : Positions) (isP : Is P.the_row p (P'.lowered p ∷ [])) where
+module _ {M : Type 1} {𝓤 : Ura M} (𝓛 : Logic 𝓤) (at_mem : Memory → SProp 𝓤) (run : Routine → Fun 𝓤) (κ₁ κ₂ : Lft) (bounds : AllOutlive 2 (f.signature).outlives (κ₁, (κ₂, tt))) (q₁ q₂ : Share) (h : DecoderState) (was : Is T.the_row h (T'.lowered h ∷ [])) (s t : Bor (List ℕ)) (p : Positions) (is_p : Is P.the_row p (P'.lowered p ∷ [])) where
   -- the machine value of a queue
   open 𝓛 use {H}
 
@@ -125,13 +125,13 @@ module _ {M : Type 1} {𝓤 : Ura M} (𝓛 : Logic 𝓤) (at_mem : Memory → SP
   made r d is is' = LL.owes S.the_type S'.the_laws (both r d) (is, (is', tt))
 
   abbrev Said : Started → DecoderState → Type 0
-  Said r d = (toldStarted r ≡ startAnswer s.now t.now p) × (d ≡ startState s.now t.now p h)
+  Said r d = (told_started r ≡ start_answer s.now t.now p) × (d ≡ start_state s.now t.now p h)
 
   exits : (r : Started) (d : DecoderState) → Said r d → Is E.the_row r (val r ∷ []) → Is T.the_row d (T'.lowered d ∷ []) → ent 𝓤 (⋆ 𝓛 (Toks ∷ (‵ Own₂ ⊛ ‵ Own₁) ∷ [])) (Post (LL.val S.the_type S'.the_laws (both r d)))
   exits r d e is is' =
       qed 𝓛 (Toks ∷ (‵ Own₂ ⊛ ‵ Own₁) ∷ []) ∵
       suffices ! _ (ends_at 𝓛 f.ended stayed (f.clauses 𝓛 at_mem run) (((κ₁, (κ₂, tt)), (q₁, (q₂, tt)), bounds, x, at), tt) (LL.val S.the_type S'.the_laws (both r d)) (both r d) (tt, (tt, (tt, (tt, tt)))) (tt, (tt, (tt, (tt, tt))))) $ says ! e $
-      frame ! $ split ! $ nothing ! $ owned ! P.the_row (Is P.the_row) (LL.makes P.the_type P'.the_plain 𝓛) p _ isP $ fjoin ! $ move ! (1 ∷ 0 ∷ []) $ fjoin ! $ move ! (1 ∷ 0 ∷ []) $ fjoin ! $ owned ! T.the_row (Is T.the_row) (LL.makes T.the_type T'.the_plain 𝓛) h _ was $ fjoin ! $
+      frame ! $ split ! $ nothing ! $ owned ! P.the_row (Is P.the_row) (LL.makes P.the_type P'.the_plain 𝓛) p _ is_p $ fjoin ! $ move ! (1 ∷ 0 ∷ []) $ fjoin ! $ move ! (1 ∷ 0 ∷ []) $ fjoin ! $ owned ! T.the_row (Is T.the_row) (LL.makes T.the_type T'.the_plain 𝓛) h _ was $ fjoin ! $
       owned ! S.the_row (Is S.the_row) (LL.makes S.the_type S'.the_plain 𝓛) (both r d) _ (made r d is is') $ move ! (1 ∷ 0 ∷ []) $ done !
 
   module _ (C : Calls 𝓤 H) (Λ : Loops 𝓤 H) (fm : FmC 𝓤 H 𝓛.laws C) (known : Triple 𝓤 (C #step) (Step 𝓛 at_mem run)) where
@@ -139,7 +139,7 @@ module _ {M : Type 1} {𝓤 : Ura M} (𝓛 : Logic 𝓤) (at_mem : Memory → SP
     walk is₁ is₂ =
         qed 𝓛 (Toks ∷ ‵ (owns (T.the_row ∷ ShrSlice (named 0) κ₁ u64 ∷ ShrSlice (named 1) κ₂ u64 ∷ P.the_row ∷ []) x at) ∷ []) ∵ enter ! C Λ code.function (T'.lowered h ∷ v s ∷ v t ∷ P'.lowered p ∷ []) _ $
         alloc1 ! (λ l₀. alloc1 ! (λ l₁. alloc1 ! (λ l₂. alloc1 ! (λ l₃. alloc1 ! (λ l₄. alloc1 ! (λ l₅. alloc1 ! (λ l₆. alloc1 ! (λ l₇. alloc1 ! (λ l₈. alloc0 ! $ params1 ! $ pass1 ! (init ! 14 refl ((LL.lawful T.the_type T'.the_laws 𝓛).typed h _ was).0) $
-        pass1 ! (init ! 12 refl ((shr_slice_Lawful 𝓛 (named 0) κ₁ u64).typed s (v s ∷ []) is₁).0) $ pass1 ! (init ! 10 refl ((shr_slice_Lawful 𝓛 (named 1) κ₂ u64).typed t (v t ∷ []) is₂).0) $ pass1 ! (init ! 8 refl ((LL.lawful P.the_type P'.the_laws 𝓛).typed p _ isP).0) $ pass0 ! $
+        pass1 ! (init ! 12 refl ((shr_slice_Lawful 𝓛 (named 0) κ₁ u64).typed s (v s ∷ []) is₁).0) $ pass1 ! (init ! 10 refl ((shr_slice_Lawful 𝓛 (named 1) κ₂ u64).typed t (v t ∷ []) is₂).0) $ pass1 ! (init ! 8 refl ((LL.lawful P.the_type P'.the_laws 𝓛).typed p _ is_p).0) $ pass0 ! $
         assigns ! (of_opd ! (load ! (from ! (stop !)) (look ! 14 refl))) (from ! (stop !)) (init ! 6 refl ((LL.lawful T.the_type T'.the_laws 𝓛).typed h _ was).0) $
         assigns ! (addr ! (from ! (stop !))) (from ! (stop !)) (init ! 2 refl (tt, tt)) $
         -- the local is lent for a new lifetime

@@ -2,17 +2,17 @@
 use mathlib.Core.Path.{refl}
 use native.Mathlib.Omega.{arith}
 use borrow.Author.Rules.{rules}
-use Rattle.rows.specs.records.Addresses.{startedAt, startAnswer, startState}
+use Rattle.rows.specs.records.Addresses.{started_at, start_answer, start_state}
 use Rattle.rows.proofs.records.EndQueue.{entry-within}
 use Rattle.rows.proofs.records.address_state.start_step.Statement.{statement}
 use Rattle.rows.proofs.records.address_state.start_step.Tie as tie
 
 returns : tie.Need-returns
-unfolding startedAt startAnswer startState
+unfolding started_at start_answer start_state
 returns c = rw (← c.before.before.address-at.ensures, c.enum_told.given.1) (refl, refl)
 
 returns-2 : tie.Need-returns-2
-unfolding startedAt startAnswer startState
+unfolding started_at start_answer start_state
 returns-2 c =
     let p = c.before.before in
     let e = p.before.before in
@@ -29,7 +29,7 @@ add-t14 c =
     omega (arith, entry-within 21 _ _ _ (rw e.parent-addr.given.1 at e.before.before.parent-at.ensures))
 
 returns-3 : tie.Need-returns-3
-unfolding startedAt startAnswer startState
+unfolding started_at start_answer start_state
 returns-3 c =
     let p = c.before.before.before in
     let q = p.before.before in

@@ -1,11 +1,11 @@
 -- `buffer::fewer_rows` meets its contract.
 use mathlib.Core.Path.{refl}
-use Rattle.rows.specs.records.Buffers.{fewerRows}
+use Rattle.rows.specs.records.Buffers.{fewer_rows}
 use Rattle.rows.proofs.records.buffer.fewer_rows.Statement.{statement}
 use Rattle.rows.proofs.records.buffer.fewer_rows.Tie as tie
 
 returns : tie.Need-returns
-unfolding fewerRows
+unfolding fewer_rows
 returns c = refl
 
 pub fewer-rows-spec : {M : Type 1} → statement M

@@ -1,16 +1,16 @@
 -- `call_record::continuation_at` meets its contract.
 use borrow.Author.Tests.{eq-eqb, ne_eqb}
 use borrow.Author.Rules.{rules}
-use Rattle.rows.specs.records.CallRecords.{continuationIn}
+use Rattle.rows.specs.records.CallRecords.{continuation_in}
 use Rattle.rows.proofs.records.call_record.continuation_at.Statement.{statement}
 use Rattle.rows.proofs.records.call_record.continuation_at.Tie as tie
 
 returns : tie.Need-returns
-unfolding continuationIn
+unfolding continuation_in
 returns c = rw (← c.before.before.number_at.ensures, ← c.before.names-no-kind.ensures, c.if1.true)
 
 returns-2 : tie.Need-returns-2
-unfolding continuationIn
+unfolding continuation_in
 returns-2 c = rw (
   ← c.before.before.before.number_at.ensures,
   ← c.before.before.names-no-kind.ensures,
@@ -19,7 +19,7 @@ returns-2 c = rw (
 )
 
 returns-3 : tie.Need-returns-3
-unfolding continuationIn
+unfolding continuation_in
 returns-3 c = rw (
   ← c.before.before.before.before.before.before.before.number_at.ensures,
   ← c.before.before.before.before.before.before.names-no-kind.ensures,
@@ -31,7 +31,7 @@ returns-3 c = rw (
 )
 
 returns-4 : tie.Need-returns-4
-unfolding continuationIn
+unfolding continuation_in
 returns-4 c = rw (
   ← c.before.before.before.before.before.before.before.before.before.number_at.ensures,
   ← c.before.before.before.before.before.before.before.before.names-no-kind.ensures,

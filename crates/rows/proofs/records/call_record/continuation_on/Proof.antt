@@ -1,47 +1,47 @@
 -- `call_record::continuation_on` meets its contract.
 use borrow.Author.Tests.{ne_eqb}
-use Rattle.rows.specs.records.CallRecords.{continuationOn}
+use Rattle.rows.specs.records.CallRecords.{continuation_on}
 use Rattle.rows.proofs.records.call_record.continuation_on.Statement.{statement}
 use Rattle.rows.proofs.records.call_record.continuation_on.Tie as tie
 
 returns : tie.Need-returns
-unfolding continuationOn
+unfolding continuation_on
 returns c = rw c.match.keys1
 
 returns-2 : tie.Need-returns-2
-unfolding continuationOn
+unfolding continuation_on
 returns-2 c = rw c.match.keys2
 
 returns-3 : tie.Need-returns-3
-unfolding continuationOn
+unfolding continuation_on
 returns-3 c = rw c.match.keys3
 
 returns-4 : tie.Need-returns-4
-unfolding continuationOn
+unfolding continuation_on
 returns-4 c = rw c.match.keys4
 
 returns-5 : tie.Need-returns-5
-unfolding continuationOn
+unfolding continuation_on
 returns-5 c = rw c.match.keys5
 
 returns-6 : tie.Need-returns-6
-unfolding continuationOn
+unfolding continuation_on
 returns-6 c = rw c.match.keys6
 
 returns-7 : tie.Need-returns-7
-unfolding continuationOn
+unfolding continuation_on
 returns-7 c = rw c.before.match.keys7 c.resume-at.ensures
 
 returns-8 : tie.Need-returns-8
-unfolding continuationOn
+unfolding continuation_on
 returns-8 c = rw c.before.match.keys8 c.respan-at.ensures
 
 returns-9 : tie.Need-returns-9
-unfolding continuationOn
+unfolding continuation_on
 returns-9 c = rw c.match.keys9
 
 returns-10 : tie.Need-returns-10
-unfolding continuationOn
+unfolding continuation_on
 returns-10 c =
     let r = c.match.rest in
     simp (

@@ -1,63 +1,63 @@
 -- `call_record::few_cells` meets its contract.
 use borrow.Author.Tests.{ne_eqb}
-use Rattle.rows.specs.records.CallRecords.{fewCells}
+use Rattle.rows.specs.records.CallRecords.{few_cells}
 use Rattle.rows.proofs.records.call_record.few_cells.Statement.{statement}
 use Rattle.rows.proofs.records.call_record.few_cells.Tie as tie
 
 returns : tie.Need-returns
-unfolding fewCells
+unfolding few_cells
 returns c = rw c.match.keys1
 
 returns-2 : tie.Need-returns-2
-unfolding fewCells
+unfolding few_cells
 returns-2 c = rw c.match.keys2
 
 returns-3 : tie.Need-returns-3
-unfolding fewCells
+unfolding few_cells
 returns-3 c = rw c.match.keys3
 
 returns-4 : tie.Need-returns-4
-unfolding fewCells
+unfolding few_cells
 returns-4 c = rw c.match.keys4
 
 returns-5 : tie.Need-returns-5
-unfolding fewCells
+unfolding few_cells
 returns-5 c = rw c.match.keys5
 
 returns-6 : tie.Need-returns-6
-unfolding fewCells
+unfolding few_cells
 returns-6 c = rw c.match.keys6
 
 returns-7 : tie.Need-returns-7
-unfolding fewCells
+unfolding few_cells
 returns-7 c = rw c.match.keys7
 
 returns-8 : tie.Need-returns-8
-unfolding fewCells
+unfolding few_cells
 returns-8 c = rw c.match.keys8
 
 returns-9 : tie.Need-returns-9
-unfolding fewCells
+unfolding few_cells
 returns-9 c = rw c.match.keys9
 
 returns-10 : tie.Need-returns-10
-unfolding fewCells
+unfolding few_cells
 returns-10 c = rw c.match.keys10
 
 returns-11 : tie.Need-returns-11
-unfolding fewCells
+unfolding few_cells
 returns-11 c = rw c.match.keys11
 
 returns-12 : tie.Need-returns-12
-unfolding fewCells
+unfolding few_cells
 returns-12 c = rw c.match.keys12
 
 returns-13 : tie.Need-returns-13
-unfolding fewCells
+unfolding few_cells
 returns-13 c = rw c.match.keys13
 
 returns-14 : tie.Need-returns-14
-unfolding fewCells
+unfolding few_cells
 returns-14 c =
     let r = c.match.rest in
     simp (

@@ -1,15 +1,15 @@
 -- `call_record::registers_at` meets its contract.
-use Rattle.rows.specs.records.CallRecords.{registersIn, manyCells, fewCells}
+use Rattle.rows.specs.records.CallRecords.{registers_in, many_cells, few_cells}
 use Rattle.rows.proofs.records.call_record.registers_at.Statement.{statement}
 use Rattle.rows.proofs.records.call_record.registers_at.Tie as tie
 
 -- number 18 names the case that has none
 returns : tie.Need-returns
-unfolding registersIn manyCells fewCells
+unfolding registers_in many_cells few_cells
 returns c = rw (← c.before.number_at.ensures, c.if1.true)
 
 returns-2 : tie.Need-returns-2
-unfolding registersIn
+unfolding registers_in
 returns-2 c =
     rw (← c.before.before.before.before.number_at.ensures, ← c.before.before.word_at.ensures, ← c.before.word-at2.ensures) c.registers-of.ensures
 

@@ -1,17 +1,17 @@
 -- `call_record::stored_at` meets its contract.
 use borrow.Author.Rules.{rules}
-use Rattle.rows.specs.records.CallRecords.{storedInRecord}
+use Rattle.rows.specs.records.CallRecords.{stored_in_record}
 use Rattle.rows.proofs.records.call_record.stored_at.Statement.{statement}
 use Rattle.rows.proofs.records.call_record.stored_at.Tie as tie
 
 returns : tie.Need-returns
-unfolding storedInRecord
+unfolding stored_in_record
 returns c =
     let e = c.before in
     rw (← e.before.before.continuation-at.ensures, c.continuation-refusal.ensures, e.enum_told.given.1)
 
 returns-2 : tie.Need-returns-2
-unfolding storedInRecord
+unfolding stored_in_record
 returns-2 c = rw (
   ← c.before.before.before.before.before.before.continuation-at.ensures,
   c.before.before.before.before.next.given.1,
@@ -20,7 +20,7 @@ returns-2 c = rw (
 )
 
 returns-3 : tie.Need-returns-3
-unfolding storedInRecord
+unfolding stored_in_record
 returns-3 c = rw (
   ← c.before.before.before.before.before.before.before.before.before.continuation-at.ensures,
   c.before.before.before.before.before.before.before.next.given.1,
@@ -31,7 +31,7 @@ returns-3 c = rw (
 )
 
 returns-4 : tie.Need-returns-4
-unfolding storedInRecord
+unfolding stored_in_record
 returns-4 c = rw (
   ← c.before.before.before.before.before.before.before.before.before.before.before.before.continuation-at.ensures,
   c.before.before.before.before.before.before.before.before.before.before.next.given.1,

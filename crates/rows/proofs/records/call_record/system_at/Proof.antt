@@ -1,19 +1,19 @@
 -- `call_record::system_at` meets its contract.
-use Rattle.rows.specs.records.CallRecords.{systemIn}
+use Rattle.rows.specs.records.CallRecords.{system_in}
 use borrow.Author.Rules.{rules}
 use Rattle.rows.proofs.records.call_record.system_at.Statement.{statement}
 use Rattle.rows.proofs.records.call_record.system_at.Tie as tie
 
 returns : tie.Need-returns
-unfolding systemIn
+unfolding system_in
 returns c = rw (← c.before.before.before.number_at.ensures, ← (c.before.before.narrow.ensures 23), c.enum_told.given.1)
 
 returns-2 : tie.Need-returns-2
-unfolding systemIn
+unfolding system_in
 returns-2 c = rw (← c.before.before.before.before.before.before.before.before.number_at.ensures, ← (c.before.before.before.before.before.before.before.narrow.ensures 23), c.before.before.before.before.before.row.given.1, ← c.before.before.before.number-at2.ensures, ← (c.before.before.narrow2.ensures 23), c.enum-told2.given.1)
 
 returns-3 : tie.Need-returns-3
-unfolding systemIn
+unfolding system_in
 returns-3 c = rw (← c.before.before.before.before.before.before.before.before.before.before.number_at.ensures, ← (c.before.before.before.before.before.before.before.before.before.narrow.ensures 23), c.before.before.before.before.before.before.before.row.given.1, ← c.before.before.before.before.before.number-at2.ensures, ← (c.before.before.before.before.narrow2.ensures 23), c.before.before.context.given.1, c.word_at.ensures)
 
 pub system-at-spec : {M : Type 1} → statement M

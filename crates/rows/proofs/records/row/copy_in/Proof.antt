@@ -8,8 +8,8 @@ use borrow.Author.Tests.{lt-leb}
 use lib.ListN.{length, get_or, length-set}
 use lib.Seq.{paste, paste-zero, paste-suc}
 use Rattle.field.specs.Cells.{cell_at, reduced}
-use Rattle.field.proofs.CellLaws.{length-reduced, getD-reduced}
-use Rattle.rows.specs.records.Cells.{copiedIn, put_in}
+use Rattle.field.proofs.CellLaws.{length-reduced, get_or-reduced}
+use Rattle.rows.specs.records.Cells.{copied_in, put_in}
 use Rattle.rows.proofs.records.Rooms.{copy-fits}
 use Rattle.rows.proofs.records.row.copy_in.Statement.{statement}
 use Rattle.rows.proofs.records.row.copy_in.Tie as tie
@@ -22,13 +22,13 @@ abbrev decreases-loop : tie.decreases-loop
 decreases-loop dst₀ at src j₀ dst j = length src - j
 
 returns : tie.Need-returns invariant-loop decreases-loop
-unfolding copiedIn put_in
+unfolding copied_in put_in
 returns c =
     let a = c.before.before.before.args in
     rw (length-reduced a.src.now, lt-leb (a.at + length a.src.now) (length a.dst.now) (omega arith))
 
 returns-2 : tie.Need-returns-2 invariant-loop decreases-loop
-unfolding copiedIn put_in
+unfolding copied_in put_in
 returns-2 c =
     let a = c.before.before.before.before.args in
     rw (length-reduced a.src.now, lt-leb (a.at + length a.src.now) (length a.dst.now) (omega arith))
@@ -46,7 +46,7 @@ loop-again c =
     let s = a.src.now in
     let inside : a.at + l.j < length a.dst.now = omega arith in
     let more : l.j < length (reduced s) = rw (length-reduced s) (omega arith) in
-    let e : get_or (reduced s) l.j 0 ≡ c.reduce.result = getD-reduced s l.j ∙ sym c.reduce.ensures in
+    let e : get_or (reduced s) l.j 0 ≡ c.reduce.result = get_or-reduced s l.j ∙ sym c.reduce.ensures in
     (rw (l.invariant.0, add-one, ← e, paste-suc a.dst.now a.at (reduced s) l.j 0), omega arith, simp length-set l.invariant.2, l.invariant.3)
 
 returns-3 : tie.Need-returns-3 invariant-loop decreases-loop

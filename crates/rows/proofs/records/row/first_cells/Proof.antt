@@ -7,12 +7,12 @@ use borrow.Author.Rules.{rules}
 use Rattle.field.specs.Modulus.{P}
 use Rattle.field.specs.Cells.{reduced}
 use Rattle.field.proofs.CellLaws.{read_small}
-use Rattle.groups.specs.Words.{readWord}
+use Rattle.groups.specs.Words.{read_word}
 use Rattle.groups.specs.declared.word.Word.{Word}
 use Rattle.rows.specs.declared.records.decoder_row.DecoderRow.{DecoderRow}
 use Rattle.rows.specs.declared.records.state.SystemCols.{SystemCols}
-use Rattle.rows.specs.records.Built.{systemCells, readSystem}
-use Rattle.rows.specs.records.DecoderRows.{decoderCells, extra0, extra1}
+use Rattle.rows.specs.records.Built.{system_cells, read_system}
+use Rattle.rows.specs.records.DecoderRows.{decoder_cells, extra0, extra1}
 use Rattle.rows.proofs.records.row.first_cells.Statement.{statement}
 use Rattle.rows.proofs.records.row.first_cells.Tie as tie
 
@@ -24,15 +24,15 @@ bits-read op =
 
 -- the cells of what was read
 all_read : (system s : SystemCols) (d : DecoderRow) (h g : Word) (op addr within count index f0 f1 f2 e0 x0 e1 x1 : ℕ) →
-    op ≡ d.opcode → s ≡ readSystem system → h ≡ readWord d.hasher_state_first_word → g ≡ readWord d.hasher_state_second_word →
+    op ≡ d.opcode → s ≡ read_system system → h ≡ read_word d.hasher_state_first_word → g ≡ read_word d.hasher_state_second_word →
     addr ≡ d.addr % P → within ≡ d.in_basic_block % P → count ≡ d.group_count % P → index ≡ d.op_index % P →
     f0 ≡ d.op_batch_flags.0 % P → f1 ≡ d.op_batch_flags.1 % P → f2 ≡ d.op_batch_flags.2 % P →
     e0 ≡ extra0 op → x0 ≡ e0 % P → e1 ≡ extra1 op → x1 ≡ e1 % P →
     s.clk ∷ s.ctx ∷ s.fn_hash.0 ∷ s.fn_hash.1 ∷ s.fn_hash.2 ∷ s.fn_hash.3 ∷ addr
     ∷ op % 2 ∷ op / 2 % 2 ∷ op / 4 % 2 ∷ op / 8 % 2 ∷ op / 16 % 2 ∷ op / 32 % 2 ∷ op / 64 % 2
     ∷ h.0 ∷ h.1 ∷ h.2 ∷ h.3 ∷ g.0 ∷ g.1 ∷ g.2 ∷ g.3 ∷ within ∷ count ∷ index ∷ f0 ∷ f1 ∷ f2 ∷ x0 ∷ x1 ∷ []
-    ≡ reduced (systemCells system ++ decoderCells d)
-unfolding systemCells decoderCells reduced readSystem
+    ≡ reduced (system_cells system ++ decoder_cells d)
+unfolding system_cells decoder_cells reduced read_system
 all_read system s d h g op addr within count index f0 f1 f2 e0 x0 e1 x1 eo es eh eg ea ew ec ei ef0 ef1 ef2 e0e x0e e1e x1e =
     let (b0, b1, b2, b3, b4, b5, b6) = bits-read op in
     rw (x1e, e1e, x0e, e0e, ef2, ef1, ef0, ei, ec, ew, ea, eg, eh, es, ← eo, b0, b1, b2, b3, b4, b5, b6)

@@ -1,12 +1,12 @@
 -- `row::last_cells` meets its contract.
 use borrow.Author.Rules.{rules}
 use Rattle.field.specs.Cells.{cell_at, reduced}
-use Rattle.rows.specs.records.Built.{stackCells, readStack}
+use Rattle.rows.specs.records.Built.{stack_cells, read_stack}
 use Rattle.rows.proofs.records.row.last_cells.Statement.{statement}
 use Rattle.rows.proofs.records.row.last_cells.Tie as tie
 
 returns : tie.Need-returns
-unfolding stackCells reduced readStack cell_at
+unfolding stack_cells reduced read_stack cell_at
 returns c = rw c.before.read.ensures
 
 pub last-cells-spec : {M : Type 1} → statement M

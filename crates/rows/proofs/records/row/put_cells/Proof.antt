@@ -6,7 +6,7 @@ use native.Mathlib.Omega.{arith}
 use borrow.Author.Rules.{rules}
 use borrow.Author.Tests.{le-ltb}
 use lib.ListN.{length}
-use Rattle.rows.specs.records.Cells.{rowWritten}
+use Rattle.rows.specs.records.Cells.{row_written}
 use Rattle.rows.proofs.records.Rooms.{row_fits, row_put}
 use Rattle.rows.proofs.records.row.put_cells.Statement.{statement}
 use Rattle.rows.proofs.records.row.put_cells.Tie as tie
@@ -18,7 +18,7 @@ last-19 : (z : tie.Start) → length z.args.t4 ≡ 19
 last-19 z = search rules
 
 returns : tie.Need-returns
-unfolding rowWritten
+unfolding row_written
 returns c =
     let a = c.before.before.args in
     rw (le-ltb a.row (length a.buffer.now / 49) c.if1.true)

@@ -1,11 +1,11 @@
 -- `state::read_top` meets its contract.
 use borrow.Author.Rules.{rules}
-use Rattle.groups.specs.Words.{wordAt}
+use Rattle.groups.specs.Words.{word_at}
 use Rattle.rows.proofs.records.state.read_top.Statement.{statement}
 use Rattle.rows.proofs.records.state.read_top.Tie as tie
 
 returns : tie.Need-returns
-unfolding wordAt
+unfolding word_at
 returns c =
     let d = c.before.before in
     let b = d.before.before in

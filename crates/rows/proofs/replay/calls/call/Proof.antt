@@ -2,7 +2,7 @@
 use mathlib.Core.Path.{sym, ◌∙◌}
 use borrow.Author.Rules.{rules}
 use borrow.Author.Tests.{eq-eqb, ne_eqb}
-use Rattle.rows.specs.records.CallRecords.{storedInRecord, call_in}
+use Rattle.rows.specs.records.CallRecords.{stored_in_record, call_in}
 use Rattle.rows.proofs.cycles.Picks.{pick_same}
 use Rattle.rows.proofs.replay.CallSteps.{storing-done, storing-written}
 use Rattle.rows.proofs.replay.calls.call.Statement.{statement}
@@ -11,7 +11,7 @@ use Rattle.rows.proofs.replay.calls.call.Tie as tie
 returns : tie.Need-returns
 unfolding call_in
 returns c =
-    let found = storedInRecord c.before.before.before.before.before.before.before.before.before.before.before.before.before.before.args.numbers.now in
+    let found = stored_in_record c.before.before.before.before.before.before.before.before.before.before.before.before.before.before.args.numbers.now in
     rw (← c.before.before.number_at.ensures, eq-eqb _ _ c.before.if1.true, storing-done _ _ found, storing-written _ _ found) (c.store.ensures, pick_same c.before.before.before.before.before.before.before.before.before.before.before.before.before.before.args.write _)
 
 returns-2 : tie.Need-returns-2

@@ -1,20 +1,20 @@
 -- `calls::cycle_call` meets its contract: what the record encodes, in the order of the refusals.
 use borrow.Author.Rules.{rules}
-use Rattle.rows.specs.replay.Calls.{callDone, callWritten}
-use Rattle.rows.specs.records.CallRecords.{finishIn}
+use Rattle.rows.specs.replay.Calls.{call_done, call_written}
+use Rattle.rows.specs.records.CallRecords.{finish_in}
 use Rattle.rows.proofs.cycles.Picks.{pick_same}
 use Rattle.rows.proofs.replay.calls.cycle_call.Statement.{statement}
 use Rattle.rows.proofs.replay.calls.cycle_call.Tie as tie
 
 returns : tie.Need-returns
-unfolding finishIn callDone callWritten
+unfolding finish_in call_done call_written
 returns c = rw (
   ← c.before.before.before.system-at.ensures,
   c.before.enum_told.given.1,
 ) (c.refuse.ensures, pick_same c.before.before.before.before.before.before.before.before.before.before.before.before.before.before.before.args.write _)
 
 returns-2 : tie.Need-returns-2
-unfolding finishIn callDone callWritten
+unfolding finish_in call_done call_written
 returns-2 c = rw (
   ← c.before.before.before.before.before.before.before.before.system-at.ensures,
   c.before.before.before.before.before.before.system-found.given.1,
@@ -24,7 +24,7 @@ returns-2 c = rw (
 ) (c.refuse2.ensures, pick_same c.before.before.before.before.before.before.before.before.before.before.before.before.before.before.before.before.before.before.before.before.args.write _)
 
 returns-3 : tie.Need-returns-3
-unfolding finishIn callDone callWritten
+unfolding finish_in call_done call_written
 returns-3 c = rw (
   ← c.before.before.before.before.before.before.before.before.before.before.before.before.system-at.ensures,
   c.before.before.before.before.before.before.before.before.before.before.system-found.given.1,
@@ -36,7 +36,7 @@ returns-3 c = rw (
 ) (c.refuse3.ensures, pick_same c.before.before.before.before.before.before.before.before.before.before.before.before.before.before.before.before.before.before.before.before.before.before.before.before.args.write _)
 
 returns-4 : tie.Need-returns-4
-unfolding finishIn
+unfolding finish_in
 returns-4 c = rw (
   ← c.before.before.before.before.before.before.before.before.before.before.before.before.before.before.before.before.before.before.system-at.ensures,
   c.before.before.before.before.before.before.before.before.before.before.before.before.before.before.before.before.system-found.given.1,

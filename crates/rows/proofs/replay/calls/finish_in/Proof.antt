@@ -2,13 +2,13 @@
 use borrow.Author.Rules.{rules}
 use lib.Dec.{lit≤}
 use Rattle.rows.specs.records.Forests.{forest}
-use Rattle.rows.specs.replay.Calls.{forestOf, callDone, callWritten}
+use Rattle.rows.specs.replay.Calls.{forest_of, call_done, call_written}
 use Rattle.rows.proofs.replay.CallSteps.{parts-lent}
 use Rattle.rows.proofs.replay.calls.finish_in.Statement.{statement}
 use Rattle.rows.proofs.replay.calls.finish_in.Tie as tie
 
 returns : tie.Need-returns
-unfolding forestOf callDone callWritten
+unfolding forest_of call_done call_written
 returns c =
     let o = c.before.before.before.before.before in
     let g = o.before in

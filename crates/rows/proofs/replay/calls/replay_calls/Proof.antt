@@ -1,13 +1,13 @@
 -- `calls::replay_calls` meets its contract: a run that writes nothing, and where that refuses nothing a second that writes.
 use borrow.Author.Rules.{rules}
 use borrow.Author.Tests.{eq-eqb, ne_eqb}
-use Rattle.rows.specs.replay.Calls.{scanned, replayed, replayedFragment}
+use Rattle.rows.specs.replay.Calls.{scanned, replayed, replayed_fragment}
 use Rattle.rows.proofs.replay.CallSteps.{told-number}
 use Rattle.rows.proofs.replay.calls.replay_calls.Statement.{statement}
 use Rattle.rows.proofs.replay.calls.replay_calls.Tie as tie
 
 returns : tie.Need-returns
-unfolding scanned replayed replayedFragment
+unfolding scanned replayed replayed_fragment
 returns c = rw (
   ← c.before.before.before.before.before.before.before.before.before.scan-lent.ensures,
   ← c.before.before.before.before.before.before.before.before.new.ensures,
@@ -16,7 +16,7 @@ returns c = rw (
 ) (c.answer.ensures, rw (told-number, ne_eqb _ _ c.before.if1.true) c.before.before.before.before.before.before.run.ensures.1)
 
 returns-2 : tie.Need-returns-2
-unfolding scanned replayed replayedFragment
+unfolding scanned replayed replayed_fragment
 returns-2 c = rw (
   ← c.before.before.before.before.before.before.before.before.before.before.before.before.before.scan-lent.ensures,
   ← c.before.before.before.before.before.before.before.before.before.before.before.before.new.ensures,

@@ -6,7 +6,7 @@ use borrow.Author.Rules.{rules}
 use Rattle.groups.proofs.OneGroup.{neither}
 use Rattle.rows.specs.records.Forests.{forest}
 use Rattle.rows.specs.records.Addresses.{queues}
-use Rattle.rows.specs.replay.Calls.{setting, forestOf}
+use Rattle.rows.specs.replay.Calls.{setting, forest_of}
 use Rattle.rows.proofs.replay.CallSteps.{parts-lent}
 use Rattle.rows.proofs.replay.Stretches.{Sound, none-followed, stayed, goes_on, behind-two}
 use Rattle.rows.proofs.replay.pairs.follow.Statement.{statement}
@@ -33,7 +33,7 @@ sound : (c : tie.After-part-of-opcodes) →
     (setting a.args.scan a.args.profile (forest a.args.nodes.now a.args.digests.now a.args.batches.now a.args.groups.now a.args.ops.now) a.args.directory.now (queues a.args.addresses.now a.args.parents.now a.args.ends.now) (length a.args.fragment.now))
     a.args.records.now a.args.write a.args.k a.args.tracer a.args.fragment.now c.before.before.before.before.before.before.number_at.result
     (forest c.before.before.before.before.part-of-numbers.result.now c.before.before.before.part-of-cells.result.now c.before.before.part-of-numbers2.result.now c.before.part-of-cells2.result.now c.part-of-opcodes.result.now)
-unfolding forestOf
+unfolding forest_of
 sound c =
     let g = c.before in
     let b = g.before in
@@ -51,8 +51,8 @@ sound c =
       some = a.requires.0.0;
       inside = a.requires.0.1;
       small = big;
-      profile-right = wrong;
-      not-large = large;
+      profile_right = wrong;
+      not_large = large;
       whole = rw w.fragment-wrong.ensures at whole;
       cells = refl;
     }

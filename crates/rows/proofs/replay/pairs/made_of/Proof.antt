@@ -1,12 +1,12 @@
 -- `pairs::made_of` meets its contract.
 use borrow.Author.Rules.{rules}
-use Rattle.rows.specs.ways.Pairs.{pairMade}
+use Rattle.rows.specs.ways.Pairs.{pair_made}
 use Rattle.rows.proofs.replay.PairSteps.{makes-told}
 use Rattle.rows.proofs.replay.pairs.made_of.Statement.{statement}
 use Rattle.rows.proofs.replay.pairs.made_of.Tie as tie
 
 returns-3 : tie.Need-returns-3
-unfolding pairMade
+unfolding pair_made
 returns-3 c =
     let r = c.before.before.before.before in
     let a = r.before.before in

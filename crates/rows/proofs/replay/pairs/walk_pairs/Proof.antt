@@ -5,7 +5,7 @@ use native.Mathlib.Omega.{arith}
 use borrow.Author.Tests.{not-false}
 use lib.ListN.{length}
 use borrow.Author.Rules.{rules}
-use Rattle.groups.specs.Constants.{rowWidth}
+use Rattle.groups.specs.Constants.{row_width}
 use Rattle.rows.specs.records.Forests.{forest}
 use Rattle.rows.specs.records.Addresses.{queues}
 use Rattle.rows.specs.ways.Pairs.{Walks, stays, goes}
@@ -15,7 +15,7 @@ use Rattle.rows.proofs.replay.pairs.walk_pairs.Tie as tie
 
 abbrev invariant-loop : tie.invariant-loop
 invariant-loop write nodes digests batches groups ops addresses parents ends profile number records fragment₀ rows w₀ fragment w =
-    (rows ≡ length fragment₀ / rowWidth) × ((length fragment ≡ length fragment₀) × (0 < w.next))
+    (rows ≡ length fragment₀ / row_width) × ((length fragment ≡ length fragment₀) × (0 < w.next))
     × Walks (forest nodes digests batches groups ops) (queues addresses parents ends) profile number records write w₀ fragment₀ w fragment
 
 abbrev decreases-loop : tie.decreases-loop
@@ -100,14 +100,14 @@ loop-again c =
     l.loop.w
     l.loop.fragment
     _
-    g.is-pair.result
+    g.is_pair.result
     p.pair.result
     m.taken.given.0.0
     inv.1.1
     h.if3.false
     (omega (arith, inv.0, inv.1.0, o.if2.false))
-    (not-false g.is-pair.result i.if4.false)
-    g.is-pair.ensures
+    (not-false g.is_pair.result i.if4.false)
+    g.is_pair.ensures
     m.taken.given.1
     p.pair.ensures
     (omega (arith, b.fragment.given))

@@ -1,18 +1,18 @@
 -- `CoreTraceGenerationTracer::into_final_state` meets its contract.
 use borrow.Author.Rules.{rules}
 use borrow.Author.Tests.{eq-eqb, ne_eqb}
-use Rattle.rows.specs.cycles.Cycles.{finalState}
+use Rattle.rows.specs.cycles.Cycles.{final_state}
 use Rattle.rows.proofs.cycles.tracer.CoreTraceGenerationTracer.into_final_state.Statement.{
   statement,
 }
 use Rattle.rows.proofs.cycles.tracer.CoreTraceGenerationTracer.into_final_state.Tie as tie
 
 returns : tie.Need-returns
-unfolding finalState
+unfolding final_state
 returns c = rw (ne_eqb _ _ c.before.before.if1.true, c.before.zeros.ensures, c.zeros2.ensures)
 
 returns-2 : tie.Need-returns-2
-unfolding finalState
+unfolding final_state
 returns-2 c =
     let k = c.before.before in
     rw (eq-eqb _ _ k.before.before.if1.false, c.before.read.ensures, c.read2.ensures, k.before.last-system.ensures, k.last-stack.ensures)

@@ -2,18 +2,18 @@
 use mathlib.Core.Path.{refl, sym}
 use borrow.Author.Rules.{rules}
 use borrow.Author.Tests.{eq-eqb, ne_eqb}
-use Rattle.rows.specs.cycles.Cycles.{storedIn}
+use Rattle.rows.specs.cycles.Cycles.{stored_in}
 use Rattle.rows.proofs.cycles.tracer.CoreTraceGenerationTracer.start_clock_cycle.Statement.{
   statement,
 }
 use Rattle.rows.proofs.cycles.tracer.CoreTraceGenerationTracer.start_clock_cycle.Tie as tie
 
 returns : tie.Need-returns
-unfolding storedIn
+unfolding stored_in
 returns c = (refl, rw (ne_eqb _ _ c.if1.true))
 
 returns-2 : tie.Need-returns-2
-unfolding storedIn
+unfolding stored_in
 returns-2 c =
     let k = c.before.before.before.before in
     let e = k.before.before.if1.false in

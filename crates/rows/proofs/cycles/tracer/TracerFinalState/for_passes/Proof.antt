@@ -1,10 +1,10 @@
 -- `TracerFinalState::for_passes` meets its contract.
-use Rattle.rows.specs.cycles.Cycles.{forPasses}
+use Rattle.rows.specs.cycles.Cycles.{for_passes}
 use Rattle.rows.proofs.cycles.tracer.TracerFinalState.for_passes.Statement.{statement}
 use Rattle.rows.proofs.cycles.tracer.TracerFinalState.for_passes.Tie as tie
 
 returns : tie.Need-returns
-unfolding forPasses
+unfolding for_passes
 returns c = rw (c.before.count-for-passes.ensures, c.built-cells.ensures)
 
 pub for-passes-spec : {M : Type 1} → statement M

@@ -42,7 +42,7 @@ use denote.Triple.Spec.{Meets, triple_of}
 use denote.Triple.Table.{entered, cited}
 use denote.Triple.Walked.{says, Stays, stay_ref, stay_none, stay_none_slice, walk_of, Goes-none, Goes-none_slice, Goes-ref, Walks, ends_at, walked, walk_Meets}
 use denote.Exit.{yes}
-use Rattle.rows.specs.records.Addresses.{toldEnded, endAnswer, endState}
+use Rattle.rows.specs.records.Addresses.{told_ended, end_answer, end_state}
 use Rattle.rows.specs.declared.records.address_state.DecoderState.{DecoderState}
 use Rattle.rows.specs.declared.records.address_state.Positions.{Positions}
 use Rattle.rows.specs.declared.records.address_state.EndStep.{EndStep}
@@ -74,7 +74,7 @@ Step 𝓛 mem run = triple_of 𝓛 step.signature (step.spec 𝓛 mem run)
 abbrev ans-val : EndStep → Val
 ans-val r = EL.val E.the_type E'.the_laws r.answer
 
-module _ {M : Type 1} {𝓤 : Ura M} (𝓛 : Logic 𝓤) (at_mem : Memory → SProp 𝓤) (run : Routine → Fun 𝓤) (κ κ' : Lft) (bounds : AllOutlive 2 (f.signature).outlives (κ, (κ', tt))) (q q' : Share) (b o : ℕ) (γ : GName) (h : DecoderState) (s : MutBor (List ℕ)) (p : Positions) (isP : Is P.the_row p (P'.lowered p ∷ [])) where
+module _ {M : Type 1} {𝓤 : Ura M} (𝓛 : Logic 𝓤) (at_mem : Memory → SProp 𝓤) (run : Routine → Fun 𝓤) (κ κ' : Lft) (bounds : AllOutlive 2 (f.signature).outlives (κ, (κ', tt))) (q q' : Share) (b o : ℕ) (γ : GName) (h : DecoderState) (s : MutBor (List ℕ)) (p : Positions) (is_p : Is P.the_row p (P'.lowered p ∷ [])) where
   open 𝓛 use {H}
 
   abbrev x : MutBor DecoderState × (MutBor (List ℕ) × (Positions × Unit {0}))
@@ -89,7 +89,7 @@ module _ {M : Type 1} {𝓤 : Ura M} (𝓛 : Logic 𝓤) (at_mem : Memory → SP
 
   -- what is known of the result
   abbrev Said : EndStep → Type 0
-  Said r = (toldEnded r.answer ≡ endAnswer s.now p) × (r.state ≡ endState s.now p h)
+  Said r = (told_ended r.answer ≡ end_answer s.now p) × (r.state ≡ end_state s.now p h)
 
   abbrev Post : Val → SProp 𝓤
   Post = (walk_of 𝓛 f.ended stayed (f.clauses 𝓛 at_mem run)).post (((κ, (κ', tt)), (q, (q', tt)), bounds, x, at), tt)
@@ -116,7 +116,7 @@ module _ {M : Type 1} {𝓤 : Ura M} (𝓛 : Logic 𝓤) (at_mem : Memory → SP
       qed 𝓛 (‵ (fobs γ ((T.the_row).coded.code r.state)) ∷ ‵ (fbor κ (Body (mem T.the_row) b o γ)) ∷ ‵ (flft κ q) ∷ (‵ (flft κ' q') ⊛ ‵ ftrue) ∷ ‵ Own ∷ []) ∵
       suffices ! _ (ends_at 𝓛 f.ended stayed (f.clauses 𝓛 at_mem run) (((κ, (κ', tt)), (q, (q', tt)), bounds, x, at), tt) (ans-val r) r.answer (r.state, (tt, (tt, tt))) (tt, (tt, (tt, tt)))) $
       says ! e $ move ! (2 ∷ 3 ∷ []) $ join ! $ frame ! $
-      feq_i ! (List Val) (vptr b o ∷ []) (vptr b o ∷ []) refl $ fjoin3 ! $ nothing ! $ owned ! P.the_row (Is P.the_row) (LL.makes P.the_type P'.the_plain 𝓛) p _ isP $ fjoin ! $ move ! (2 ∷ 0 ∷ []) $ fjoin ! $ move ! (1 ∷ 0 ∷ []) $ fjoin ! $
+      feq_i ! (List Val) (vptr b o ∷ []) (vptr b o ∷ []) refl $ fjoin3 ! $ nothing ! $ owned ! P.the_row (Is P.the_row) (LL.makes P.the_type P'.the_plain 𝓛) p _ is_p $ fjoin ! $ move ! (2 ∷ 0 ∷ []) $ fjoin ! $ move ! (1 ∷ 0 ∷ []) $ fjoin ! $
       owned ! E.the_row (Is E.the_row) (EL.makes E.the_type E'.the_plain 𝓛) r.answer _ ans $ move ! (1 ∷ 0 ∷ []) $ done !
 
   module _ (C : Calls 𝓤 H) (Λ : Loops 𝓤 H) (fm : FmC 𝓤 H 𝓛.laws C) (known : Triple 𝓤 (C #step) (Step 𝓛 at_mem run)) where
@@ -124,7 +124,7 @@ module _ {M : Type 1} {𝓤 : Ura M} (𝓛 : Logic 𝓤) (at_mem : Memory → SP
     walk is₁ =
         qed 𝓛 ((‵ (flft κ q) ⊛ ‵ (flft κ' q') ⊛ ‵ ftrue) ∷ ‵ (owns (MutRef (named 0) κ T.the_row ∷ ShrSlice (named 1) κ' u64 ∷ P.the_row ∷ []) x at) ∷ []) ∵ enter ! C Λ code.function (vptr b o ∷ v ∷ P'.lowered p ∷ []) _ $
         alloc1 ! (λ l₀. alloc1 ! (λ l₁. alloc1 ! (λ l₂. alloc1 ! (λ l₃. alloc1 ! (λ l₄. alloc1 ! (λ l₅. alloc0 ! $ params1 ! $
-        pass1 ! (init ! 8 refl (tt, tt)) $ pass1 ! (init ! 6 refl ((shr_slice_Lawful 𝓛 (named 1) κ' u64).typed s (v ∷ []) is₁).0) $ pass1 ! (init ! 4 refl ((LL.lawful P.the_type P'.the_laws 𝓛).typed p _ isP).0) $ pass0 ! $
+        pass1 ! (init ! 8 refl (tt, tt)) $ pass1 ! (init ! 6 refl ((shr_slice_Lawful 𝓛 (named 1) κ' u64).typed s (v ∷ []) is₁).0) $ pass1 ! (init ! 4 refl ((LL.lawful P.the_type P'.the_laws 𝓛).typed p _ is_p).0) $ pass0 ! $
         move ! (13 ∷ []) $ fsplit ! $ fsplit3 ! $ drop ! $ move ! (15 ∷ []) $ split ! $ move ! (2 ∷ 3 ∷ 0 ∷ []) $
         opens ! tt T.the_row {h = h} b o (λ vs. spelt ! T.the_row (Is T.the_row) (shows 𝓛 T.the_row) (LL.vals T.the_type T'.the_laws) (LL.tells T.the_type T'.the_laws) full_share h vs b o $
         move ! (1 ∷ []) $ peeks ! T.the_row (Is T.the_row) (shows 𝓛 T.the_row) h (T'.lowered h ∷ []) (λ was. move ! (1 ∷ 0 ∷ []) $

@@ -42,7 +42,7 @@ use denote.Triple.Spec.{Meets, triple_of}
 use denote.Triple.Table.{entered, cited}
 use denote.Triple.Walked.{says, Stays, stay_ref, stay_none, stay_none_slice, walk_of, Goes-none, Goes-none_slice, Goes-ref, Walks, ends_at, walked, walk_Meets}
 use denote.Exit.{yes}
-use Rattle.rows.specs.records.Addresses.{toldStarted, startAnswer, startState}
+use Rattle.rows.specs.records.Addresses.{told_started, start_answer, start_state}
 use Rattle.rows.specs.declared.records.address_state.DecoderState.{DecoderState}
 use Rattle.rows.specs.declared.records.address_state.Positions.{Positions}
 use Rattle.rows.specs.declared.records.address_state.StartStep.{StartStep}
@@ -74,7 +74,7 @@ Step 𝓛 mem run = triple_of 𝓛 step.signature (step.spec 𝓛 mem run)
 abbrev ans-val : StartStep → Val
 ans-val r = EL.val E.the_type E'.the_laws r.answer
 
-module _ {M : Type 1} {𝓤 : Ura M} (𝓛 : Logic 𝓤) (at_mem : Memory → SProp 𝓤) (run : Routine → Fun 𝓤) (κ κ₁ κ₂ : Lft) (bounds : AllOutlive 3 (f.signature).outlives (κ, (κ₁, (κ₂, tt)))) (q q₁ q₂ : Share) (b o : ℕ) (γ : GName) (h : DecoderState) (s t : MutBor (List ℕ)) (p : Positions) (isP : Is P.the_row p (P'.lowered p ∷ [])) where
+module _ {M : Type 1} {𝓤 : Ura M} (𝓛 : Logic 𝓤) (at_mem : Memory → SProp 𝓤) (run : Routine → Fun 𝓤) (κ κ₁ κ₂ : Lft) (bounds : AllOutlive 3 (f.signature).outlives (κ, (κ₁, (κ₂, tt)))) (q q₁ q₂ : Share) (b o : ℕ) (γ : GName) (h : DecoderState) (s t : MutBor (List ℕ)) (p : Positions) (is_p : Is P.the_row p (P'.lowered p ∷ [])) where
   open 𝓛 use {H}
 
   abbrev x : MutBor DecoderState × (MutBor (List ℕ) × (MutBor (List ℕ) × (Positions × Unit {0})))
@@ -89,7 +89,7 @@ module _ {M : Type 1} {𝓤 : Ura M} (𝓛 : Logic 𝓤) (at_mem : Memory → SP
 
   -- what is known of the result
   abbrev Said : StartStep → Type 0
-  Said r = (toldStarted r.answer ≡ startAnswer s.now t.now p) × (r.state ≡ startState s.now t.now p h)
+  Said r = (told_started r.answer ≡ start_answer s.now t.now p) × (r.state ≡ start_state s.now t.now p h)
 
   abbrev Post : Val → SProp 𝓤
   Post = (walk_of 𝓛 f.ended stayed (f.clauses 𝓛 at_mem run)).post (((κ, (κ₁, (κ₂, tt))), (q, (q₁, (q₂, tt))), bounds, x, at), tt)
@@ -127,7 +127,7 @@ module _ {M : Type 1} {𝓤 : Ura M} (𝓛 : Logic 𝓤) (at_mem : Memory → SP
       qed 𝓛 (‵ (fobs γ ((T.the_row).coded.code r.state)) ∷ ‵ (fbor κ (Body (mem T.the_row) b o γ)) ∷ ‵ (flft κ q) ∷ Toks ∷ (‵ Own₂ ⊛ ‵ Own₁) ∷ []) ∵
       suffices ! _ (ends_at 𝓛 f.ended stayed (f.clauses 𝓛 at_mem run) (((κ, (κ₁, (κ₂, tt))), (q, (q₁, (q₂, tt))), bounds, x, at), tt) (ans-val r) r.answer (r.state, (tt, (tt, (tt, tt)))) (tt, (tt, (tt, (tt, tt))))) $
       says ! e $ move ! (2 ∷ 3 ∷ []) $ join ! $ frame ! $
-      feq_i ! (List Val) (vptr b o ∷ []) (vptr b o ∷ []) refl $ fjoin3 ! $ nothing ! $ owned ! P.the_row (Is P.the_row) (LL.makes P.the_type P'.the_plain 𝓛) p _ isP $ fjoin ! $
+      feq_i ! (List Val) (vptr b o ∷ []) (vptr b o ∷ []) refl $ fjoin3 ! $ nothing ! $ owned ! P.the_row (Is P.the_row) (LL.makes P.the_type P'.the_plain 𝓛) p _ is_p $ fjoin ! $
       move ! (2 ∷ []) $ split ! $ move ! (0 ∷ 2 ∷ []) $ fjoin ! $ move ! (1 ∷ 0 ∷ []) $ fjoin ! $ move ! (1 ∷ 0 ∷ []) $ fjoin ! $
       owned ! E.the_row (Is E.the_row) (EL.makes E.the_type E'.the_plain 𝓛) r.answer _ ans $ move ! (1 ∷ 0 ∷ []) $ done !
 
@@ -137,7 +137,7 @@ module _ {M : Type 1} {𝓤 : Ura M} (𝓛 : Logic 𝓤) (at_mem : Memory → SP
         qed 𝓛 ((‵ (flft κ q) ⊛ Toks) ∷ ‵ (owns (MutRef (named 0) κ T.the_row ∷ ShrSlice (named 1) κ₁ u64 ∷ ShrSlice (named 2) κ₂ u64 ∷ P.the_row ∷ []) x at) ∷ []) ∵ enter ! C Λ code.function (vptr b o ∷ v s ∷ v t ∷ P'.lowered p ∷ []) _ $
         alloc1 ! (λ l₀. alloc1 ! (λ l₁. alloc1 ! (λ l₂. alloc1 ! (λ l₃. alloc1 ! (λ l₄. alloc1 ! (λ l₅. alloc1 ! (λ l₆. alloc0 ! $ params1 ! $ pass1 ! (init ! 10 refl (tt, tt)) $
         pass1 ! (init ! 8 refl ((shr_slice_Lawful 𝓛 (named 1) κ₁ u64).typed s (v s ∷ []) is₁).0) $ pass1 ! (init ! 6 refl ((shr_slice_Lawful 𝓛 (named 2) κ₂ u64).typed t (v t ∷ []) is₂).0) $
-        pass1 ! (init ! 4 refl ((LL.lawful P.the_type P'.the_laws 𝓛).typed p _ isP).0) $ pass0 ! $
+        pass1 ! (init ! 4 refl ((LL.lawful P.the_type P'.the_laws 𝓛).typed p _ is_p).0) $ pass0 ! $
         move ! (15 ∷ []) $ fsplit ! $ fsplit3 ! $ drop ! $ move ! (17 ∷ []) $ split ! $ move ! (2 ∷ 3 ∷ 0 ∷ []) $
         opens ! tt T.the_row {h = h} b o (λ vs. spelt ! T.the_row (Is T.the_row) (shows 𝓛 T.the_row) (LL.vals T.the_type T'.the_laws) (LL.tells T.the_type T'.the_laws) full_share h vs b o $
         move ! (1 ∷ []) $ peeks ! T.the_row (Is T.the_row) (shows 𝓛 T.the_row) h (T'.lowered h ∷ []) (λ was. move ! (1 ∷ 0 ∷ []) $

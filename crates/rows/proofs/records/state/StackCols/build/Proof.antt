@@ -1,11 +1,11 @@
 -- `StackCols::build` meets its contract.
 use borrow.Author.Rules.{rules}
-use Rattle.rows.specs.records.Built.{builtStack}
+use Rattle.rows.specs.records.Built.{built_stack}
 use Rattle.rows.proofs.records.state.StackCols.build.Statement.{statement}
 use Rattle.rows.proofs.records.state.StackCols.build.Tie as tie
 
 returns : tie.Need-returns
-unfolding builtStack
+unfolding built_stack
 returns c =
     let h = c.before.before in
     let t = h.before in

@@ -1,11 +1,11 @@
 -- `SystemCols::build` meets its contract.
 use borrow.Author.Rules.{rules}
-use Rattle.rows.specs.records.Built.{builtSystem}
+use Rattle.rows.specs.records.Built.{built_system}
 use Rattle.rows.proofs.records.state.SystemCols.build.Statement.{statement}
 use Rattle.rows.proofs.records.state.SystemCols.build.Tie as tie
 
 returns : tie.Need-returns
-unfolding builtSystem
+unfolding built_system
 returns c = rw c.read_word.ensures
 
 pub build-spec : {M : Type 1} → statement M
