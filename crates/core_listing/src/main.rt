@@ -1,5 +1,7 @@
 // Document 01's `core-listing`, C10: makes the run of a loop with the library's calls, finishes it, reads it back and writes the listing of
 // its rows. Where a call refuses, its number is all that is written.
+#![tactic(auto)]
+
 mod listing;
 mod run;
 

@@ -1,4 +1,6 @@
 // Traces as value change dumps: writing one, and reading those back that are written here.
+#![tactic(auto)]
+
 mod header;
 mod lengths;
 mod lines;

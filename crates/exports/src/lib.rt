@@ -1,6 +1,8 @@
 // The calls for programs in other languages. Each passes its arguments on; its contract is that of the function it calls. A slice crosses
 // as a pointer and a length, an array behind a reference as a pointer, a struct by value; instead of a part of a slice its place is answered.
 // Every call takes any numbers and answers 0 or the documents' number of the refusal; a refused place is empty.
+#![tactic(auto)]
+
 ghost use Rattle.std.specs.Prelude.{◌≡◌, ◌-◌, length};
 ghost use Rattle.rows.specs.records.Buffers.{on_rows};
 ghost use Rattle.rows.specs.passes.Passes.{sum_of, built_of, fixed_up, multiplied, inverted, halted, padded, refusal1, refusal2, refusal3, refusal4, refusal5, refusal_all, all_passes, unless_refused};

@@ -1,4 +1,6 @@
 // Groups in a block: the batches that a block lends, batch flags, the group of an operation, and how many groups are left.
+#![tactic(auto)]
+
 pub mod batch;
 pub mod constants;
 pub mod context;

@@ -1,4 +1,6 @@
 // The reader: which buffers are traces, the depth of each row, and a row's own cells.
+#![tactic(auto)]
+
 mod depths;
 mod grammar;
 pub mod kept;

@@ -1,1 +1,2 @@
 // Theory, no code: traces as value change dumps.
+#![tactic(auto)]

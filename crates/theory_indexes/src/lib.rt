@@ -1,1 +1,2 @@
 // Theory without code: the index of a reading's blocks.
+#![tactic(auto)]

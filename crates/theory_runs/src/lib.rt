@@ -1,1 +1,2 @@
 // Nothing but definitions and theorems: see specs/ and proofs/.
+#![tactic(auto)]

@@ -1,5 +1,7 @@
 // Runs lists of vectors, one file of data/ for each layer, and writes how many came out right. The lists are text: every run of decimal
 // digits is a number, and all else separates. `make.py` made them, with the expected numbers computed apart from this code.
+#![tactic(auto)]
+
 mod field_list;
 mod groups_list;
 

@@ -1,5 +1,7 @@
 // Runs lists of vectors of the finishing passes, one file of data/ a list, and writes how many came out right. The lists are text: every
 // run of decimal digits is a number, and all else separates. `make.py` made them, with the expected numbers computed apart from this code.
+#![tactic(auto)]
+
 mod given;
 mod large;
 mod list;

@@ -1,6 +1,8 @@
 // Replays runs whose answers were made by the listed Rust (but for the helper of HALT rows from depth 18 up), in the lists cells_01 to
 // cells_04 with p added to some of the cells that come in, records that are refused, records over a forest with a SYSCALL node, and records
 // from other address states, one file of data/ a list, and writes how many came out right.
+#![tactic(auto)]
+
 mod given;
 mod list;
 mod parts;
