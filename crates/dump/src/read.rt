@@ -10,7 +10,7 @@ use crate::scan::{Line, digits_at, plain_digits, stands_at};
 use field::felt::Felt;
 
 // The place behind a line; `good` where the line stands there.
-#[derive(Drop)]
+#[derive(Clone, Copy)]
 pub(crate) struct LineEnd {
     pub(crate) good: bool,
     pub(crate) at: usize,

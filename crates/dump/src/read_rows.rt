@@ -63,7 +63,7 @@ pub(crate) fn row_at(text: &[u8], at: usize, number: usize, row: &mut [u64; 49])
 }
 
 // How many rows there are. `good` where the text is rows up to its end, and not too many; where not, there are 0.
-#[derive(Drop)]
+#[derive(Clone, Copy)]
 pub(crate) struct Counted {
     pub(crate) good: bool,
     pub(crate) rows: usize,

@@ -13,7 +13,7 @@ use rows::records::buffer::buffer_wrong;
 
 // What is answered: 0, or the number of a refusal; the number of rows, 0 on a refusal.
 #[repr(C)]
-#[derive(Drop)]
+#[derive(Clone, Copy)]
 pub struct DumpRead {
     pub refusal: u32,
     pub rows: usize,

@@ -10,7 +10,7 @@ ghost use Rattle.dump.specs.ways.Scanning.{in_front, Scanned, AllScanned, FirstS
 use field::felt::Felt;
 
 // Digits from a place on: how many, and the number that they spell, of binary ones the first 64.
-#[derive(Drop)]
+#[derive(Clone, Copy)]
 pub(crate) struct Digits {
     pub(crate) count: usize,
     pub(crate) value: u64,
@@ -150,7 +150,7 @@ pub(crate) fn plain_digits(text: &[u8], at: usize, count: usize) -> bool
 }
 
 // A line like `b101 !`: its identifier, its value and how many digits it has.
-#[derive(Drop)]
+#[derive(Clone, Copy)]
 pub(crate) struct Line {
     pub(crate) identifier: u8,
     pub(crate) value: u64,

@@ -14,7 +14,7 @@ use rows::records::buffer::buffer_wrong;
 
 // What is answered: 0, or the number of a refusal; the number of bytes, 0 on a refusal.
 #[repr(C)]
-#[derive(Drop)]
+#[derive(Clone, Copy)]
 pub struct DumpWritten {
     pub refusal: u32,
     pub bytes: usize,

@@ -36,7 +36,7 @@ use rows::replay::calls::{Replayed, replay_calls};
 
 // The number, always 0, and the inverse.
 #[repr(C)]
-#[derive(Drop)]
+#[derive(Clone, Copy)]
 pub struct Inverse {
     pub refusal: u32,
     pub value: u64,
@@ -186,7 +186,7 @@ pub extern "C" fn core_read_trace(profile: Profile, cells: &[u64], depths: &mut 
 
 // Where a row lies among the lent cells: its first cell and how many cells it has, both 0 on a refusal.
 #[repr(C)]
-#[derive(Drop)]
+#[derive(Clone, Copy)]
 pub struct RowBounds {
     pub start: usize,
     pub cells: usize,
@@ -217,7 +217,7 @@ pub extern "C" fn core_build_index(profile: Profile, cells: &[u64], index: &mut 
 
 // What a look-up in an index answers: 0 or 11, 1 where a block encloses the row, and its place; else 0.
 #[repr(C)]
-#[derive(Drop)]
+#[derive(Clone, Copy)]
 pub struct EnclosingBlock {
     pub refusal: u32,
     pub found: u32,
@@ -253,7 +253,7 @@ pub extern "C" fn core_enclosing_block(index: &[u32], row: usize) -> EnclosingBl
 // Where an operation lies in its batch: 0 or the refusal's number, its group, its index in the group, and how many operations follow it there;
 // these three are 0 on a refusal.
 #[repr(C)]
-#[derive(Drop)]
+#[derive(Clone, Copy)]
 pub struct OperationPlace {
     pub refusal: u32,
     pub group: u64,

@@ -3,7 +3,7 @@ ghost use Rattle.std.specs.Prelude.{◌≡◌, ◌+◌, ◌*◌, ◌-◌, ◌%�
 ghost use Rattle.field.specs.Modulus.{P};
 
 // A field element. Cells are lent as plain numbers, so the type serves for its constants.
-#[derive(Drop)]
+#[derive(Clone, Copy)]
 pub struct Felt(pub u64);
 
 impl Felt {

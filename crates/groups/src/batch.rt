@@ -7,7 +7,7 @@ use crate::number::number;
 use crate::word::{Word, word_at};
 
 // A block: its total of groups as `num_op_groups` answers, the record of its first batch, and how many batches it has.
-#[derive(Drop)]
+#[derive(Clone, Copy)]
 pub struct BasicBlockNode {
     pub total: u32,
     pub first_batch: u32,
@@ -15,7 +15,7 @@ pub struct BasicBlockNode {
 }
 
 // A batch: its group count, number of operations and first operation, its record's number, and its eight group cells.
-#[derive(Drop)]
+#[derive(Clone, Copy)]
 pub struct OpBatch {
     pub group_count: u32,
     pub num_ops: u32,
@@ -25,7 +25,7 @@ pub struct OpBatch {
     pub high: Word,
 }
 
-#[derive(Drop)]
+#[derive(Clone, Copy)]
 pub enum BatchFound {
     At(OpBatch),
     Missing,

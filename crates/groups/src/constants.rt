@@ -2,7 +2,7 @@
 // same for the definitions, with the documents' words.
 
 // A row of 49 cells. Rows are lent as plain numbers, so the type serves for its constants.
-#[derive(Drop)]
+#[derive(Clone, Copy)]
 pub struct Row(pub usize);
 
 impl Row {
@@ -13,7 +13,7 @@ impl Row {
 }
 
 // A column of the row, where the code names one; of several columns the first.
-#[derive(Drop)]
+#[derive(Clone, Copy)]
 pub struct Column(pub usize);
 
 impl Column {
@@ -33,7 +33,7 @@ impl Column {
 }
 
 // The number of a refusal; 30, 33 and 34 are those of change requests to come.
-#[derive(Drop)]
+#[derive(Clone, Copy)]
 pub struct Refusal(pub u32);
 
 impl Refusal {

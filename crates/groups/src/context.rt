@@ -15,54 +15,54 @@ use crate::sum::{push_count, sum_groups};
 use field::cell::cell;
 
 // The current group, from the next operation on, and how many groups of the block are left.
-#[derive(Drop)]
+#[derive(Clone, Copy)]
 pub struct BasicBlockContext {
     pub current_op_group: u64,
     pub group_count_in_block: u64,
 }
 
 // The context at an operation, the batch and the operation's place in it.
-#[derive(Drop)]
+#[derive(Clone, Copy)]
 pub struct OpContext {
     pub context: BasicBlockContext,
     pub batch: OpBatch,
     pub place: OpPlace,
 }
 
-#[derive(Drop)]
+#[derive(Clone, Copy)]
 pub enum OpContextFound {
     At(OpContext),
     Refused(u32),
 }
 
-#[derive(Drop)]
+#[derive(Clone, Copy)]
 pub enum ContextFound {
     Is(BasicBlockContext),
     Refused(u32),
 }
 
 // What an operation's row shows: its index in its group, and the context.
-#[derive(Drop)]
+#[derive(Clone, Copy)]
 pub struct OpCells {
     pub index: u64,
     pub context: BasicBlockContext,
 }
 
-#[derive(Drop)]
+#[derive(Clone, Copy)]
 pub enum OpCellsFound {
     At(OpCells),
     Refused(u32),
 }
 
 // The context at the start of a batch, the batch and its flags.
-#[derive(Drop)]
+#[derive(Clone, Copy)]
 pub struct BatchContext {
     pub context: BasicBlockContext,
     pub batch: OpBatch,
     pub flags: BatchFlags,
 }
 
-#[derive(Drop)]
+#[derive(Clone, Copy)]
 pub enum BatchContextFound {
     At(BatchContext),
     Refused(u32),

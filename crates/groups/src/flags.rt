@@ -5,10 +5,10 @@ ghost use Rattle.groups.specs.Flags.{batch_flags, told_flags};
 use field::felt::Felt;
 
 // The three flag cells of a SPAN or RESPAN row.
-#[derive(Drop)]
+#[derive(Clone, Copy)]
 pub struct BatchFlags(pub u64, pub u64, pub u64);
 
-#[derive(Drop)]
+#[derive(Clone, Copy)]
 pub enum FlagsFound {
     Are(BatchFlags),
     Refused,

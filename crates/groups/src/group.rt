@@ -7,20 +7,20 @@ use crate::constants::Refusal;
 use crate::number::number;
 
 // Where an operation lies in its batch: the group's number, its index in that group, and how many operations follow it there.
-#[derive(Drop)]
+#[derive(Clone, Copy)]
 pub struct OpPlace {
     pub group: u64,
     pub index: u64,
     pub following: u64,
 }
 
-#[derive(Drop)]
+#[derive(Clone, Copy)]
 pub enum GroupFound {
     In(OpPlace),
     Refused,
 }
 
-#[derive(Drop)]
+#[derive(Clone, Copy)]
 pub enum PlaceFound {
     At(OpPlace),
     Refused(u32),

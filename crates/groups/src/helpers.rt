@@ -9,7 +9,7 @@ use field::felt::{Felt, reduce, sub};
 use field::inverse::inverse;
 
 // What a cycle captures of its operation. Numbers are read modulo p.
-#[derive(Drop)]
+#[derive(Clone, Copy)]
 pub enum OperationHelperRegisters {
     // EQ: the second and the first stack element before it.
     Eq {
@@ -100,7 +100,7 @@ pub enum OperationHelperRegisters {
 }
 
 // The cells h2 to h7 of an operation's row.
-#[derive(Drop)]
+#[derive(Clone, Copy)]
 pub struct UserOpHelpers {
     pub h2: u64,
     pub h3: u64,
@@ -111,14 +111,14 @@ pub struct UserOpHelpers {
 }
 
 // The helpers, or the number of the refusal.
-#[derive(Drop)]
+#[derive(Clone, Copy)]
 pub enum HelpersFound {
     Are(UserOpHelpers),
     Refused(u32),
 }
 
 // The ways in which helpers are made.
-#[derive(Drop)]
+#[derive(Clone, Copy)]
 enum Family {
     // Cells as they stand.
     Cells(u64, u64, u64, u64, u64, u64),

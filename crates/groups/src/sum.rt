@@ -29,7 +29,7 @@ fn groups_of(count: u32, rounded: bool) -> u64
 }
 
 // The sum, and whether one of the batches has more than 8 groups.
-#[derive(Drop)]
+#[derive(Clone, Copy)]
 pub struct GroupSum {
     pub groups: u64,
     pub above8: bool,

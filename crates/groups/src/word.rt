@@ -5,7 +5,7 @@ ghost use Rattle.groups.specs.Words.{word_at, read_word};
 use field::cell::cell;
 use field::felt::reduce;
 
-#[derive(Drop)]
+#[derive(Clone, Copy)]
 pub struct Word(pub u64, pub u64, pub u64, pub u64);
 
 // The four cells from cell `at` on, each read modulo p, 0 past the end of the slice.
@@ -36,5 +36,5 @@ pub fn read_word(word: Word) -> Word
 }
 
 // An element of the quadratic extension, by its two coefficients.
-#[derive(Drop)]
+#[derive(Clone, Copy)]
 pub struct QuadFelt(pub u64, pub u64);

@@ -12,7 +12,7 @@ use rows::records::profile::Profile;
 
 // What is answered: 0, or the number and the row of a refusal; the number of blocks, 0 on a refusal.
 #[repr(C)]
-#[derive(Drop)]
+#[derive(Clone, Copy)]
 pub struct IndexBuilt {
     pub refusal: u32,
     pub row: usize,

@@ -12,7 +12,7 @@ use reader::token::RowKind;
 use rows::records::profile::Profile;
 
 // A block begins, ends, or neither.
-#[derive(Drop)]
+#[derive(Clone, Copy)]
 pub(crate) enum Change {
     Begins,
     Ends,

@@ -6,7 +6,7 @@ ghost use Rattle.index.specs.Lookups.{told_enclosing};
 use groups::constants::Refusal;
 
 // The place of a block, from 0; none; or the number of a refusal.
-#[derive(Drop)]
+#[derive(Clone, Copy)]
 pub enum Enclosing {
     At(usize),
     None,

@@ -12,7 +12,7 @@ use groups::constants::Row;
 use rows::records::profile::Profile;
 
 // How many blocks are open, and where the numbers of the next block go.
-#[derive(Drop)]
+#[derive(Clone, Copy)]
 struct Progress {
     opened: usize,
     next: usize,

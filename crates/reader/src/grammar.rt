@@ -15,14 +15,14 @@ use groups::constants::{Column, Refusal, Row};
 use rows::records::profile::Profile;
 
 // The lowest row with a cell that is not as asked.
-#[derive(Drop)]
+#[derive(Clone, Copy)]
 pub(crate) enum Wrong {
     Nowhere,
     At(usize),
 }
 
 // A part of the word: the row behind it and its lowest wrong row; or the number and the row of its refusal.
-#[derive(Drop)]
+#[derive(Clone, Copy)]
 pub(crate) enum Part {
     Done(usize, Wrong),
     Refused(u32, usize),

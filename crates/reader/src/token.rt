@@ -12,7 +12,7 @@ use rows::records::buffer::decode_opcode;
 use rows::records::profile::Profile;
 
 // The start of a Block (One: of a kind with one child), an op, the other control rows, or a row that fits nothing.
-#[derive(Drop)]
+#[derive(Clone, Copy)]
 pub enum RowKind {
     Span,
     Join,

@@ -18,7 +18,7 @@ use rows::records::profile::Profile;
 
 // What is answered of a buffer: 0, or the number and the row of its refusal; the number of program rows, 0 on a refusal.
 #[repr(C)]
-#[derive(Drop)]
+#[derive(Clone, Copy)]
 pub struct TraceRead {
     pub refusal: u32,
     pub row: usize,

@@ -12,7 +12,7 @@ use vectors_shared::registers::registers;
 use vectors_shared::text::{item, low8, low32, one_if};
 
 // The number and the values of an answer.
-#[derive(Drop)]
+#[derive(Clone, Copy)]
 pub struct Told(
     pub u64,
     pub u64,
@@ -172,7 +172,7 @@ fn contexts(v: &[u64], at: usize) -> Told
     batch_context(&batches, &groups, block, index)
 }
 
-#[derive(Drop)]
+#[derive(Clone, Copy)]
 pub enum List {
     Helpers,
     Flags,

@@ -5,11 +5,11 @@ use rows::records::continuation::{CalleeWord, ContextInfo, Continuation, LoopCon
 use rows::records::ids::MastNodeId;
 
 // A continuation's number and its three.
-#[derive(Drop)]
+#[derive(Clone, Copy)]
 struct Four(u64, u64, u64, u64);
 
 // A captured value: whether it is there, and its four numbers.
-#[derive(Drop)]
+#[derive(Clone, Copy)]
 struct Five(u64, u64, u64, u64, u64);
 
 fn of_node(kind: u64, id: MastNodeId) -> Four {

@@ -105,7 +105,7 @@ pub fn low8(x: u64) -> u8 {
 }
 
 // How far a list is, and whether its latest vector came out right.
-#[derive(Drop)]
+#[derive(Clone, Copy)]
 pub struct Step {
     pub right: bool,
     pub next: usize,

@@ -23,7 +23,7 @@ use groups::helpers::OperationHelperRegisters;
 
 // What a finish answers: 0 or the refusal's number, the tracer, and how many operations follow in the operation's group (0 where none was
 // resumed, and on a refusal).
-#[derive(Drop)]
+#[derive(Clone, Copy)]
 pub struct Finished {
     pub refusal: u32,
     pub tracer: CoreTraceGenerationTracer,

@@ -30,7 +30,7 @@ use groups::helpers::{HelpersFound, OperationHelperRegisters};
 use groups::word::Word;
 
 // A row, the address state and positions after it, and what it uses up.
-#[derive(Drop)]
+#[derive(Clone, Copy)]
 pub struct MadeRow {
     pub row: DecoderRow,
     pub state: DecoderState,
@@ -40,14 +40,14 @@ pub struct MadeRow {
     pub following: u64,
 }
 
-#[derive(Drop)]
+#[derive(Clone, Copy)]
 pub enum Made {
     Row(MadeRow),
     Refused(u32),
 }
 
 // The kinds of END, by the continuation: of any node, of a loop, of a call, of a dyn, of a block.
-#[derive(Drop)]
+#[derive(Clone, Copy)]
 pub enum Finish {
     Any,
     Loop,
@@ -57,7 +57,7 @@ pub enum Finish {
 }
 
 // The kinds of continuation: a start, the END of a node, a loop's REPEAT or END, an operation of a batch, a RESPAN, one that makes nothing.
-#[derive(Drop)]
+#[derive(Clone, Copy)]
 enum ContinuationKind {
     Start(MastNodeId),
     End(MastNodeId, Finish),
@@ -67,7 +67,7 @@ enum ContinuationKind {
     Nothing,
 }
 
-#[derive(Drop)]
+#[derive(Clone, Copy)]
 enum KindFound {
     Is(EndBlockStackEntryKind),
     Other,

@@ -7,7 +7,7 @@ use crate::records::profile::{Profile, any_big_opcode, is_wrong};
 use groups::number::number;
 
 // What a scan finds: an opcode that is too big (1), a wrong profile (2), a forest past its limits (11).
-#[derive(Drop)]
+#[derive(Clone, Copy)]
 pub struct Scan {
     pub big: bool,
     pub profile_wrong: bool,

@@ -9,13 +9,13 @@ use crate::records::continuation::{
 };
 use crate::records::state::{StackCols, SystemCols};
 
-#[derive(Drop)]
+#[derive(Clone, Copy)]
 pub enum StoredContinuation {
     Nothing,
     Is(Continuation),
 }
 
-#[derive(Drop)]
+#[derive(Clone, Copy)]
 pub struct CoreTraceGenerationTracer {
     // The number of a kept refusal, 0 if there is none.
     pub refusal: u32,
@@ -32,14 +32,14 @@ pub struct CoreTraceGenerationTracer {
 }
 
 // What storing answers: the kept refusal's number or 0, and the tracer.
-#[derive(Drop)]
+#[derive(Clone, Copy)]
 pub struct Stored {
     pub refusal: u32,
     pub tracer: CoreTraceGenerationTracer,
 }
 
 // The last built cells and the row count; on a kept refusal its number, zeros and 0.
-#[derive(Drop)]
+#[derive(Clone, Copy)]
 pub struct TracerFinalState {
     pub refusal: u32,
     pub last_system_cols: SystemCols,
@@ -48,7 +48,7 @@ pub struct TracerFinalState {
 }
 
 // What the passes take of a fragment: its row count, and the 25 cells built last (clk, ctx, fn_hash 4; top 16, b0, b1, helper).
-#[derive(Drop)]
+#[derive(Clone, Copy)]
 pub struct FragmentEnd {
     pub count: u32,
     pub built: [u64; 25],

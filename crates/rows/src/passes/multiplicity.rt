@@ -19,7 +19,7 @@ use field::felt::Felt;
 use groups::constants::{Column, Refusal, Row};
 
 // LOOP rows that were taken: their number, and the row behind the last of them.
-#[derive(Drop)]
+#[derive(Clone, Copy)]
 struct Taken {
     count: usize,
     next: usize,

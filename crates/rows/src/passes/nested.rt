@@ -14,7 +14,7 @@ use field::felt::Felt;
 use groups::constants::{Column, Row};
 
 // What a row is to the sweep: a LOOP row, a flagged END of the innermost open loop's body, neither of both, or something that it does not go into.
-#[derive(Drop)]
+#[derive(Clone, Copy)]
 pub(crate) enum RowRole {
     Other,
     Opens,
@@ -23,7 +23,7 @@ pub(crate) enum RowRole {
 }
 
 // How far a sweep came, and whether it saw all rows and left no LOOP row open.
-#[derive(Drop)]
+#[derive(Clone, Copy)]
 struct Swept {
     next: usize,
     whole: bool,

@@ -8,7 +8,7 @@ use field::felt::{add, reduce};
 use groups::constants::Refusal;
 
 #[repr(C)]
-#[derive(Drop)]
+#[derive(Clone, Copy)]
 pub struct DecoderState {
     pub current_addr: u64,
     pub parent_addr: u64,
@@ -16,7 +16,7 @@ pub struct DecoderState {
 
 // How many entries of each queue are used.
 #[repr(C)]
-#[derive(Drop)]
+#[derive(Clone, Copy)]
 pub struct Positions {
     pub addresses: usize,
     pub parents: usize,
@@ -24,54 +24,54 @@ pub struct Positions {
 }
 
 // An entry of the end queue: the address that ends, and the state after it.
-#[derive(Drop)]
+#[derive(Clone, Copy)]
 pub struct NodeEndData {
     pub ended_node_addr: u64,
     pub prev_addr: u64,
     pub prev_parent_addr: u64,
 }
 
-#[derive(Drop)]
+#[derive(Clone, Copy)]
 pub enum EndFound {
     At(NodeEndData),
     Missing,
 }
 
 // An entry of the address queue.
-#[derive(Drop)]
+#[derive(Clone, Copy)]
 enum AddressFound {
     At(u64),
     Missing,
 }
 
 // An entry of the parent queue.
-#[derive(Drop)]
+#[derive(Clone, Copy)]
 enum ParentFound {
     At(u64),
     Missing,
 }
 
-#[derive(Drop)]
+#[derive(Clone, Copy)]
 pub enum Started {
     Moved(Positions),
     Refused(u32),
 }
 
 // The answer of a start, and the state after it: as it was on a refusal.
-#[derive(Drop)]
+#[derive(Clone, Copy)]
 pub struct StartStep {
     pub answer: Started,
     pub state: DecoderState,
 }
 
-#[derive(Drop)]
+#[derive(Clone, Copy)]
 pub enum Ended {
     Moved(u64, Positions),
     Refused(u32),
 }
 
 // The answer of an end, the address that ended first, and the state after it: as it was on a refusal.
-#[derive(Drop)]
+#[derive(Clone, Copy)]
 pub struct EndStep {
     pub answer: Ended,
     pub state: DecoderState,

@@ -17,37 +17,37 @@ use groups::helpers::OperationHelperRegisters;
 use groups::word::{QuadFelt, Word, word_at};
 
 // A number of 32 bits.
-#[derive(Drop)]
+#[derive(Clone, Copy)]
 pub enum Small {
     Is(u32),
     Over,
 }
 
-#[derive(Drop)]
+#[derive(Clone, Copy)]
 pub enum InfoFound {
     Is(ContextInfo),
     Over,
 }
 
-#[derive(Drop)]
+#[derive(Clone, Copy)]
 pub enum ContinuationFound {
     Is(Continuation),
     Refused(u32),
 }
 
-#[derive(Drop)]
+#[derive(Clone, Copy)]
 pub enum StoredFound {
     Are(StoredValues),
     Refused(u32),
 }
 
-#[derive(Drop)]
+#[derive(Clone, Copy)]
 pub enum SystemFound {
     Is(SystemState),
     Over,
 }
 
-#[derive(Drop)]
+#[derive(Clone, Copy)]
 pub enum RegistersFound {
     Are(OperationHelperRegisters),
     Missing,

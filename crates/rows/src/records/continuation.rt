@@ -6,7 +6,7 @@ use crate::records::ids::MastNodeId;
 use field::felt::reduce;
 use groups::word::{Word, read_word};
 
-#[derive(Drop)]
+#[derive(Clone, Copy)]
 pub enum Continuation {
     StartNode(MastNodeId),
     FinishJoin(MastNodeId),
@@ -28,27 +28,27 @@ pub enum Continuation {
 }
 
 // The condition of a FinishLoop: another pass, or the loop's end.
-#[derive(Drop)]
+#[derive(Clone, Copy)]
 pub enum LoopCondition {
     Absent,
     Is(bool),
 }
 
 // The callee word of a DYN or DYNCALL.
-#[derive(Drop)]
+#[derive(Clone, Copy)]
 pub enum CalleeWord {
     Absent,
     Is(Word),
 }
 
 // The depth and the next overflow address of a DYNCALL.
-#[derive(Drop)]
+#[derive(Clone, Copy)]
 pub struct ExecutionContextInfo {
     pub stack_depth: u32,
     pub next_overflow_addr: u64,
 }
 
-#[derive(Drop)]
+#[derive(Clone, Copy)]
 pub enum ContextInfo {
     Absent,
     Is(ExecutionContextInfo),
@@ -78,7 +78,7 @@ fn read_info(info: ContextInfo) -> ContextInfo
 }
 
 // The captured values that a row uses up.
-#[derive(Drop)]
+#[derive(Clone, Copy)]
 pub struct Captured {
     pub finish_loop_condition: LoopCondition,
     pub dyn_callee_hash: CalleeWord,
@@ -104,7 +104,7 @@ impl Captured {
 }
 
 // What storing is given.
-#[derive(Drop)]
+#[derive(Clone, Copy)]
 pub struct StoredValues {
     pub continuation: Continuation,
     pub is_loop_body: bool,
@@ -112,7 +112,7 @@ pub struct StoredValues {
 }
 
 // Which captured values a row used up.
-#[derive(Drop)]
+#[derive(Clone, Copy)]
 pub enum Used {
     Nothing,
     Condition,

@@ -8,7 +8,7 @@ use groups::flags::BatchFlags;
 use groups::helpers::UserOpHelpers;
 use groups::word::Word;
 
-#[derive(Drop)]
+#[derive(Clone, Copy)]
 pub struct DecoderRow {
     pub addr: u64,
     pub opcode: u8,
@@ -21,14 +21,14 @@ pub struct DecoderRow {
 }
 
 // How an END's entry of the block stack is marked.
-#[derive(Drop)]
+#[derive(Clone, Copy)]
 pub enum EndBlockStackEntryKind {
     Continuation,
     LoopContinuation,
     CallerFrame,
 }
 
-#[derive(Drop)]
+#[derive(Clone, Copy)]
 pub struct EndBlockFlags {
     pub is_loop_body: bool,
     pub entry_kind: EndBlockStackEntryKind,

@@ -9,7 +9,7 @@ use groups::batch::{BasicBlockNode, OpBatch};
 use groups::number::number;
 use groups::word::{Word, word_at};
 
-#[derive(Drop)]
+#[derive(Clone, Copy)]
 pub enum MastNode {
     Block(BasicBlockNode),
     Join(MastNodeId, MastNodeId),
@@ -23,31 +23,31 @@ pub enum MastNode {
 }
 
 // A node and its digest.
-#[derive(Drop)]
+#[derive(Clone, Copy)]
 pub struct NodeEntry {
     pub node: MastNode,
     pub digest: Word,
 }
 
-#[derive(Drop)]
+#[derive(Clone, Copy)]
 pub enum NodeFound {
     At(NodeEntry),
     Missing,
 }
 
-#[derive(Drop)]
+#[derive(Clone, Copy)]
 pub enum DigestFound {
     Is(Word),
     Missing,
 }
 
-#[derive(Drop)]
+#[derive(Clone, Copy)]
 pub enum OpcodeFound {
     Is(u8),
     Missing,
 }
 
-#[derive(Drop)]
+#[derive(Clone, Copy)]
 pub enum BlockFound {
     Is(BasicBlockNode),
     Other,

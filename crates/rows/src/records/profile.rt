@@ -6,7 +6,7 @@ ghost use Rattle.rows.specs.records.Profiles.{opcodes, is_one_of, two_equal, pro
 use field::felt::Felt;
 
 #[repr(C)]
-#[derive(Drop)]
+#[derive(Clone, Copy)]
 pub struct Profile {
     pub span: u8,
     pub respan: u8,

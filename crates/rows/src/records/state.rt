@@ -6,7 +6,7 @@ use crate::records::ids::{ContextId, RowIndex};
 use field::felt::{Felt, reduce};
 use groups::word::{Word, read_word, word_at};
 
-#[derive(Drop)]
+#[derive(Clone, Copy)]
 pub struct SystemState {
     pub clk: RowIndex,
     pub ctx: ContextId,
@@ -14,21 +14,21 @@ pub struct SystemState {
 }
 
 // The top 16 elements are stored last first: the top of the stack is the last.
-#[derive(Drop)]
+#[derive(Clone, Copy)]
 pub struct StackState {
     pub stack_top: [u64; 16],
     pub stack_depth: u32,
     pub overflow_addr: u64,
 }
 
-#[derive(Drop)]
+#[derive(Clone, Copy)]
 pub struct SystemCols {
     pub clk: u64,
     pub ctx: u64,
     pub fn_hash: Word,
 }
 
-#[derive(Drop)]
+#[derive(Clone, Copy)]
 pub struct StackCols {
     pub top: [u64; 16],
     pub b0: u64,

@@ -26,7 +26,7 @@ use groups::helpers::OperationHelperRegisters;
 // What a replay answers: 0 or the refusal's number, and on 0 how many rows are written, the cells built last (clk, ctx, fn_hash 4; top
 // 16, b0, b1, helper), and the address state and queue positions for the next fragment. On a refusal all others are 0.
 #[repr(C)]
-#[derive(Drop)]
+#[derive(Clone, Copy)]
 pub struct Replayed {
     pub refusal: u32,
     pub rows: usize,

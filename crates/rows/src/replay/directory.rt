@@ -7,7 +7,7 @@ ghost use Rattle.rows.specs.ways.Inner.{clipped};
 use groups::number::number;
 
 // Where a forest lies, in slots, batch records and opcodes.
-#[derive(Drop)]
+#[derive(Clone, Copy)]
 pub struct DirectoryEntry {
     pub first_slot: u32,
     pub slots: u32,

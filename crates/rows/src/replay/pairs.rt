@@ -33,7 +33,7 @@ use groups::word::word_at;
 
 // What moves from pair to pair: the record that comes next, the row it is for, the address state, the queue positions, and what the last
 // cycle used up.
-#[derive(Drop)]
+#[derive(Clone, Copy)]
 pub struct Walk {
     pub next: usize,
     pub row: usize,
@@ -43,35 +43,35 @@ pub struct Walk {
 }
 
 // What is behind a stretch: the record that comes next, and the tracer.
-#[derive(Drop)]
+#[derive(Clone, Copy)]
 pub struct Followed {
     pub next: usize,
     pub tracer: CoreTraceGenerationTracer,
 }
 
 // An operation that is stored: its node, batch and index in the batch.
-#[derive(Drop)]
+#[derive(Clone, Copy)]
 pub enum OpStored {
     Is(MastNodeId, u32, u32),
     Not,
 }
 
 // The opcode of an operation and what its row shows of its block.
-#[derive(Drop)]
+#[derive(Clone, Copy)]
 pub enum OpFound {
     Is(u8, OpCells),
     Not,
 }
 
 // What a pair leaves of a walk.
-#[derive(Drop)]
+#[derive(Clone, Copy)]
 pub struct PairEnd {
     pub state: DecoderState,
     pub at: Positions,
     pub used: Used,
 }
 
-#[derive(Drop)]
+#[derive(Clone, Copy)]
 pub enum PairFound {
     Taken(PairEnd),
     Not,
