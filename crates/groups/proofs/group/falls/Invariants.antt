@@ -1,0 +1,15 @@
+-- `group::falls` meets its contract. The loop's invariant: no start up to start k falls.
+use mathlib.Core.Path.{◌≡◌, sym, ◌∙◌}
+use Prim.Native.Nat.{◌-◌, ◌≤◌}
+use borrow.Author.Rules.{rules}
+use borrow.Author.Tests.{lt-ltb, le-ltb}
+use lib.ListN.{drop}
+use Rattle.groups.specs.GroupOfOperation.{falling}
+use Rattle.groups.proofs.Starts.{falling-turn, falling-last}
+use Rattle.groups.proofs.group.falls.Given as goal
+
+abbrev pub invariant-loop-k : goal.invariant-loop-k
+invariant-loop-k l = (l.k ≤ 8) × (falling l.starts ≡ falling (drop l.k l.starts))
+
+abbrev pub decreases-loop-k : goal.decreases-loop-k
+decreases-loop-k l = 8 - l.k
