@@ -1,0 +1,14 @@
+-- `scan::any_large_batch` meets its contract. The loop's invariant: what is found is so of the first k.
+use mathlib.Core.Path.{◌≡◌, refl}
+use Prim.Native.Nat.{◌-◌, ◌≤◌}
+use native.Mathlib.Numerals.{add-one}
+use native.Mathlib.Omega.{arith}
+use borrow.Author.Rules.{rules}
+use Rattle.rows.specs.cycles.Scans.{any_large_batch}
+use Rattle.rows.proofs.cycles.scan.any_large_batch.Given as goal
+
+abbrev pub invariant-loop-k : goal.invariant-loop-k
+invariant-loop-k l = (l.k ≤ l.n) × (l.found ≡ any_large_batch l.batches l.k)
+
+abbrev pub decreases-loop-k : goal.decreases-loop-k
+decreases-loop-k l = l.n - l.k

@@ -1,0 +1,14 @@
+-- `scan::any_long_block` meets its contract. The loop's invariant: what is found is so of the first k.
+use mathlib.Core.Path.{◌≡◌, refl}
+use Prim.Native.Nat.{◌-◌, ◌≤◌}
+use native.Mathlib.Numerals.{add-one}
+use native.Mathlib.Omega.{arith}
+use borrow.Author.Rules.{rules}
+use Rattle.rows.specs.cycles.Scans.{any_long_block}
+use Rattle.rows.proofs.cycles.scan.any_long_block.Given as goal
+
+abbrev pub invariant-loop-k : goal.invariant-loop-k
+invariant-loop-k l = (l.k ≤ l.n) × (l.found ≡ any_long_block l.nodes l.k)
+
+abbrev pub decreases-loop-k : goal.decreases-loop-k
+decreases-loop-k l = l.n - l.k

@@ -1,0 +1,21 @@
+-- `tally::place_for` meets its contract. The loop's invariant: no place before is in use with the address, and `free` is the first free one of them.
+use mathlib.Core.Path.{◌≡◌, refl, sym, ◌∙◌}
+use Prim.Native.Nat.{◌-◌, ◌≤◌, ◌<◌}
+use native.Mathlib.Omega.{arith}
+use borrow.Author.Tests.{eqb-true}
+use Rattle.groups.proofs.OneGroup.{both}
+use lib.Dec.{ltb, eqb}
+use Rattle.groups.specs.Answer.{pick}
+use Rattle.rows.specs.cycles.LentTally.{is_free, is_of, first_from, first}
+use Rattle.rows.proofs.cycles.FirstPlaces.{first-behind, found-behind, first-here, first-later, found_here, found-later}
+use Rattle.rows.proofs.cycles.Tallying.{place-in-use, place-free}
+use Rattle.rows.proofs.cycles.tally.place_for.Given as goal
+
+abbrev pub invariant-loop-place : goal.invariant-loop-place
+invariant-loop-place l =
+    (l.place ≤ 256) × (l.free ≤ 256)
+    × (first (is_of l.tally l.addr) ≡ first_from (is_of l.tally l.addr) l.place (256 - l.place))
+    × (first (is_free l.tally) ≡ pick (ltb l.free 256) l.free (first_from (is_free l.tally) l.place (256 - l.place)))
+
+abbrev pub decreases-loop-place : goal.decreases-loop-place
+decreases-loop-place l = 256 - l.place

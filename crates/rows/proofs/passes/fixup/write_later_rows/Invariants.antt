@@ -1,0 +1,18 @@
+-- `fixup::write_later_rows` meets its contract. The loop's invariant: the first rows of the fragments up to k are written.
+use mathlib.Core.Path.{◌≡◌, refl}
+use Prim.Native.Nat.{ℕ, ◌+◌, ◌-◌, ◌*◌, ◌≤◌, ◌<◌}
+use native.Mathlib.Nat.{mul-le-mul_right}
+use native.Mathlib.Omega.{arith}
+use borrow.Author.Rules.{rules}
+use lib.ListN.{length, length-take, length-drop}
+use Rattle.rows.specs.records.Buffers.{on_rows}
+use Rattle.rows.specs.passes.Passes.{later_rows, built_of, sum_of}
+use Rattle.rows.proofs.passes.FirstRows.{later-start, later-turn}
+use Rattle.rows.proofs.passes.fixup.write_later_rows.Given as goal
+
+abbrev pub invariant-loop-k : goal.invariant-loop-k
+invariant-loop-k l =
+    (1 ≤ l.k) × (l.k - 1 ≤ length l.counts - 1) × (length l.buffer ≡ length l.initial.buffer) × (l.buffer ≡ on_rows (sum_of l.counts) (later_rows l.fragment_size l.fragment_size (built_of (l.k - 1) l.built)) l.initial.buffer)
+
+abbrev pub decreases-loop-k : goal.decreases-loop-k
+decreases-loop-k l = length l.counts - l.k

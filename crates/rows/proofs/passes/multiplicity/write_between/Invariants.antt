@@ -1,0 +1,18 @@
+-- The LOOP rows taken get their counts one after another.
+use mathlib.Core.Path.{◌≡◌, refl, sym, ◌∙◌}
+use Prim.Native.Nat.{◌+◌, ◌-◌, ◌≤◌}
+use borrow.Author.Rules.{rules}
+use native.Mathlib.Omega.{arith}
+use mathlib.Core.Bool.{true}
+use Rattle.rows.specs.records.Buffers.{buffer_row}
+use Rattle.rows.specs.ways.LoopCounts.{is_loop, next_addr, ends_in, counted_from, Alike}
+use Rattle.rows.proofs.passes.RowCells.{alike_refl, alike_set, opcode-alike, cell-alike}
+use Rattle.rows.proofs.passes.Written.{counted-loop, counted_skip}
+use Rattle.rows.proofs.passes.Keys.{table-count}
+use Rattle.rows.proofs.passes.multiplicity.write_between.Given as goal
+
+abbrev pub invariant-loop-i : goal.invariant-loop-i
+invariant-loop-i l = (l.from ≤ l.i) × (l.i ≤ l.next) × Alike l.buffer l.initial.buffer × (counted_from l.profile (ends_in l.profile l.rows l.initial.buffer) l.rows l.i l.buffer ≡ counted_from l.profile (ends_in l.profile l.rows l.initial.buffer) l.rows l.from l.initial.buffer)
+
+abbrev pub decreases-loop-i : goal.decreases-loop-i
+decreases-loop-i l = l.next - l.i

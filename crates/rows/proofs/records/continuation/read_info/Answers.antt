@@ -1,0 +1,6 @@
+-- `continuation::read_info` meets its contract.
+use borrow.Author.Rules.{rules}
+use Rattle.rows.proofs.records.continuation.read_info.Goals as goal
+
+pub returns-in-Is : goal.returns-in-Is
+returns-in-Is c = rw (c.in-Is.is, c.reduce.ensures)

@@ -1,0 +1,13 @@
+-- `row::extra_0` meets its contract.
+use Prim.Native.Nat.{◌/◌, ◌%◌, ◌-◌, ◌*◌}
+use borrow.Author.Rules.{rules}
+use native.Mathlib.Omega.{arith}
+use Rattle.rows.proofs.records.Bits.{bit-mul}
+use Rattle.rows.proofs.records.row.extra_0.Goals as goal
+
+pub overflow_mul-result : goal.overflow_mul-result
+overflow_mul-result c = omega (arith, bit-mul (c.args.op / 64 % 2) (1 - c.args.op / 32 % 2) (omega arith) (omega arith))
+
+pub overflow_mul-result-2 : goal.overflow_mul-result-2
+overflow_mul-result-2 c = let first = bit-mul (c.args.op / 64 % 2) (1 - c.args.op / 32 % 2) (omega arith) (omega arith) in
+    omega (arith, bit-mul ((c.args.op / 64 % 2) * (1 - c.args.op / 32 % 2)) (c.args.op / 16 % 2) first (omega arith))

@@ -1,0 +1,19 @@
+-- `row::put_cells` meets its contract.
+use mathlib.Core.Path.{◌≡◌, ◌∙◌}
+use mathlib.Core.List.{◌++◌}
+use Prim.Native.Nat.{◌/◌}
+use native.Mathlib.Omega.{arith}
+use borrow.Author.Rules.{rules}
+use borrow.Author.Tests.{le-ltb}
+use lib.ListN.{length}
+use Rattle.rows.specs.records.Cells.{row_written}
+use Rattle.rows.proofs.records.Rooms.{row_fits, row_put}
+use Rattle.rows.proofs.records.row.put_cells.Goals as goal
+
+pub returns-then-buffer-row : goal.returns-then-buffer-row
+unfolding row_written
+returns-then-buffer-row c = rw (le-ltb c.args.row (length c.args.buffer.now / 49) c.if-buffer-row.true)
+
+pub returns : goal.returns
+returns c = rw (row_fits c.args.buffer.now c.args.row (c.args.first ++ c.args.last) (omega arith))
+    (c.put_in-2.ensures ∙ rw c.put_in.ensures (row_put c.args.buffer.now c.args.row c.args.first c.args.last (first-30 c) (last-19 c) (omega arith)))

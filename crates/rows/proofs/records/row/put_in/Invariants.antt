@@ -1,0 +1,18 @@
+-- `row::put_in` meets its contract. The loop's invariant: the first j numbers are copied.
+use mathlib.Core.Path.{◌≡◌, refl, sym, ◌∙◌}
+use Prim.Native.Nat.{◌+◌, ◌-◌, ◌≤◌, ◌<◌}
+use native.Mathlib.Omega.{arith}
+use native.Mathlib.Numerals.{add-one}
+use borrow.Author.Rules.{rules}
+use borrow.Author.Tests.{lt-leb}
+use lib.ListN.{length, length-set}
+use lib.Seq.{paste, paste-zero, paste-suc}
+use Rattle.rows.specs.records.Cells.{put_in}
+use Rattle.rows.proofs.records.Rooms.{put-fits}
+use Rattle.rows.proofs.records.row.put_in.Given as goal
+
+abbrev pub invariant-loop-j : goal.invariant-loop-j
+invariant-loop-j l = (l.dst ≡ paste l.initial.dst l.at l.src l.j) × (l.j ≤ length l.src) × (length l.dst ≡ length l.initial.dst) × (l.at + length l.src ≤ length l.initial.dst)
+
+abbrev pub decreases-loop-j : goal.decreases-loop-j
+decreases-loop-j l = length l.src - l.j

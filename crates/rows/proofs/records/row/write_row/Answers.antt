@@ -1,0 +1,7 @@
+-- `row::write_row` meets its contract.
+use borrow.Author.Rules.{rules}
+use Rattle.rows.proofs.records.Rooms.{cells-in-two}
+use Rattle.rows.proofs.records.row.write_row.Goals as goal
+
+pub returns : goal.returns
+returns c = rw (cells-in-two c.args.system c.args.d c.args.stack, ← c.first_cells-first.ensures, ← c.last_cells-last.ensures) c.put_cells.ensures
