@@ -13,7 +13,7 @@ pub put_row-requires : goal.put_row-requires
 put_row-requires c = rw c.in-Row.is at c.requires
 
 pub moved-requires : goal.moved-requires
-moved-requires c = row_next _ _ (rw c.in-Row.is at c.requires) c.well-formed.1.1.1.1.1.0.0
+moved-requires c = row_next _ _ (rw c.in-Row.is at c.requires) c.well_formed.1.1.1.1.1.0.0
 
 pub returns : goal.returns
 unfolding fragment_after tracer_after

@@ -9,7 +9,7 @@ pub returns-then-refusal-ne0 : goal.returns-then-refusal-ne0
 returns-then-refusal-ne0 c = refused-pass _ _ _ _ c.halt_refusal-refusal.ensures c.if-refusal-ne0.true
 
 pub push_halt-requires : goal.push_halt-requires
-push_halt-requires c = (fits4 c.args.profile c.args.buffer.now c.args.rows (sym c.halt_refusal-refusal.ensures ∙ c.if-refusal-ne0.false), omega (arith, c.well-formed.1.1.1.0))
+push_halt-requires c = (fits4 c.args.profile c.args.buffer.now c.args.rows (sym c.halt_refusal-refusal.ensures ∙ c.if-refusal-ne0.false), omega (arith, c.well_formed.1.1.1.0))
 
 pub returns : goal.returns
 returns c = made-pass _ _ _ _ _ c.halt_refusal-refusal.ensures c.if-refusal-ne0.false c.push_halt.ensures
