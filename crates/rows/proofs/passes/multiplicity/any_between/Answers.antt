@@ -24,7 +24,7 @@ addr_at-requires c = omega arith
 
 pub returns-then-count_of-eq0 : goal.returns-then-count_of-eq0
 returns-then-count_of-eq0 c = let y : is_loop c.args.profile (buffer_row c.loop-i.i c.args.buffer.now) ≡ true = sym c.is_loop.ensures ∙ c.if-is_loop.true in
-    let n = table-count c.args.profile c.args.buffer.now c.args.rows c.args.from c.args.next c.args.keys.now c.args.counts.now c.requires.1 c.loop-i.i (omega arith) (omega arith) y c.addr_at.result c.count_of.result c.addr_at.ensures c.count_of.ensures in
+    let n = table-count c.args.profile c.args.buffer.now c.args.rows c.args.from c.args.next c.args.keys.now c.args.counts.now c.requires.table c.loop-i.i (omega arith) (omega arith) y c.addr_at.result c.count_of.result c.addr_at.ensures c.count_of.ensures in
     sym (sym c.loop-i.invariant.2 ∙ lacks-yes c.args.profile (ends_in c.args.profile c.args.rows c.args.buffer.now) c.args.rows c.loop-i.i c.args.buffer.now (omega arith) y (sym n ∙ c.if-count_of-eq0.true))
 
 pub overflow_add-i-then-is_loop : goal.overflow_add-i-then-is_loop
@@ -35,7 +35,7 @@ loop-i-smaller-then-is_loop c = omega arith
 
 pub loop-i-preserved-then-is_loop : goal.loop-i-preserved-then-is_loop
 loop-i-preserved-then-is_loop c = let y : is_loop c.args.profile (buffer_row c.loop-i.i c.args.buffer.now) ≡ true = sym c.is_loop.ensures ∙ c.if-is_loop.true in
-    let n = table-count c.args.profile c.args.buffer.now c.args.rows c.args.from c.args.next c.args.keys.now c.args.counts.now c.requires.1 c.loop-i.i (omega arith) (omega arith) y c.addr_at.result c.count_of.result c.addr_at.ensures c.count_of.ensures in
+    let n = table-count c.args.profile c.args.buffer.now c.args.rows c.args.from c.args.next c.args.keys.now c.args.counts.now c.requires.table c.loop-i.i (omega arith) (omega arith) y c.addr_at.result c.count_of.result c.addr_at.ensures c.count_of.ensures in
     (omega arith, omega arith, sym (lacks-no c.args.profile (ends_in c.args.profile c.args.rows c.args.buffer.now) c.args.rows c.loop-i.i c.args.buffer.now (omega arith) y (λ z. c.if-count_of-eq0.false (n ∙ z))) ∙ c.loop-i.invariant.2)
 
 pub overflow_add-i-else-is_loop : goal.overflow_add-i-else-is_loop

@@ -32,7 +32,7 @@ pub loop-i-smaller-then-is_flagged_end : goal.loop-i-smaller-then-is_flagged_end
 loop-i-smaller-then-is_flagged_end c = omega arith
 
 pub loop-i-preserved-then-is_flagged_end : goal.loop-i-preserved-then-is_flagged_end
-loop-i-preserved-then-is_flagged_end c = (omega arith, omega arith, (λ p. omega (arith, c.loop-i.invariant.2 p, c.bump.ensures.small p)), tally-more c.args.profile c.args.buffer.now c.loop-i.i c.args.keys.now c.loop-i.counts c.bump.new.1.0 (sym c.is_flagged_end.ensures ∙ c.if-is_flagged_end.true) (rw (← c.addr_at-x.ensures) c.bump.ensures) c.loop-i.invariant.3)
+loop-i-preserved-then-is_flagged_end c = (omega arith, omega arith, (λ p. omega (arith, c.loop-i.invariant.2 p, c.bump.ensures.small p)), tally-more c.args.profile c.args.buffer.now c.loop-i.i c.args.keys.now c.loop-i.counts c.bump.new.counts (sym c.is_flagged_end.ensures ∙ c.if-is_flagged_end.true) (rw (← c.addr_at-x.ensures) c.bump.ensures) c.loop-i.invariant.3)
 
 pub overflow_add-i-else-is_flagged_end : goal.overflow_add-i-else-is_flagged_end
 overflow_add-i-else-is_flagged_end c = omega arith

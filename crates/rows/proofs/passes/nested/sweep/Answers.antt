@@ -85,13 +85,19 @@ pub overflow_add-above : goal.overflow_add-above
 overflow_add-above c = omega (arith, c.addr_at-addr.ensures, cell_below (buffer_row (c.loop-i.i + 1) c.loop-i.buffer) 6)
 
 pub overflow_add-depth : goal.overflow_add-depth
-overflow_add-depth c = omega (arith, opens_at c)
+overflow_add-depth c =
+    let opens_at : (c.loop-i.depth < 64) = (c.can_open.ensures c.if-not-can_open.false).0 in
+    omega (arith, opens_at)
 
 pub offset_bounds-stack-depth-in-Opens : goal.offset_bounds-stack-depth-in-Opens
-offset_bounds-stack-depth-in-Opens c = omega (arith, opens_at c)
+offset_bounds-stack-depth-in-Opens c =
+    let opens_at : (c.loop-i.depth < 64) = (c.can_open.ensures c.if-not-can_open.false).0 in
+    omega (arith, opens_at)
 
 pub bounds-stack-depth-in-Opens : goal.bounds-stack-depth-in-Opens
-bounds-stack-depth-in-Opens c = omega (arith, opens_at c)
+bounds-stack-depth-in-Opens c =
+    let opens_at : (c.loop-i.depth < 64) = (c.can_open.ensures c.if-not-can_open.false).0 in
+    omega (arith, opens_at)
 
 pub overflow_add-i-in-Opens-2 : goal.overflow_add-i-in-Opens-2
 overflow_add-i-in-Opens-2 c = omega arith
@@ -137,7 +143,9 @@ overflow_add-buffer-in-Ends c = let r = rw c.in-Ends.is at c.row_role-role.ensur
     omega (arith, count_small c.args.profile c.args.buffer.now c.loop-i.buffer c.loop-i.stack c.loop-i.depth c.loop-i.above c.loop-i.i c.loop-i.invariant.4 _ t.0 t.1)
 
 pub bounds-buffer-top-in-Ends : goal.bounds-buffer-top-in-Ends
-bounds-buffer-top-in-Ends c = slice-read-buffer c
+unfolding RoleOf
+bounds-buffer-top-in-Ends c = let r = rw c.in-Ends.is at c.row_role-role.ensures in
+    omega (arith, c.loop-i.invariant.3.alike.size, (top-row c.args.profile c.args.buffer.now c.loop-i.buffer c.loop-i.stack c.loop-i.depth c.loop-i.above c.loop-i.i c.loop-i.invariant.4 r.2).0)
 
 pub overflow_add-i-in-Ends : goal.overflow_add-i-in-Ends
 overflow_add-i-in-Ends c = omega arith

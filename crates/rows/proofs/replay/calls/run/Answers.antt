@@ -27,4 +27,4 @@ loop-k-preserved c = let (more, within, ran) = ran_on _ c.args.records.now c.arg
 
 pub returns : goal.returns
 returns c = let e : c.loop-k.k ≡ length c.args.records.now / 32 = omega arith in
-    rw (← e) c.loop-k.invariant.1.1
+    record { value = rw (← e) c.loop-k.invariant.1.1.0; fragment_after = rw (← e) c.loop-k.invariant.1.1.1 }
