@@ -1,5 +1,4 @@
 -- `cycle::finish_made` meets its contract: the row that is made is put, and the tracer moves on; a refusal is kept.
-use borrow.Author.Rules.{rules}
 use Rattle.rows.specs.cycles.Cycles.{tracer_after, fragment_after}
 use Rattle.rows.proofs.cycles.Picks.{pick_same}
 use Rattle.rows.proofs.records.Rooms.{row_next}

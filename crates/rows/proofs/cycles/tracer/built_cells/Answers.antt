@@ -1,7 +1,6 @@
 -- `tracer::built_cells` meets its contract.
 use mathlib.Core.Path.{refl}
 use Rattle.rows.specs.records.Built.{system_cells, stack_cells}
-use borrow.Author.Rules.{rules}
 use Rattle.rows.proofs.cycles.tracer.built_cells.Goals as goal
 
 pub returns : goal.returns

@@ -1,7 +1,6 @@
 -- `finish::finish` meets its contract: the checks, pass 2 with 14, and then the other passes.
 use mathlib.Core.Path.{◌≡◌, refl, ap, ◌∙◌}
 use native.Mathlib.Omega.{arith}
-use borrow.Author.Rules.{rules}
 use lib.ListN.{length}
 use Rattle.groups.specs.Answer.{first_of}
 use Rattle.rows.specs.passes.Passes.{refusal_all, sum_of}

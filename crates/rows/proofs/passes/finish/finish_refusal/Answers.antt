@@ -2,7 +2,6 @@
 use mathlib.Core.Path.{◌≡◌, refl, sym, ◌∙◌}
 use mathlib.Core.Bool.{false}
 use native.Mathlib.Omega.{arith}
-use borrow.Author.Rules.{rules}
 use lib.ListN.{length}
 use Rattle.rows.specs.records.Profiles.{profile_wrong}
 use Rattle.rows.specs.passes.Passes.{refusal_all, sum_of, fragments_wrong, height_wrong, no_fragment, not_full}

@@ -1,8 +1,7 @@
 -- `finish::finish_rows` meets its contract: each pass on what the one before left.
 use mathlib.Core.Path.{sym, ◌∙◌}
-use Prim.Native.Nat.{◌+◌, ◌-◌, ◌≤◌}
+use Prim.Native.Nat.{◌+◌, ◌≤◌}
 use native.Mathlib.Omega.{arith}
-use borrow.Author.Rules.{rules}
 use lib.ListN.{length}
 use Rattle.rows.specs.passes.Passes.{last_built}
 use Rattle.rows.specs.ways.Finisher.{other_passes}

@@ -1,6 +1,5 @@
 -- `fixup::fixup_stack_and_system_rows` meets its contract.
 use mathlib.Core.Path.{sym, ◌∙◌}
-use borrow.Author.Rules.{rules}
 use Rattle.rows.proofs.passes.Counts.{passed}
 use Rattle.rows.proofs.passes.Refusals.{refused-pass, made-pass}
 use Rattle.rows.proofs.passes.fixup.fixup_stack_and_system_rows.Goals as goal

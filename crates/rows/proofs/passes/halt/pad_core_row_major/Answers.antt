@@ -1,6 +1,5 @@
 -- `halt::pad_core_row_major` meets its contract.
 use mathlib.Core.Path.{◌∙◌, sym}
-use borrow.Author.Rules.{rules}
 use Rattle.rows.proofs.passes.Refusals.{Room, fits5, refused-pass, made-pass}
 use Rattle.rows.proofs.passes.halt.pad_core_row_major.Goals as goal
 

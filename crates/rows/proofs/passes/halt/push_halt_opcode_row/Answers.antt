@@ -1,7 +1,6 @@
 -- `halt::push_halt_opcode_row` meets its contract.
 use mathlib.Core.Path.{◌∙◌, sym}
 use native.Mathlib.Omega.{arith}
-use borrow.Author.Rules.{rules}
 use Rattle.rows.proofs.passes.Refusals.{fits4, refused-pass, made-pass}
 use Rattle.rows.proofs.passes.halt.push_halt_opcode_row.Goals as goal
 

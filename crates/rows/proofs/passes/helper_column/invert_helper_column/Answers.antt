@@ -1,6 +1,5 @@
 -- `helper_column::invert_helper_column` meets its contract.
 use mathlib.Core.Path.{◌∙◌, sym}
-use borrow.Author.Rules.{rules}
 use Rattle.rows.proofs.passes.Refusals.{fits3, refused-pass, made-pass}
 use Rattle.rows.proofs.passes.helper_column.invert_helper_column.Goals as goal
 

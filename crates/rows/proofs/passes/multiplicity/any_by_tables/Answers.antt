@@ -1,10 +1,10 @@
 -- Chunk by chunk, what is asked from a row on is what is asked of all.
-use mathlib.Core.Path.{◌≡◌, refl, sym, ◌∙◌}
-use Prim.Native.Nat.{ℕ, ◌-◌, ◌≤◌}
+use mathlib.Core.Path.{refl, sym, ◌∙◌}
+use Prim.Native.Nat.{ℕ}
 use native.Mathlib.Omega.{arith}
-use lib.ListN.{length, length-replicate}
+use lib.ListN.{length-replicate}
 use lib.Seq.{length-take-le}
-use Rattle.rows.specs.ways.LoopCounts.{ends_in, lacks_from}
+use Rattle.rows.specs.ways.LoopCounts.{ends_in}
 use Rattle.rows.proofs.passes.RowsFrom.{lacks-first, lacks-last}
 use Rattle.rows.proofs.passes.multiplicity.any_by_tables.Goals as goal
 

@@ -1,9 +1,8 @@
 -- Row by row, a flagged END counts at the address behind it.
 use mathlib.Core.Path.{◌≡◌, sym, ap, ◌∙◌}
-use Prim.Native.Nat.{ℕ, ◌+◌, ◌-◌, ◌≤◌, ◌<◌}
+use Prim.Native.Nat.{ℕ, ◌+◌}
 use native.Mathlib.Omega.{arith}
-use lib.ListN.{length, get_or, length-replicate}
-use Rattle.rows.specs.ways.LoopCounts.{ends_in, Tallied}
+use lib.ListN.{length, length-replicate}
 use Rattle.rows.proofs.passes.Tallies.{zero-at, tally-none, tally-more, tally-skip}
 use Rattle.rows.proofs.passes.multiplicity.count_ends.Goals as goal
 

@@ -1,5 +1,4 @@
 -- The keys taken are sorted, for which there is room.
-use borrow.Author.Rules.{rules}
 use native.Mathlib.Omega.{arith}
 use Rattle.rows.proofs.passes.Keys.{took-sorted}
 use Rattle.rows.proofs.passes.multiplicity.take_loops.Goals as goal

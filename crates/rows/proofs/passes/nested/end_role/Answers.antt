@@ -1,7 +1,6 @@
 -- `nested::end_role` meets its contract.
 use mathlib.Core.Path.{sym, ◌∙◌}
 use native.Mathlib.Omega.{arith}
-use borrow.Author.Rules.{rules}
 use borrow.Author.Tests.{eq-eqb, ne_eqb}
 use Rattle.rows.specs.records.Buffers.{buffer_row, opcode_of}
 use Rattle.rows.specs.ways.OpenLoops.{RoleOf}

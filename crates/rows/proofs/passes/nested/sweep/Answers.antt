@@ -3,19 +3,18 @@
 use mathlib.Core.Path.{◌≡◌, refl, sym, ◌∙◌}
 use mathlib.Core.Bool.{true}
 use mathlib.Core.List.{List}
-use Prim.Native.Nat.{ℕ, ◌+◌, ◌*◌, ◌-◌, ◌≤◌, ◌<◌}
+use Prim.Native.Nat.{ℕ, ◌+◌, ◌*◌, ◌≤◌, ◌<◌}
 use native.Mathlib.Omega.{arith}
-use borrow.Author.Rules.{rules}
-use borrow.Author.Tests.{eqb-true, not-false}
-use lib.ListN.{length, get_or, length-set, length-replicate}
+use borrow.Author.Tests.{eqb-true}
+use lib.ListN.{get_or, length-set, length-replicate}
 use Rattle.field.proofs.CellLaws.{cell_below}
 use Rattle.rows.specs.declared.records.profile.Profile.{Profile}
 use Rattle.rows.specs.records.Buffers.{buffer_row}
-use Rattle.rows.specs.ways.LoopCounts.{is_loop, next_addr, ends_in, counted_from}
-use Rattle.rows.specs.ways.OpenLoops.{RoleOf, CountsIn}
+use Rattle.rows.specs.ways.LoopCounts.{is_loop, next_addr, ends_in}
+use Rattle.rows.specs.ways.OpenLoops.{RoleOf}
 use Rattle.rows.proofs.passes.RowCells.{opcode-alike, flagged_alike, cell-alike}
 use Rattle.rows.proofs.cycles.PartScans.{never}
-use Rattle.rows.proofs.passes.OpenLoops.{LoopsEnded, ended-start, ended-other, ended-opens, ended-ends, ended-all, LoopsCounted, counted_start, counted-other, counted-opens, counted-ends, count_small, still-counted, counted-all, in_start, in-other, in_opens, in-ends}
+use Rattle.rows.proofs.passes.OpenLoops.{ended-start, ended-other, ended-opens, ended-ends, ended-all, LoopsCounted, counted_start, counted-other, counted-opens, counted-ends, count_small, still-counted, counted-all, in_start, in-other, in_opens, in-ends}
 use Rattle.rows.proofs.passes.nested.sweep.Goals as goal
 
 -- the innermost open LOOP row stands before row i

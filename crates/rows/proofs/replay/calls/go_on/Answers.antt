@@ -1,6 +1,5 @@
 -- `calls::go_on` meets its contract.
 use native.Mathlib.Omega.{arith}
-use borrow.Author.Rules.{rules}
 use Rattle.rows.proofs.replay.GoingOn.{record-lent, gone_one, gone-more, built-behind}
 use Rattle.rows.proofs.replay.calls.go_on.Goals as goal
 

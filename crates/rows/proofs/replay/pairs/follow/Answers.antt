@@ -2,7 +2,6 @@
 use mathlib.Core.Path.{refl, sym}
 use native.Mathlib.Omega.{arith}
 use lib.ListN.{length}
-use borrow.Author.Rules.{rules}
 use Rattle.groups.proofs.OneGroup.{neither}
 use Rattle.rows.specs.records.Forests.{forest}
 use Rattle.rows.specs.records.Addresses.{queues}

@@ -1,5 +1,4 @@
 -- `pairs::is_pair` meets its contract.
-use borrow.Author.Rules.{rules}
 use Rattle.rows.proofs.cycles.PartScans.{never}
 use Rattle.rows.proofs.replay.PairRecords.{a_pair}
 use Rattle.rows.proofs.replay.pairs.is_pair.Goals as goal

@@ -1,5 +1,4 @@
 -- `CoreTraceGenerationTracer::into_final_state` meets its contract.
-use borrow.Author.Rules.{rules}
 use borrow.Author.Tests.{eq-eqb, ne_eqb}
 use Rattle.rows.specs.cycles.Cycles.{final_state}
 use Rattle.rows.proofs.cycles.tracer.CoreTraceGenerationTracer.into_final_state.Goals as goal

@@ -1,6 +1,5 @@
 -- `CoreTraceGenerationTracer::start_clock_cycle` meets its contract.
 use mathlib.Core.Path.{refl, sym}
-use borrow.Author.Rules.{rules}
 use borrow.Author.Tests.{eq-eqb, ne_eqb}
 use Rattle.rows.specs.cycles.Cycles.{stored_in}
 use Rattle.rows.proofs.cycles.tracer.CoreTraceGenerationTracer.start_clock_cycle.Goals as goal

@@ -1,5 +1,4 @@
 -- `EndBlockFlags::to_hasher_state_second_word` meets its contract.
-use borrow.Author.Rules.{rules}
 use Rattle.rows.specs.records.DecoderRows.{end_word}
 use Rattle.rows.proofs.records.decoder_row.EndBlockFlags.to_hasher_state_second_word.Goals as goal
 
