@@ -1,7 +1,7 @@
 -- What the loop of `inverse::euclid_inverse` keeps: Bezout's equations without signs, and what they say at its two exits.
 use mathlib.Core.Path.{◌≡◌, refl, sym, ap, ◌∙◌, subst}
 use Prim.Native.Nat.{ℕ, ◌+◌, ◌*◌, ◌-◌, ◌/◌, ◌%◌, ◌≤◌, ◌<◌, ◌∣◌}
-use native.Mathlib.Nat.{dvd-mod_iff, dvd_refl, dvd-zero, le_of_dvd, mul-div_cancel', mul-le-mul_left, le-mul_of_pos_right, div-add-mod', add-mul-mod_self_left, mul-mod_left, mul_comm, mod-lt, zero-mod}
+use native.Mathlib.Nat.{dvd-mod_iff, dvd_refl, dvd-zero, le_of_dvd, mul-div_cancel', mul-le-mul_left, le-mul_of_pos_right, div-add-mod', add-mul-mod_self_left, mul-mod_left, zero-mod}
 use native.Mathlib.Omega.{arith}
 use Rattle.field.specs.Modulus.{P}
 use Rattle.field.proofs.Remainders.{add_cong, mul-cong, add-cancel}

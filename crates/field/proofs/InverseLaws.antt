@@ -2,8 +2,8 @@
 use mathlib.Core.Path.{◌≡◌, refl, sym, ap, ◌∙◌, subst}
 use mathlib.Core.Logic.{◌⊎◌, inl, inr}
 use Prim.Native.Nat.{ℕ, zero, suc, ◌+◌, ◌*◌, ◌-◌, ◌/◌, ◌%◌, ◌≤◌, ◌<◌, ◌∣◌}
-use native.Mathlib.Nat.{mod-lt, mod-mod, mod-eq_of_lt, mul_assoc, mul_comm, one-mul, not-suc-le-zero, eq-zero-or-pos, dvd_refl, dvd-zero, dvd-mod_iff, zero-mod, div-add-mod', add-mul-mod_self_left}
-use native.Mathlib.Decide.{ℕ_discrete, dec_le}
+use native.Mathlib.Nat.{mod-lt, mod-mod, mod-eq_of_lt, mul_assoc, mul_comm, one-mul, not-suc-le-zero, dvd_refl, dvd-zero, dvd-mod_iff, div-add-mod', add-mul-mod_self_left}
+use native.Mathlib.Decide.{ℕ_discrete}
 use native.Mathlib.Omega.{arith}
 use Rattle.field.specs.Modulus.{P}
 use Rattle.field.specs.Inverse.{IsInverse, euclid, inverse_of}

@@ -2,9 +2,8 @@
 -- modulo every divisor d > 2 of p the 2^32 powers of b are distinct, and by the pigeonhole principle d is at least 2^32; two such
 -- divisors have a product above p.
 use mathlib.Core.Path.{◌≡◌, refl, sym, ap, ◌∙◌, subst}
-use mathlib.Core.Bool.{Bool, true, false}
-use Prim.Native.Nat.{ℕ, zero, suc, ◌+◌, ◌*◌, ◌-◌, ◌/◌, ◌%◌, ◌^◌, ◌≤◌, ◌<◌}
-use native.Mathlib.Nat.{add_comm, add_assoc, add-zero, mul_assoc, mul_comm, mul_left_comm, mul-mul-mul_comm, mul-add, add-mul, mul-one, one-mul, mod-add-div, mod-lt, mod-mod, mod-eq_of_lt, add-mod, add-mul-mod_self_left, zero-mod, pow-zero, pow-succ', mul-le-mul, not-suc-le-zero, mul-mod_right, mod-mod_of_dvd, dvd_of_mod-eq-zero}
+use Prim.Native.Nat.{ℕ, zero, suc, ◌+◌, ◌*◌, ◌/◌, ◌%◌, ◌^◌, ◌≤◌, ◌<◌}
+use native.Mathlib.Nat.{mul_assoc, mul_comm, mul_left_comm, mul-mul-mul_comm, mul-one, one-mul, mod-lt, mod-mod, mod-eq_of_lt, zero-mod, pow-zero, pow-succ', mul-le-mul, not-suc-le-zero, mul-mod_right, mod-mod_of_dvd, dvd_of_mod-eq-zero}
 use native.Mathlib.Decide.{ℕ_discrete}
 use native.Mathlib.Omega.{arith}
 use Rattle.field.specs.Modulus.{P}

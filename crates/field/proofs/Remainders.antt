@@ -1,6 +1,6 @@
 -- Laws of remainders: sums and products go by the remainders of their parts. They hold for every divisor.
 use mathlib.Core.Path.{◌≡◌, refl, sym, ap, ◌∙◌}
-use Prim.Native.Nat.{ℕ, ◌+◌, ◌*◌, ◌-◌, ◌/◌, ◌%◌, ◌≤◌, ◌<◌}
+use Prim.Native.Nat.{ℕ, ◌+◌, ◌*◌, ◌/◌, ◌%◌, ◌<◌}
 use native.Mathlib.Nat.{mul_assoc, mul_comm, add-mul, mod-add-div, add-mod, add-mul-mod_self_left, mod-lt}
 use native.Mathlib.Omega.{arith}
 use Rattle.field.specs.Modulus.{P}

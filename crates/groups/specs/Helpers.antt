@@ -1,5 +1,5 @@
 -- Document 01, "Helpers": the cells h2 to h7 of an operation's row, by what the cycle captured, and refusal 9.
-use Rattle.std.specs.Prelude.{Bool, true, false, ◌&&◌, List, [], ◌∷◌, ℕ, ◌+◌, ◌-◌, ◌/◌, ◌%◌, ltb}
+use Rattle.std.specs.Prelude.{Bool, true, ◌&&◌, List, [], ◌∷◌, ℕ, ◌+◌, ◌-◌, ◌/◌, ◌%◌, ltb}
 use Rattle.field.specs.Modulus.{P}
 use Rattle.field.specs.Cells.{read}
 use Rattle.groups.specs.Words.{read_word, read_quad}

@@ -1,6 +1,5 @@
 pub mod Bits
 pub mod EndQueue
-pub mod LentState
 pub mod Occurrences
 pub mod Rooms
 pub mod Slots

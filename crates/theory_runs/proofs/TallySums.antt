@@ -1,5 +1,5 @@
 -- Change request N9: the tallies of a run's fragments, with the flagged ENDs that end a fragment, add up to every count that pass 2 sets.
-use mathlib.Core.Path.{◌≡◌, ◌∙◌, refl, sym, ap, ap₂}
+use mathlib.Core.Path.{◌≡◌, ◌∙◌, refl, sym, ap, ap₂, subst}
 use mathlib.Core.Bool.{Bool, true, false, ◌&&◌, ◌||◌}
 use mathlib.Core.List.{List, [], ◌∷◌, ◌++◌, append-nil}
 use Prim.Native.Nat.{ℕ, zero, suc, ◌+◌, ◌-◌, ◌*◌, ◌/◌, ◌≤◌, ◌<◌}
@@ -163,7 +163,7 @@ module _ (p : Profile) (q : Queues) where
   none-empty size (fragment ∷ next ∷ fragments) here some a e =
       let there : live_cursor p q here fragment ≡ cursor_of p q (closed p q here (plain_of fragment)) = ap (cursor_of p q) (live-calls p q fragment.calls (live_opened p q here fragment) a.0).1 in
       let (full, rest) = neither (ltb (handed here fragment) size) (not_full size (counts_of (final_states p q (plain_all (next ∷ fragments)) (cursor_of p q (closed p q here (plain_of fragment)))))) e in
-      (omega (arith, count_held here fragment a.0, ltb-false (handed here fragment) size full), none-empty size (next ∷ fragments) (live_cursor p q here fragment) some a.1 (rw there rest))
+      (omega (arith, count_held here fragment a.0, ltb-false (handed here fragment) size full), none-empty size (next ∷ fragments) (live_cursor p q here fragment) some a.1 (subst (λ x. not_full size (counts_of (final_states p q (plain_all (next ∷ fragments)) x)) ≡ false) (sym there) rest))
 
   run-over : (size : ℕ) (fragments : List LiveFragment) (here : Cursor) → LentAsZeros fragments → 0 < size → AllLiveAccepted p q fragments here → not_full size (counts_of (final_states p q (plain_all fragments) here)) ≡ false →
       (addr : ℕ) → body_ends p addr (rows_run p q (plain_all fragments) here) ≡ over_fragments p (live_ends p q fragments here) addr

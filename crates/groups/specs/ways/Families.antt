@@ -1,6 +1,6 @@
 -- The 18 cases sorted by the way in which their helpers are made, for the private functions of `helpers.rt`. No public promise names
 -- this file: `proofs/FamilyLaws.antt` shows that refusals and helpers are those of `Helpers.antt`.
-use Rattle.std.specs.Prelude.{List, [], ◌∷◌, ℕ}
+use Rattle.std.specs.Prelude.{[], ◌∷◌}
 use Rattle.field.specs.Inverse.{inverse_of}
 use Rattle.field.specs.Cells.{read}
 use Rattle.groups.specs.declared.helpers.OperationHelperRegisters.{OperationHelperRegisters}

@@ -58,7 +58,7 @@ pub put-set : (rows : List (List ℕ)) (rest : List ℕ) (i : ℕ) (cells : List
 unfolding flat Wide put_row
 put-set [] rest i cells w h = absurd (omega arith)
 put-set (row ∷ rows) rest zero cells w h =
-    rw (append_assoc row (flat rows) rest, drop_at row (flat rows ++ rest) 49 w.0, append_assoc)
+    rw (append_assoc row (flat rows) rest, drop_at row (flat rows ++ rest) 49 w.0, append_assoc cells (flat rows) rest)
 put-set (row ∷ rows) rest (suc i) cells w h =
     rw (append_assoc row (flat rows) rest, take_row row (flat rows ++ rest) w.0 i, drop-row row (flat rows ++ rest) w.0 i 49)
     (simp append_assoc (ap (λ y. row ++ y) (simp append_assoc at (put-set rows rest i cells w.1 (omega arith)))))

@@ -56,9 +56,9 @@ read_cell : (r : List ℕ) (i : ℕ) → read (cell_at r i) ≡ cell_at r i
 unfolding cell_at
 read_cell r i = mod-mod (get_or r i 0) P
 
-read_word : (r : List ℕ) (i : ℕ) → read_word (word_at r i) ≡ word_at r i
+read_word_lem : (r : List ℕ) (i : ℕ) → read_word (word_at r i) ≡ word_at r i
 unfolding word_at
-read_word r i = rw (read_cell r i, read_cell r (i + 1), read_cell r (i + 2), read_cell r (i + 3))
+read_word_lem r i = rw (read_cell r i, read_cell r (i + 1), read_cell r (i + 2), read_cell r (i + 3))
 
 -- THE SYSTEM
 
@@ -75,7 +75,7 @@ system-is r state e =
 pub system_built : (r : List ℕ) (clk : ℕ) → (get_or r 2 0 < 4294967296 → clk ≡ get_or r 2 0 + 1) → (state : SystemState) → system_in r ≡ accepted state
     → record { clk = clk; ctx = get_or r 3 0; fn_hash = word_at r 4 } ≡ built_system state
 unfolding built_system
-system_built r clk h state e = let (few, is) = system-is r state e in rw (is, h few, read_word r 4)
+system_built r clk h state e = let (few, is) = system-is r state e in rw (is, h few, read_word_lem r 4)
 
 -- THE STACK
 

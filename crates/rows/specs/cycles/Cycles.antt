@@ -1,6 +1,6 @@
 -- Document 01, "Entry: one cycle": storing, finishing and the final state.
 use Rattle.std.specs.Prelude.{Bool, true, false, not, ◌||◌, List, ◌++◌, ℕ, ◌+◌, ◌/◌, min, leb, ltb, eqb}
-use Rattle.groups.specs.Answer.{Answer, accepted, refused, and_then, pick, refusal}
+use Rattle.groups.specs.Answer.{Answer, accepted, refused, and_then, pick}
 use Rattle.groups.specs.Constants.{row_width, big_opcode, bad_profile, low_depth, bad_length, stored_absent, no_row_left}
 use Rattle.groups.specs.declared.helpers.OperationHelperRegisters.{OperationHelperRegisters}
 use Rattle.rows.specs.declared.records.profile.Profile.{Profile}

@@ -1,6 +1,6 @@
 -- Document 01, "Entry: one cycle": what each continuation makes, with its own refusals in their order. A row's decoder part, the address
 -- state and positions after it, and which captured values it used up. No system or stack state and no fragment goes in.
-use Rattle.std.specs.Prelude.{Bool, true, false, List, ℕ}
+use Rattle.std.specs.Prelude.{Bool, List, ℕ}
 use Rattle.groups.specs.Answer.{Answer, accepted, refused, and_then, pick}
 use Rattle.groups.specs.Constants.{wrong_node_kind, stored_absent, syscall_start}
 use Rattle.groups.specs.Batches.{batch_at}

@@ -1,6 +1,6 @@
 -- The address state (current and parent address) as a small machine that three kinds of row move: a start, an END and a RESPAN. The
 -- queues that it is moved by are lent: block addresses, parent addresses, and three cells an END.
-use Rattle.std.specs.Prelude.{Bool, List, ℕ, ◌+◌, ◌*◌, ◌/◌, ◌%◌, ltb, length}
+use Rattle.std.specs.Prelude.{List, ℕ, ◌+◌, ◌*◌, ◌/◌, ◌%◌, ltb, length}
 use Rattle.field.specs.Modulus.{P}
 use Rattle.field.specs.Cells.{read, cell_at}
 use Rattle.groups.specs.Answer.{Answer, accepted, refused, and_then, pick}

@@ -5,7 +5,6 @@ use Rattle.field.specs.Cells.{cell_at}
 use Rattle.groups.specs.Constants.{stored_absent}
 use Rattle.groups.specs.Words.{word_at}
 use Rattle.groups.specs.declared.word.Word.{Word}
-use Rattle.groups.specs.declared.word.QuadFelt.{QuadFelt}
 use Rattle.groups.specs.declared.helpers.OperationHelperRegisters.{OperationHelperRegisters}
 use Rattle.rows.specs.declared.records.ids.MastNodeId.{MastNodeId}
 use Rattle.rows.specs.declared.records.state.SystemState.{SystemState}

@@ -1,5 +1,5 @@
 -- Document 01: "A profile (added by design) gives 13 opcodes .. and the address step".
-use Rattle.std.specs.Prelude.{Bool, true, false, not, ◌&&◌, ◌||◌, List, [], ◌∷◌, ℕ, ◌/◌, ◌%◌, leb, eqb}
+use Rattle.std.specs.Prelude.{Bool, false, not, ◌&&◌, ◌||◌, List, [], ◌∷◌, ℕ, ◌/◌, ◌%◌, leb, eqb}
 use Rattle.field.specs.Modulus.{P}
 use Rattle.field.specs.Bounds.{any_from}
 use Rattle.rows.specs.declared.records.profile.Profile.{Profile}

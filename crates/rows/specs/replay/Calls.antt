@@ -11,7 +11,7 @@ use Rattle.rows.specs.declared.replay.directory.DirectoryEntry.{DirectoryEntry}
 use Rattle.rows.specs.declared.replay.calls.Replayed.{Replayed}
 use Rattle.rows.specs.records.Forests.{Forest, forest}
 use Rattle.rows.specs.records.Addresses.{Queues}
-use Rattle.rows.specs.records.Lent.{Slice, lent_forest, lent_queues}
+use Rattle.rows.specs.records.Lent.{Slice, MutSlice, lent_forest, lent_queues}
 use Rattle.rows.specs.records.CallRecords.{RecordedCall, stores, finishes, call_in, record_at}
 use Rattle.rows.specs.cycles.Scans.{scan_of}
 use Rattle.rows.specs.cycles.Cycles.{fresh, stored_in, cycle_with, keeping, tracer_after, fragment_after, final_state, for_passes}
@@ -62,7 +62,7 @@ setting scan profile forests directory queues cells =
     record { scan = scan; profile = profile; forests = forests; directory = directory; queues = queues; cells = cells }
 
 -- the setting of a function that is lent its slices
-abbrev pub lent_setting : Scan → Profile → (nodes digests batches groups ops directory addresses parents ends fragment : Slice) → Setting
+abbrev pub lent_setting : Scan → Profile → (nodes digests batches groups ops directory addresses parents ends : Slice) (fragment : MutSlice) → Setting
 lent_setting scan profile nodes digests batches groups ops directory addresses parents ends fragment =
     setting scan profile (lent_forest nodes digests batches groups ops) directory.entry.now (lent_queues addresses parents ends) (length fragment.entry.now)
 
@@ -127,7 +127,7 @@ unfoldable pub scanned : Profile → Forest → (directory : List ℕ) → Queue
 scanned p f directory q cells = setting (scan_of p f.nodes f.batches f.ops) p f directory q cells
 
 -- of a function that is lent its slices
-abbrev pub lent_scanned : Profile → (nodes digests batches groups ops directory addresses parents ends fragment : Slice) → Setting
+abbrev pub lent_scanned : Profile → (nodes digests batches groups ops directory addresses parents ends : Slice) (fragment : MutSlice) → Setting
 lent_scanned profile nodes digests batches groups ops directory addresses parents ends fragment =
     scanned profile (lent_forest nodes digests batches groups ops) directory.entry.now (lent_queues addresses parents ends) (length fragment.entry.now)
 

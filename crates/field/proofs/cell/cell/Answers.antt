@@ -1,5 +1,4 @@
 -- `cell::cell` meets its contract.
-use borrow.Author.Rules.{rules}
 use Rattle.field.specs.Cells.{cell_at}
 use Rattle.field.proofs.cell.cell.Goals as goal
 

@@ -1,6 +1,5 @@
 -- `cell::number_at` meets its contract.
 use mathlib.Core.Path.{sym}
-use borrow.Author.Rules.{rules}
 use lib.ListN.{get_or-eq_default}
 use Rattle.field.proofs.cell.number_at.Goals as goal
 

@@ -1,6 +1,5 @@
 -- `felt::fold` meets its contract.
 use mathlib.Core.Path.{◌∙◌}
-use borrow.Author.Rules.{rules}
 use Rattle.field.proofs.Product.{fold_law}
 use Rattle.field.proofs.felt.fold.Goals as goal
 

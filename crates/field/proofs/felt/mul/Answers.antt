@@ -4,7 +4,6 @@ use Prim.Native.Nat.{ℕ, ◌%◌}
 use native.Mathlib.Omega.{arith}
 use Rattle.field.specs.Modulus.{P}
 use Rattle.field.proofs.Product.{product, halves}
-use borrow.Author.Rules.{rules}
 use Rattle.field.proofs.felt.mul.Goals as goal
 
 pub overflow_mul-w0 : goal.overflow_mul-w0

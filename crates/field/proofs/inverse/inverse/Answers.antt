@@ -1,6 +1,5 @@
 -- `inverse::inverse` meets its contract: an entry of the table, or what Euclid's algorithm finds.
 use mathlib.Core.Path.{◌∙◌}
-use borrow.Author.Rules.{rules}
 use Rattle.field.proofs.Entries.{entry-inverse}
 use Rattle.field.proofs.InverseLaws.{inverse-reduced}
 use Rattle.field.proofs.inverse.inverse.Goals as goal

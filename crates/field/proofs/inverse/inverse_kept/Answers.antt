@@ -1,7 +1,6 @@
 -- `inverse::inverse_kept` meets its contract: what is looked up, computed, or kept.
 use mathlib.Core.Path.{◌∙◌}
 use native.Mathlib.Omega.{arith}
-use borrow.Author.Rules.{rules}
 use Rattle.field.proofs.Entries.{entry-inverse}
 use Rattle.field.proofs.InverseLaws.{inverse-reduced}
 use Rattle.field.proofs.KeptLaws.{kept-found, kept_more}

@@ -4,11 +4,9 @@ use mathlib.Core.Path.{◌≡◌, ap, ◌∙◌}
 use mathlib.Core.List.{List}
 use Prim.Native.Nat.{ℕ, ◌+◌, ◌*◌, ◌-◌, ◌≤◌, ◌<◌}
 use native.Mathlib.Omega.{arith}
-use borrow.Author.Rules.{rules}
 use lib.ListN.{length, get_or, set, length-set}
 use Rattle.field.specs.Inverse.{inverse_of}
 use Rattle.field.specs.Column.{invert_column}
-use Rattle.field.specs.ways.KeptInverses.{KeptInverses}
 use Rattle.field.proofs.Columns.{column-length, column-outside, column-none, column-more, column-here, column-past}
 use Rattle.field.proofs.KeptLaws.{kept-none}
 use Rattle.field.proofs.inverse.invert_column.Invariants.{Held}

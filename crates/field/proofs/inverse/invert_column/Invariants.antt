@@ -1,16 +1,10 @@
 -- `inverse::invert_column` meets its contract: the loop keeps the buffer with the column of the first `row` rows inverted, and in its array
 -- at each place 0 or the inverse of the place.
-use mathlib.Core.Path.{◌≡◌, ap, ◌∙◌}
+use mathlib.Core.Path.{◌≡◌}
 use mathlib.Core.List.{List}
-use Prim.Native.Nat.{ℕ, ◌+◌, ◌*◌, ◌-◌, ◌≤◌, ◌<◌}
-use native.Mathlib.Omega.{arith}
-use borrow.Author.Rules.{rules}
-use lib.ListN.{length, get_or, set, length-set}
-use Rattle.field.specs.Inverse.{inverse_of}
+use Prim.Native.Nat.{ℕ, ◌+◌, ◌*◌, ◌-◌, ◌≤◌}
 use Rattle.field.specs.Column.{invert_column}
 use Rattle.field.specs.ways.KeptInverses.{KeptInverses}
-use Rattle.field.proofs.Columns.{column-length, column-outside, column-none, column-more, column-here, column-past}
-use Rattle.field.proofs.KeptLaws.{kept-none}
 use Rattle.field.proofs.inverse.invert_column.Given as goal
 
 pub record Held (l : List ℕ) (n w c : ℕ) (m : List ℕ) (r k : ℕ) : Type 0 where

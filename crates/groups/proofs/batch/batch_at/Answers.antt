@@ -1,6 +1,5 @@
 -- `batch::batch_at` meets its contract.
 use borrow.Author.Tests.{not-true, not-false}
-use borrow.Author.Rules.{rules}
 use Rattle.groups.specs.Batches.{batch_at}
 use Rattle.groups.proofs.batch.batch_at.Goals as goal
 

@@ -1,6 +1,5 @@
 -- `batch::is_batch` meets its contract.
 use borrow.Author.Tests.{le-ltb, lt-ltb}
-use borrow.Author.Rules.{rules}
 use Rattle.groups.specs.Batches.{is_batch}
 use Rattle.groups.proofs.batch.is_batch.Goals as goal
 

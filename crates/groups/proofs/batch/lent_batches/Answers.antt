@@ -1,7 +1,6 @@
 -- `batch::lent_batches` meets its contract.
 use native.Mathlib.Omega.{arith}
 use borrow.Author.Tests.{le-leb, lt-leb}
-use borrow.Author.Rules.{rules}
 use Rattle.groups.specs.Batches.{lent_batches}
 use Rattle.groups.proofs.batch.lent_batches.Goals as goal
 

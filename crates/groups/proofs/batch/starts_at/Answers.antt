@@ -1,5 +1,4 @@
 -- `batch::starts_at` meets its contract.
-use borrow.Author.Rules.{rules}
 use Rattle.groups.specs.Batches.{starts_at}
 use Rattle.groups.proofs.batch.starts_at.Goals as goal
 

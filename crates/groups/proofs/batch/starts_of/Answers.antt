@@ -1,5 +1,4 @@
 -- `batch::starts_of` meets its contract.
-use borrow.Author.Rules.{rules}
 use Rattle.groups.proofs.batch.starts_of.Goals as goal
 
 pub returns : goal.returns

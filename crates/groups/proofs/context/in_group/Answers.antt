@@ -1,9 +1,5 @@
 -- `context::in_group` meets its contract.
-use mathlib.Core.Path.{◌≡◌}
-use Prim.Native.Nat.{◌+◌}
 use borrow.Author.Tests.{lt-ltb, le-ltb}
-use borrow.Author.Rules.{rules}
-use Rattle.groups.specs.Contexts.{consumed}
 use Rattle.groups.specs.ways.ContextsByCount.{context_in}
 use Rattle.groups.proofs.Contexts.{counts-first, consumed-is}
 use Rattle.groups.proofs.context.in_group.Goals as goal

@@ -1,10 +1,7 @@
 -- `group::falls` meets its contract. The loop's invariant: no start up to start k falls.
-use mathlib.Core.Path.{◌≡◌, sym, ◌∙◌}
-use Prim.Native.Nat.{◌-◌, ◌≤◌}
+use mathlib.Core.Path.{sym, ◌∙◌}
 use borrow.Author.Rules.{rules}
 use borrow.Author.Tests.{lt-ltb, le-ltb}
-use lib.ListN.{drop}
-use Rattle.groups.specs.GroupOfOperation.{falling}
 use Rattle.groups.proofs.Starts.{falling-turn, falling-last}
 use Rattle.groups.proofs.group.falls.Goals as goal
 

@@ -1,11 +1,10 @@
 -- `group::op_idx_in_batch_to_group` meets its contract. The loop's invariant: what is looked for is not before group `group`.
-use mathlib.Core.Path.{◌≡◌, sym, ap, ◌∙◌}
-use mathlib.Core.Logic.{⊎_elim}
-use Prim.Native.Nat.{ℕ, ◌-◌, ◌≤◌}
+use mathlib.Core.Path.{sym, ap, ◌∙◌}
+use Prim.Native.Nat.{ℕ, ◌-◌}
 use borrow.Author.Rules.{rules}
 use borrow.Author.Tests.{lt-ltb, le-ltb, lt-leb, le-leb}
-use lib.ListN.{get_or, drop}
-use Rattle.groups.specs.GroupOfOperation.{place_in, group_of, group_from}
+use lib.ListN.{get_or}
+use Rattle.groups.specs.GroupOfOperation.{place_in, group_of}
 use Rattle.groups.proofs.Starts.{group-turn, group-last}
 use Rattle.groups.proofs.group.op_idx_in_batch_to_group.Goals as goal
 use Rattle.groups.proofs.group.op_idx_in_batch_to_group.Goals.{then-start-op+else-op-next, else-start-op}

@@ -1,7 +1,5 @@
 -- `limbs` meets its contract.
 use mathlib.Core.Path.{sym, ◌∙◌}
-use borrow.Author.Rules.{rules}
-use borrow.Author.Tests.{not-true, not-false}
 use Rattle.groups.specs.Helpers.{all_below}
 use Rattle.groups.specs.ways.Families.{found_of}
 use Rattle.groups.proofs.helpers.limbs.Goals as goal

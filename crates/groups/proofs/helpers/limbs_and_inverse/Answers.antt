@@ -1,7 +1,5 @@
 -- `limbs_and_inverse` meets its contract.
 use mathlib.Core.Path.{sym, ◌∙◌}
-use borrow.Author.Rules.{rules}
-use borrow.Author.Tests.{not-true, not-false}
 use Rattle.groups.specs.Helpers.{all_below}
 use Rattle.groups.specs.ways.Families.{found_of}
 use Rattle.groups.proofs.helpers.limbs_and_inverse.Goals as goal

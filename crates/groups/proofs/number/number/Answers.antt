@@ -1,6 +1,5 @@
 -- `number::number` meets its contract.
 use mathlib.Core.Path.{sym}
-use borrow.Author.Rules.{rules}
 use lib.ListN.{get_or-eq_default}
 use Rattle.groups.proofs.number.number.Goals as goal
 

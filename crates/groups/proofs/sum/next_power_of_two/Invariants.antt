@@ -1,9 +1,7 @@
 -- `sum::next_power_of_two` meets its contract. The loop's invariant: what is left to do is to double `power` on.
-use mathlib.Core.Path.{◌≡◌, sym, ◌∙◌}
+use mathlib.Core.Path.{◌≡◌}
 use Prim.Native.Nat.{◌-◌, ◌≤◌}
-use borrow.Author.Rules.{rules}
 use Rattle.groups.specs.GroupsLeft.{round_up, doubled}
-use Rattle.groups.proofs.Sums.{round-start, round-turn, round-last}
 use Rattle.groups.proofs.sum.next_power_of_two.Given as goal
 
 abbrev pub invariant-loop-power : goal.invariant-loop-power

@@ -1,10 +1,8 @@
 -- `sum::push_count` meets its contract. The loop's invariant: `sum` of the k lowest digits are PUSH, and `rest` has the others.
 use mathlib.Core.Path.{◌≡◌}
-use mathlib.Core.Logic.{⊎_elim}
-use Prim.Native.Nat.{◌+◌, ◌-◌, ◌≤◌}
+use Prim.Native.Nat.{◌-◌}
 use native.Mathlib.Omega.{arith}
 use borrow.Author.Rules.{rules}
-use Rattle.groups.specs.GroupsLeft.{pushes}
 use Rattle.groups.proofs.Sums.{pushes-yes, pushes-no, pushes-last}
 use Rattle.groups.proofs.sum.push_count.Goals as goal
 use Rattle.groups.proofs.sum.push_count.Goals.{else-rest-opcode, then-rest-opcode}

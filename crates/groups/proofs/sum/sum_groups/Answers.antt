@@ -1,12 +1,10 @@
 -- `sum::sum_groups` meets its contract. The loop's invariant: `groups` and `above8` are of batches `from` to k, and the rest is to come.
 use mathlib.Core.Path.{◌≡◌, sym, ◌∙◌}
-use mathlib.Core.Bool.{◌||◌}
-use mathlib.Core.Logic.{⊎_elim}
-use Prim.Native.Nat.{◌+◌, ◌-◌, ◌*◌, ◌≤◌}
+use Prim.Native.Nat.{◌+◌, ◌-◌, ◌*◌}
 use native.Mathlib.Omega.{arith}
 use borrow.Author.Rules.{rules}
 use lib.ListN.{get_or}
-use Rattle.groups.specs.GroupsLeft.{counts, sum_groups, any_above8, group_sum, groups_of}
+use Rattle.groups.specs.GroupsLeft.{counts, sum_groups, group_sum, groups_of}
 use Rattle.groups.proofs.Sums.{sum-turn, sum-last, above-turn, below-turn, above-last}
 use Rattle.groups.proofs.sum.sum_groups.Goals as goal
 use Rattle.groups.proofs.sum.sum_groups.Goals.{else-count-gt8, then-count-gt8}

@@ -1,5 +1,4 @@
 -- `word::read_word` meets its contract.
-use borrow.Author.Rules.{rules}
 use Rattle.groups.proofs.word.read_word.Goals as goal
 
 pub returns : goal.returns

@@ -1,7 +1,6 @@
 -- `word::word_at` meets its contract.
 use Prim.Native.Nat.{◌+◌}
 use native.Mathlib.Omega.{arith}
-use borrow.Author.Rules.{rules}
 use Rattle.field.proofs.CellLaws.{cell-past}
 use Rattle.groups.specs.Words.{word_at}
 use Rattle.groups.proofs.word.word_at.Goals as goal

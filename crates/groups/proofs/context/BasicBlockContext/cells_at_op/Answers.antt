@@ -1,6 +1,5 @@
 -- `BasicBlockContext::cells_at_op` meets its contract.
 use borrow.Author.Tests.{not-true, not-false}
-use borrow.Author.Rules.{rules}
 use Rattle.groups.specs.Batches.{batch_at}
 use Rattle.groups.specs.Contexts.{context_at_op, cells_at_op}
 use Rattle.groups.proofs.Contexts.{in-batch, in-group-is}

@@ -1,5 +1,4 @@
 -- `BasicBlockContext::new_at_batch_start` meets its contract.
-use borrow.Author.Rules.{rules}
 use Rattle.groups.specs.Contexts.{context_at_batch_start, too_large}
 use Rattle.groups.proofs.context.BasicBlockContext.new_at_batch_start.Goals as goal
 

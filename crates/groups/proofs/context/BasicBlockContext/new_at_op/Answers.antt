@@ -1,5 +1,4 @@
 -- `BasicBlockContext::new_at_op` meets its contract.
-use borrow.Author.Rules.{rules}
 use Rattle.groups.specs.Contexts.{context_at_op}
 use Rattle.groups.proofs.Contexts.{in-batch, in-group-is}
 use Rattle.groups.proofs.context.BasicBlockContext.new_at_op.Goals as goal

@@ -1,5 +1,4 @@
 -- `Family::helpers` meets its contract: each arm by the constructor that it knows.
-use borrow.Author.Rules.{rules}
 use Rattle.groups.specs.ways.Families.{found_of}
 use Rattle.groups.proofs.helpers.Family.helpers.Goals as goal
 

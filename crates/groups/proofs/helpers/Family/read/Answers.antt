@@ -1,5 +1,4 @@
 -- `Family::read` meets its contract: each arm by the constructor that it knows.
-use borrow.Author.Rules.{rules}
 use Rattle.groups.proofs.helpers.Family.read.Goals as goal
 
 pub returns-in-Cells : goal.returns-in-Cells

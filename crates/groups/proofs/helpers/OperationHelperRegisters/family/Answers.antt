@@ -1,5 +1,4 @@
 -- `OperationHelperRegisters::family` meets its contract: each arm by the constructor that it knows.
-use borrow.Author.Rules.{rules}
 use Rattle.groups.proofs.helpers.OperationHelperRegisters.family.Goals as goal
 
 pub returns-in-Eq : goal.returns-in-Eq

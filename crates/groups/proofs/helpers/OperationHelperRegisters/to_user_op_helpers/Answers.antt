@@ -1,5 +1,4 @@
 -- `OperationHelperRegisters::to_user_op_helpers` meets its contract.
-use borrow.Author.Rules.{rules}
 use mathlib.Core.Path.{ap, ◌∙◌}
 use Rattle.groups.specs.Helpers.{helpers_answer}
 use Rattle.groups.specs.ways.Families.{read_family, found_of}

@@ -3,7 +3,6 @@ use mathlib.Core.Path.{◌≡◌}
 use mathlib.Core.Bool.{Bool, false, ◌||◌}
 use Prim.Native.Nat.{ℕ, ◌/◌, ◌<◌}
 use lib.Dec.{leb}
-use borrow.Author.Rules.{rules}
 use borrow.Author.Tests.{eq-eqb, ne_eqb, lt-ltb, le-ltb, le-leb, lt-leb}
 use Rattle.rows.specs.records.Cells.{fragment_wrong}
 use Rattle.rows.specs.cycles.Cycles.{cycle_with}
@@ -40,7 +39,7 @@ returns-then-stack-lt16 c = record { result_value = rw (eq-eqb _ _ c.if-tracer-n
 
 pub returns-in_default-made : goal.returns-in_default-made
 unfolding cycle_with
-returns-in_default-made c = (rw (eq-eqb _ _ c.if-tracer-ne0.false, c.in-Is.is, c.if-scan.false, c.if-scan-2.false, ← c.fragment_wrong.ensures, c.if-scan-fragment_wrong.false, le-ltb _ _ c.if-stack-lt16.false, ← c.make-made.ensures, c.in_default-made.is), rw c.in_default-made.is (tt, tt))
+returns-in_default-made c = record { result_value = rw (eq-eqb _ _ c.if-tracer-ne0.false, c.in-Is.is, c.if-scan.false, c.if-scan-2.false, ← c.fragment_wrong.ensures, c.if-scan-fragment_wrong.false, le-ltb _ _ c.if-stack-lt16.false, ← c.make-made.ensures, c.in_default-made.is); has_room = rw c.in_default-made.is tt; in_limits = rw c.in_default-made.is tt }
 
 pub returns-then-cells-tracer : goal.returns-then-cells-tracer
 unfolding cycle_with

@@ -1,5 +1,4 @@
 -- `cycle::cycle_with` meets its contract: the checks, and what they leave.
-use borrow.Author.Rules.{rules}
 use Rattle.rows.proofs.cycles.cycle.cycle_with.Goals as goal
 
 pub returns : goal.returns

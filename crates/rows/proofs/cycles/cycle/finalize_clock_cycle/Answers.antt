@@ -1,5 +1,4 @@
 -- `cycle::finalize_clock_cycle` meets its contract: a scan, the checks, the tally, and what they leave.
-use borrow.Author.Rules.{rules}
 use Rattle.rows.specs.cycles.LentTally.{tallied_cycle}
 use Rattle.rows.proofs.cycles.Tallying.{room-kept, countable}
 use Rattle.rows.proofs.cycles.cycle.finalize_clock_cycle.Goals as goal

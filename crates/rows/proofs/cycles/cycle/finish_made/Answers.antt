@@ -1,5 +1,4 @@
 -- `cycle::finish_made` meets its contract: the row that is made is put, and the tracer moves on; a refusal is kept.
-use borrow.Author.Rules.{rules}
 use Rattle.rows.specs.cycles.Cycles.{tracer_after, fragment_after}
 use Rattle.rows.proofs.cycles.Picks.{pick_same}
 use Rattle.rows.proofs.records.Rooms.{row_next}
@@ -13,7 +12,7 @@ pub put_row-requires : goal.put_row-requires
 put_row-requires c = rw c.in-Row.is at c.requires
 
 pub moved-requires : goal.moved-requires
-moved-requires c = row_next _ _ (rw c.in-Row.is at c.requires) c.well-formed.1.1.1.1.1.0.0
+moved-requires c = row_next _ _ (rw c.in-Row.is at c.requires) c.well_formed.1.1.1.1.1.0.0
 
 pub returns : goal.returns
 unfolding fragment_after tracer_after

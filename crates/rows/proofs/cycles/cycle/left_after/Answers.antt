@@ -1,5 +1,4 @@
 -- `cycle::left_after` meets its contract.
-use borrow.Author.Rules.{rules}
 use Rattle.rows.specs.cycles.Cycles.{left_after}
 use Rattle.rows.proofs.cycles.cycle.left_after.Goals as goal
 

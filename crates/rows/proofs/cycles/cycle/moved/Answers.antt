@@ -1,5 +1,4 @@
 -- `cycle::moved` meets its contract.
-use borrow.Author.Rules.{rules}
 use Rattle.rows.specs.cycles.Cycles.{tracer_after}
 use Rattle.rows.proofs.cycles.cycle.moved.Goals as goal
 

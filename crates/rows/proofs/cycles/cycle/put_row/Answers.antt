@@ -1,6 +1,5 @@
 -- `cycle::put_row` meets its contract.
 use mathlib.Core.Path.{◌∙◌}
-use borrow.Author.Rules.{rules}
 use Rattle.rows.proofs.records.Rooms.{row_within}
 use Rattle.rows.proofs.cycles.cycle.put_row.Goals as goal
 

@@ -1,5 +1,4 @@
 -- `made::block_kind` meets its contract.
-use borrow.Author.Rules.{rules}
 use Rattle.rows.specs.cycles.Made.{block_kind}
 use Rattle.rows.proofs.cycles.made.block_kind.Goals as goal
 

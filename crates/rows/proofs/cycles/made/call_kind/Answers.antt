@@ -1,5 +1,4 @@
 -- `made::call_kind` meets its contract.
-use borrow.Author.Rules.{rules}
 use Rattle.rows.specs.cycles.Made.{call_kind}
 use Rattle.rows.proofs.cycles.made.call_kind.Goals as goal
 

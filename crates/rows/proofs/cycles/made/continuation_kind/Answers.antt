@@ -1,5 +1,4 @@
 -- `made::continuation_kind` meets its contract: each arm by the constructor that it knows.
-use borrow.Author.Rules.{rules}
 use Rattle.rows.proofs.cycles.made.continuation_kind.Goals as goal
 
 pub returns-in-StartNode : goal.returns-in-StartNode

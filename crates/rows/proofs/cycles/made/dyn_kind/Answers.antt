@@ -1,5 +1,4 @@
 -- `made::dyn_kind` meets its contract.
-use borrow.Author.Rules.{rules}
 use Rattle.rows.specs.cycles.Made.{dyn_kind}
 use Rattle.rows.proofs.cycles.made.dyn_kind.Goals as goal
 

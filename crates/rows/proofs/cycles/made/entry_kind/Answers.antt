@@ -1,5 +1,4 @@
 -- `made::entry_kind` meets its contract.
-use borrow.Author.Rules.{rules}
 use Rattle.rows.specs.cycles.Made.{entry_kind}
 use Rattle.rows.proofs.cycles.made.entry_kind.Goals as goal
 

@@ -1,5 +1,4 @@
 -- `made::finish_loop` meets its contract.
-use borrow.Author.Rules.{rules}
 use Rattle.rows.specs.cycles.Made.{finish_loop}
 use Rattle.rows.proofs.cycles.made.finish_loop.Goals as goal
 

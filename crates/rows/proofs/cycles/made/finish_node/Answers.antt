@@ -1,5 +1,4 @@
 -- `made::finish_node` meets its contract.
-use borrow.Author.Rules.{rules}
 use Rattle.rows.specs.records.DecoderRows.{end_word}
 use Rattle.rows.proofs.cycles.Steps.{end_refused, end_moved}
 use Rattle.rows.specs.cycles.Made.{made_end}

@@ -1,5 +1,4 @@
 -- `made::make` meets its contract.
-use borrow.Author.Rules.{rules}
 use Rattle.rows.proofs.cycles.MadeByKind.{made-by-kind}
 use Rattle.rows.proofs.cycles.made.make.Goals as goal
 

@@ -1,5 +1,4 @@
 -- `made::operation_row` meets its contract.
-use borrow.Author.Rules.{rules}
 use Rattle.rows.proofs.cycles.Steps.{helpers-refused}
 use Rattle.rows.specs.cycles.Made.{operation_made}
 use Rattle.rows.proofs.cycles.made.operation_row.Goals as goal

@@ -1,9 +1,9 @@
 -- `made::repeat_row` meets its contract.
-use borrow.Author.Rules.{rules}
 use mathlib.Core.Path.{◌≡◌, refl}
 use mathlib.Core.List.{List, [], ◌∷◌}
 use Prim.Native.Nat.{ℕ}
 use types.Run.{OneOf, miss}
+use borrow.Enum.Refused.{opened}
 use denote.Enum.Declared.{tag_of}
 use Rattle.groups.specs.Answer.{refused}
 use Rattle.rows.specs.declared.records.forest.MastNode.{MastNode}
@@ -33,7 +33,7 @@ returns-in_default c = rw (← c.node_at.ensures, c.in_default.is)
 
 pub returns-in_default-node : goal.returns-in_default-node
 unfolding made_repeat
-returns-in_default-node c = rw (← c.node_at.ensures, c.in-At.is, not-loop c.in-At.entry.node c.in_default-node.keys2)
+returns-in_default-node c = rw (← c.node_at.ensures, c.in-At.is, not-loop c.in-At.entry.node (opened c.in_default-node.in_default-node-own.keys2))
 
 pub returns-in_default-digest_at : goal.returns-in_default-digest_at
 unfolding body_of made_repeat

@@ -1,5 +1,4 @@
 -- `made::respan` meets its contract.
-use borrow.Author.Rules.{rules}
 use Rattle.rows.specs.cycles.Made.{made_respan}
 use Rattle.rows.proofs.cycles.made.respan.Goals as goal
 

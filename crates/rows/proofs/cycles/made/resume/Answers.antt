@@ -1,5 +1,4 @@
 -- `made::resume` meets its contract.
-use borrow.Author.Rules.{rules}
 use Rattle.rows.specs.cycles.Made.{resumed}
 use Rattle.rows.proofs.cycles.made.resume.Goals as goal
 

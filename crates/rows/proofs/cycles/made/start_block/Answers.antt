@@ -1,5 +1,4 @@
 -- `made::start_block` meets its contract.
-use borrow.Author.Rules.{rules}
 use Rattle.rows.specs.cycles.Made.{start_block}
 use Rattle.rows.proofs.cycles.made.start_block.Goals as goal
 

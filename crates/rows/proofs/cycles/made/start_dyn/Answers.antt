@@ -1,5 +1,4 @@
 -- `made::start_dyn` meets its contract.
-use borrow.Author.Rules.{rules}
 use Rattle.rows.specs.cycles.Made.{start_dyn}
 use Rattle.rows.proofs.cycles.made.start_dyn.Goals as goal
 

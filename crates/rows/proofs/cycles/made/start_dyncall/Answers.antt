@@ -1,5 +1,4 @@
 -- `made::start_dyncall` meets its contract.
-use borrow.Author.Rules.{rules}
 use Rattle.rows.specs.cycles.Made.{start_dyncall}
 use Rattle.rows.proofs.cycles.made.start_dyncall.Goals as goal
 

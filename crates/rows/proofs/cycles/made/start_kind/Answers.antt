@@ -1,5 +1,4 @@
 -- `made::start_kind` meets its contract.
-use borrow.Author.Rules.{rules}
 use Rattle.rows.specs.cycles.Made.{start_kind}
 use Rattle.rows.proofs.cycles.made.start_kind.Goals as goal
 

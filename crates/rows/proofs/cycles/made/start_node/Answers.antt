@@ -1,5 +1,4 @@
 -- `made::start_node` meets its contract.
-use borrow.Author.Rules.{rules}
 use Rattle.rows.proofs.cycles.Steps.{start-refused, start-moved}
 use Rattle.rows.specs.cycles.Made.{start_node}
 use Rattle.rows.proofs.cycles.made.start_node.Goals as goal

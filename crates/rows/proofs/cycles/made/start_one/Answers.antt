@@ -1,5 +1,4 @@
 -- `made::start_one` meets its contract.
-use borrow.Author.Rules.{rules}
 use Rattle.rows.specs.cycles.Made.{start_one}
 use Rattle.rows.proofs.cycles.made.start_one.Goals as goal
 

@@ -1,5 +1,4 @@
 -- `made::start_two` meets its contract.
-use borrow.Author.Rules.{rules}
 use Rattle.rows.specs.cycles.Made.{start_two}
 use Rattle.rows.proofs.cycles.made.start_two.Goals as goal
 

@@ -1,9 +1,6 @@
 -- `scan::any_large_batch` meets its contract. The loop's invariant: what is found is so of the first k.
-use mathlib.Core.Path.{◌≡◌, refl}
+use mathlib.Core.Path.{◌≡◌}
 use Prim.Native.Nat.{◌-◌, ◌≤◌}
-use native.Mathlib.Numerals.{add-one}
-use native.Mathlib.Omega.{arith}
-use borrow.Author.Rules.{rules}
 use Rattle.rows.specs.cycles.Scans.{any_large_batch}
 use Rattle.rows.proofs.cycles.scan.any_large_batch.Given as goal
 

@@ -1,6 +1,5 @@
 -- `scan::any_long_block` meets its contract. The loop's invariant: what is found is so of the first k.
 use mathlib.Core.Path.{◌≡◌, refl}
-use Prim.Native.Nat.{◌-◌, ◌≤◌}
 use native.Mathlib.Numerals.{add-one}
 use native.Mathlib.Omega.{arith}
 use borrow.Author.Rules.{rules}

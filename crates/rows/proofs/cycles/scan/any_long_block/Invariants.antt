@@ -1,9 +1,6 @@
 -- `scan::any_long_block` meets its contract. The loop's invariant: what is found is so of the first k.
-use mathlib.Core.Path.{◌≡◌, refl}
+use mathlib.Core.Path.{◌≡◌}
 use Prim.Native.Nat.{◌-◌, ◌≤◌}
-use native.Mathlib.Numerals.{add-one}
-use native.Mathlib.Omega.{arith}
-use borrow.Author.Rules.{rules}
 use Rattle.rows.specs.cycles.Scans.{any_long_block}
 use Rattle.rows.proofs.cycles.scan.any_long_block.Given as goal
 

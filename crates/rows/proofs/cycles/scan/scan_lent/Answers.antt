@@ -1,5 +1,4 @@
 -- `scan::scan_lent` meets its contract.
-use borrow.Author.Rules.{rules}
 use Rattle.rows.specs.cycles.Scans.{any_big_opcode, forest_too_large, scan_of}
 use Rattle.rows.proofs.cycles.scan.scan_lent.Goals as goal
 

@@ -1,5 +1,4 @@
 -- `tally::cannot_count` meets its contract.
-use borrow.Author.Rules.{rules}
 use Rattle.rows.specs.cycles.LentTally.{cannot_count}
 use Rattle.rows.proofs.cycles.tally.cannot_count.Goals as goal
 

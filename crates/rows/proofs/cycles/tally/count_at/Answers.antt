@@ -1,6 +1,5 @@
 -- `tally::count_at` meets its contract: a free place is taken, another counts one more.
 use native.Mathlib.Omega.{arith}
-use borrow.Author.Rules.{rules}
 use lib.ListN.{length-set}
 use Rattle.rows.specs.cycles.LentTally.{counted_at}
 use Rattle.rows.proofs.cycles.tally.count_at.Goals as goal

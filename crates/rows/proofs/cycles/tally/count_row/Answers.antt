@@ -1,7 +1,5 @@
 -- `tally::count_row` meets its contract.
 use mathlib.Core.Path.{sym, ◌∙◌}
-use borrow.Author.Rules.{rules}
-use borrow.Author.Tests.{not-true, not-false}
 use Rattle.rows.proofs.cycles.Tallying.{place-left, was-refused, nothing-counted, place-missing, counted-there}
 use Rattle.rows.proofs.cycles.tally.count_row.Goals as goal
 

@@ -1,6 +1,5 @@
 -- `tally::counts_next` meets its contract.
 use mathlib.Core.Path.{sym, ◌∙◌}
-use borrow.Author.Rules.{rules}
 use Rattle.rows.specs.cycles.LentTally.{counts_next}
 use Rattle.rows.proofs.cycles.Tallying.{counts-after}
 use Rattle.rows.proofs.cycles.tally.counts_next.Goals as goal

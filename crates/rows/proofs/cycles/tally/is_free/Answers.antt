@@ -1,5 +1,4 @@
 -- `tally::is_free` meets its contract.
-use borrow.Author.Rules.{rules}
 use Rattle.rows.specs.cycles.LentTally.{is_free}
 use Rattle.rows.proofs.cycles.tally.is_free.Goals as goal
 

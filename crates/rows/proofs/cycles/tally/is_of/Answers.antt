@@ -1,5 +1,4 @@
 -- `tally::is_of` meets its contract.
-use borrow.Author.Rules.{rules}
 use Rattle.rows.specs.cycles.LentTally.{is_of}
 use Rattle.rows.proofs.cycles.tally.is_of.Goals as goal
 

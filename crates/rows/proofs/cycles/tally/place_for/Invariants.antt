@@ -1,14 +1,9 @@
 -- `tally::place_for` meets its contract. The loop's invariant: no place before is in use with the address, and `free` is the first free one of them.
-use mathlib.Core.Path.{◌≡◌, refl, sym, ◌∙◌}
-use Prim.Native.Nat.{◌-◌, ◌≤◌, ◌<◌}
-use native.Mathlib.Omega.{arith}
-use borrow.Author.Tests.{eqb-true}
-use Rattle.groups.proofs.OneGroup.{both}
-use lib.Dec.{ltb, eqb}
+use mathlib.Core.Path.{◌≡◌}
+use Prim.Native.Nat.{◌-◌, ◌≤◌}
+use lib.Dec.{ltb}
 use Rattle.groups.specs.Answer.{pick}
 use Rattle.rows.specs.cycles.LentTally.{is_free, is_of, first_from, first}
-use Rattle.rows.proofs.cycles.FirstPlaces.{first-behind, found-behind, first-here, first-later, found_here, found-later}
-use Rattle.rows.proofs.cycles.Tallying.{place-in-use, place-free}
 use Rattle.rows.proofs.cycles.tally.place_for.Given as goal
 
 abbrev pub invariant-loop-place : goal.invariant-loop-place

@@ -1,5 +1,4 @@
 -- `finish::height_wrong` meets its contract.
-use borrow.Author.Rules.{rules}
 use Rattle.rows.specs.passes.Passes.{height_wrong}
 use Rattle.rows.proofs.passes.finish.height_wrong.Goals as goal
 

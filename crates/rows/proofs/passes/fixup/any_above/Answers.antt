@@ -1,10 +1,7 @@
 -- `fixup::any_above` meets its contract.
-use mathlib.Core.Path.{◌≡◌, refl}
-use mathlib.Core.Bool.{◌||◌}
-use Prim.Native.Nat.{◌-◌}
+use mathlib.Core.Path.{refl}
 use borrow.Author.Rules.{rules}
 use lib.Dec.{ltb}
-use lib.ListN.{length, drop}
 use Rattle.rows.specs.passes.Passes.{any_above}
 use Rattle.field.proofs.AnyFrom.{gather-turn, gather-last}
 use Rattle.rows.proofs.passes.fixup.any_above.Goals as goal

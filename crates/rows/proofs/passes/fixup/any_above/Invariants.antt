@@ -1,12 +1,9 @@
 -- `fixup::any_above` meets its contract.
-use mathlib.Core.Path.{◌≡◌, refl}
+use mathlib.Core.Path.{◌≡◌}
 use mathlib.Core.Bool.{◌||◌}
 use Prim.Native.Nat.{◌-◌}
-use borrow.Author.Rules.{rules}
-use lib.Dec.{ltb}
 use lib.ListN.{length, drop}
 use Rattle.rows.specs.passes.Passes.{any_above}
-use Rattle.field.proofs.AnyFrom.{gather-turn, gather-last}
 use Rattle.rows.proofs.passes.fixup.any_above.Given as goal
 
 abbrev pub invariant-loop-i : goal.invariant-loop-i

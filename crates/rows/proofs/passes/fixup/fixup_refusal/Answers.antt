@@ -1,5 +1,4 @@
 -- `fixup::fixup_refusal` meets its contract: each way out by the tests before it.
-use borrow.Author.Rules.{rules}
 use Rattle.rows.specs.passes.Passes.{refusal1}
 use Rattle.groups.specs.Answer.{first_of}
 use Rattle.rows.proofs.passes.fixup.fixup_refusal.Goals as goal

@@ -1,7 +1,6 @@
 -- `fixup::fixup_rows` meets its contract.
 use Prim.Native.Nat.{◌-◌}
 use native.Mathlib.Omega.{arith}
-use borrow.Author.Rules.{rules}
 use lib.ListN.{length}
 use Rattle.rows.specs.passes.Passes.{built_of, sum_of}
 use Rattle.rows.proofs.passes.Counts.{fits}

@@ -1,5 +1,4 @@
 -- `fixup::fragments_wrong` meets its contract.
-use borrow.Author.Rules.{rules}
 use Rattle.rows.proofs.passes.Counts.{fragments-test}
 use Rattle.rows.proofs.passes.fixup.fragments_wrong.Goals as goal
 

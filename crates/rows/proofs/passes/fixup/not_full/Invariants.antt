@@ -1,14 +1,9 @@
 -- `fixup::not_full` meets its contract.
-use mathlib.Core.Path.{◌≡◌, refl, sym}
+use mathlib.Core.Path.{◌≡◌}
 use mathlib.Core.Bool.{◌||◌}
-use Prim.Native.Nat.{suc, ◌+◌, ◌-◌, ◌≤◌}
-use native.Mathlib.Omega.{arith}
-use borrow.Author.Rules.{rules}
-use lib.Dec.{ltb}
-use lib.ListN.{length, get_or, drop, length-drop}
+use Prim.Native.Nat.{◌+◌, ◌-◌, ◌≤◌}
+use lib.ListN.{length, drop}
 use Rattle.rows.specs.passes.Passes.{not_full}
-use Rattle.rows.proofs.passes.Counts.{full-none, full-cons, full-last}
-use Rattle.field.proofs.AnyFrom.{gather-turn}
 use Rattle.rows.proofs.passes.fixup.not_full.Given as goal
 
 abbrev pub invariant-loop-i : goal.invariant-loop-i

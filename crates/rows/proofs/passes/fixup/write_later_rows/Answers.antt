@@ -1,12 +1,11 @@
 -- `fixup::write_later_rows` meets its contract. The loop's invariant: the first rows of the fragments up to k are written.
 use mathlib.Core.Path.{◌≡◌, refl}
-use Prim.Native.Nat.{ℕ, ◌+◌, ◌-◌, ◌*◌, ◌≤◌, ◌<◌}
+use Prim.Native.Nat.{ℕ, ◌+◌, ◌-◌, ◌*◌, ◌<◌}
 use native.Mathlib.Nat.{mul-le-mul_right}
 use native.Mathlib.Omega.{arith}
 use borrow.Author.Rules.{rules}
 use lib.ListN.{length, length-take, length-drop}
-use Rattle.rows.specs.records.Buffers.{on_rows}
-use Rattle.rows.specs.passes.Passes.{later_rows, built_of, sum_of}
+use Rattle.rows.specs.passes.Passes.{sum_of}
 use Rattle.rows.proofs.passes.FirstRows.{later-start, later-turn}
 use Rattle.rows.proofs.passes.fixup.write_later_rows.Goals as goal
 

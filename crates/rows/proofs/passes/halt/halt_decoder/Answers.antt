@@ -1,5 +1,4 @@
 -- `halt::halt_decoder` meets its contract.
-use borrow.Author.Rules.{rules}
 use Rattle.rows.proofs.passes.halt.halt_decoder.Goals as goal
 
 pub returns : goal.returns

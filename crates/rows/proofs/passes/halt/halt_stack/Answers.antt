@@ -1,12 +1,9 @@
 -- `halt::halt_stack` meets its contract.
 use mathlib.Core.Path.{◌∙◌, ap}
-use mathlib.Core.List.{List}
 use Prim.Native.Nat.{ℕ, ◌-◌}
 use native.Mathlib.Omega.{arith}
-use borrow.Author.Rules.{rules}
 use lib.ListN.{length, drop}
 use lib.Seq.{take-take}
-use Rattle.rows.specs.declared.records.state.StackCols.{StackCols}
 use Rattle.rows.specs.records.Built.{stack_cells}
 use Rattle.rows.proofs.passes.HaltRows.{halt-stack}
 use Rattle.rows.proofs.passes.halt.halt_stack.Goals as goal

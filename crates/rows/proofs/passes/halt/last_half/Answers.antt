@@ -1,7 +1,6 @@
 -- `halt::last_half` meets its contract.
 use mathlib.Core.Path.{◌∙◌, sym}
 use native.Mathlib.Omega.{arith}
-use borrow.Author.Rules.{rules}
 use Rattle.rows.specs.records.Buffers.{rows_of, last_row}
 use Rattle.rows.proofs.passes.HaltRows.{last-half}
 use Rattle.rows.proofs.passes.halt.last_half.Goals as goal

@@ -6,13 +6,10 @@ use native.Mathlib.Omega.{arith}
 use borrow.Author.Rules.{rules}
 use lib.ListN.{length, take, drop}
 use lib.Seq.{take-take}
-use Rattle.rows.specs.declared.records.profile.Profile.{Profile}
-use Rattle.rows.specs.records.DecoderRows.{zero_word, control_flow}
 use Rattle.rows.specs.records.Built.{stack_cells}
-use Rattle.rows.specs.records.Buffers.{rows_of, on_rows, last_row}
+use Rattle.rows.specs.records.Buffers.{rows_of, last_row}
 use Rattle.rows.specs.records.Cells.{row_cells}
 use Rattle.rows.proofs.records.Rooms.{row_fits}
-use Rattle.rows.specs.passes.Passes.{first_half, padded}
 use Rattle.rows.proofs.passes.RowLists.{length-put}
 use Rattle.rows.proofs.passes.HaltRows.{last-stack, length-row, padding-row, padded-none, put-padding}
 use Rattle.rows.proofs.passes.halt.pad.Goals as goal

@@ -1,5 +1,4 @@
 -- `halt::padding_refusal` meets its contract.
-use borrow.Author.Rules.{rules}
 use Rattle.rows.specs.passes.Passes.{refusal5}
 use Rattle.groups.specs.Answer.{first_of}
 use Rattle.rows.proofs.passes.halt.padding_refusal.Goals as goal

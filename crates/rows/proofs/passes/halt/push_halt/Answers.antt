@@ -1,9 +1,6 @@
 -- `halt::push_halt` meets its contract.
 use mathlib.Core.Path.{◌∙◌}
-use mathlib.Core.List.{List}
-use Prim.Native.Nat.{ℕ}
 use native.Mathlib.Omega.{arith}
-use borrow.Author.Rules.{rules}
 use Rattle.rows.proofs.records.Rooms.{row_fits}
 use Rattle.rows.specs.records.Buffers.{rows_of, last_row}
 use Rattle.rows.proofs.passes.HaltRows.{halt-row, put-halt}

@@ -1,6 +1,5 @@
 -- `halt::stack_of` meets its contract.
 use native.Mathlib.Omega.{arith}
-use borrow.Author.Rules.{rules}
 use Rattle.rows.specs.records.Built.{stack_cells}
 use Rattle.rows.proofs.records.Windows.{read_take}
 use Rattle.rows.proofs.passes.halt.stack_of.Goals as goal

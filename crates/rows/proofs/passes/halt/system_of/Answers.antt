@@ -1,6 +1,5 @@
 -- `halt::system_of` meets its contract.
 use native.Mathlib.Omega.{arith}
-use borrow.Author.Rules.{rules}
 use Rattle.rows.specs.records.Built.{system_cells}
 use Rattle.rows.proofs.records.Windows.{read_take}
 use Rattle.rows.proofs.passes.halt.system_of.Goals as goal

@@ -1,5 +1,4 @@
 -- `helper_column::helper_refusal` meets its contract.
-use borrow.Author.Rules.{rules}
 use Rattle.rows.specs.passes.Passes.{refusal3}
 use Rattle.groups.specs.Answer.{first_of}
 use Rattle.rows.proofs.passes.helper_column.helper_refusal.Goals as goal

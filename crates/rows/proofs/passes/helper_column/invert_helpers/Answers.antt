@@ -1,6 +1,5 @@
 -- `helper_column::invert_helpers` meets its contract.
 use mathlib.Core.Path.{◌∙◌}
-use borrow.Author.Rules.{rules}
 use Rattle.rows.proofs.passes.InvertedRows.{inverted-rows}
 use Rattle.rows.proofs.passes.helper_column.invert_helpers.Goals as goal
 

@@ -1,6 +1,5 @@
 -- The address of a row is its cell 6.
 use mathlib.Core.Path.{sym, ◌∙◌}
-use borrow.Author.Rules.{rules}
 use native.Mathlib.Omega.{arith}
 use Rattle.rows.proofs.passes.RowCells.{row_read}
 use Rattle.rows.proofs.passes.multiplicity.addr_at.Goals as goal

@@ -1,10 +1,8 @@
 -- The LOOP rows taken are asked one after another.
 use mathlib.Core.Path.{◌≡◌, refl, sym, ◌∙◌}
-use Prim.Native.Nat.{◌-◌, ◌≤◌}
-use borrow.Author.Rules.{rules}
 use native.Mathlib.Omega.{arith}
 use Rattle.rows.specs.records.Buffers.{buffer_row}
-use Rattle.rows.specs.ways.LoopCounts.{is_loop, ends_in, lacks_from}
+use Rattle.rows.specs.ways.LoopCounts.{is_loop, ends_in}
 use mathlib.Core.Bool.{true}
 use Rattle.rows.proofs.passes.RowsFrom.{lacks-yes, lacks-no, lacks-skip}
 use Rattle.rows.proofs.passes.Keys.{table-count}
@@ -24,7 +22,7 @@ addr_at-requires c = omega arith
 
 pub returns-then-count_of-eq0 : goal.returns-then-count_of-eq0
 returns-then-count_of-eq0 c = let y : is_loop c.args.profile (buffer_row c.loop-i.i c.args.buffer.now) ≡ true = sym c.is_loop.ensures ∙ c.if-is_loop.true in
-    let n = table-count c.args.profile c.args.buffer.now c.args.rows c.args.from c.args.next c.args.keys.now c.args.counts.now c.requires.1 c.loop-i.i (omega arith) (omega arith) y c.addr_at.result c.count_of.result c.addr_at.ensures c.count_of.ensures in
+    let n = table-count c.args.profile c.args.buffer.now c.args.rows c.args.from c.args.next c.args.keys.now c.args.counts.now c.requires.table c.loop-i.i (omega arith) (omega arith) y c.addr_at.result c.count_of.result c.addr_at.ensures c.count_of.ensures in
     sym (sym c.loop-i.invariant.2 ∙ lacks-yes c.args.profile (ends_in c.args.profile c.args.rows c.args.buffer.now) c.args.rows c.loop-i.i c.args.buffer.now (omega arith) y (sym n ∙ c.if-count_of-eq0.true))
 
 pub overflow_add-i-then-is_loop : goal.overflow_add-i-then-is_loop
@@ -35,7 +33,7 @@ loop-i-smaller-then-is_loop c = omega arith
 
 pub loop-i-preserved-then-is_loop : goal.loop-i-preserved-then-is_loop
 loop-i-preserved-then-is_loop c = let y : is_loop c.args.profile (buffer_row c.loop-i.i c.args.buffer.now) ≡ true = sym c.is_loop.ensures ∙ c.if-is_loop.true in
-    let n = table-count c.args.profile c.args.buffer.now c.args.rows c.args.from c.args.next c.args.keys.now c.args.counts.now c.requires.1 c.loop-i.i (omega arith) (omega arith) y c.addr_at.result c.count_of.result c.addr_at.ensures c.count_of.ensures in
+    let n = table-count c.args.profile c.args.buffer.now c.args.rows c.args.from c.args.next c.args.keys.now c.args.counts.now c.requires.table c.loop-i.i (omega arith) (omega arith) y c.addr_at.result c.count_of.result c.addr_at.ensures c.count_of.ensures in
     (omega arith, omega arith, sym (lacks-no c.args.profile (ends_in c.args.profile c.args.rows c.args.buffer.now) c.args.rows c.loop-i.i c.args.buffer.now (omega arith) y (λ z. c.if-count_of-eq0.false (n ∙ z))) ∙ c.loop-i.invariant.2)
 
 pub overflow_add-i-else-is_loop : goal.overflow_add-i-else-is_loop

@@ -1,13 +1,7 @@
 -- The LOOP rows taken are asked one after another.
-use mathlib.Core.Path.{◌≡◌, refl, sym, ◌∙◌}
+use mathlib.Core.Path.{◌≡◌}
 use Prim.Native.Nat.{◌-◌, ◌≤◌}
-use borrow.Author.Rules.{rules}
-use native.Mathlib.Omega.{arith}
-use Rattle.rows.specs.records.Buffers.{buffer_row}
-use Rattle.rows.specs.ways.LoopCounts.{is_loop, ends_in, lacks_from}
-use mathlib.Core.Bool.{true}
-use Rattle.rows.proofs.passes.RowsFrom.{lacks-yes, lacks-no, lacks-skip}
-use Rattle.rows.proofs.passes.Keys.{table-count}
+use Rattle.rows.specs.ways.LoopCounts.{ends_in, lacks_from}
 use Rattle.rows.proofs.passes.multiplicity.any_between.Given as goal
 
 abbrev pub invariant-loop-i : goal.invariant-loop-i

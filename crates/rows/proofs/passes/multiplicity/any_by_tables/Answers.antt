@@ -1,10 +1,10 @@
 -- Chunk by chunk, what is asked from a row on is what is asked of all.
-use mathlib.Core.Path.{◌≡◌, refl, sym, ◌∙◌}
-use Prim.Native.Nat.{ℕ, ◌-◌, ◌≤◌}
+use mathlib.Core.Path.{refl, sym, ◌∙◌}
+use Prim.Native.Nat.{ℕ}
 use native.Mathlib.Omega.{arith}
-use lib.ListN.{length, length-replicate}
+use lib.ListN.{length-replicate}
 use lib.Seq.{length-take-le}
-use Rattle.rows.specs.ways.LoopCounts.{ends_in, lacks_from}
+use Rattle.rows.specs.ways.LoopCounts.{ends_in}
 use Rattle.rows.proofs.passes.RowsFrom.{lacks-first, lacks-last}
 use Rattle.rows.proofs.passes.multiplicity.any_by_tables.Goals as goal
 
@@ -24,25 +24,25 @@ pub slice_bounds-keys-end : goal.slice_bounds-keys-end
 slice_bounds-keys-end c = omega (arith, c.take_loops-taken.ensures.0.few)
 
 pub slice_bounds-count_ends-end : goal.slice_bounds-count_ends-end
-slice_bounds-count_ends-end c = omega (arith, length-take-le c.take_loops-taken.result.count c.take_loops-taken.new.1.1.1.1.0 (omega (arith, c.take_loops-taken.ensures.0.few)))
+slice_bounds-count_ends-end c = omega (arith, length-take-le c.take_loops-taken.result.count c.take_loops-taken.new.keys (omega (arith, c.take_loops-taken.ensures.0.few)))
 
 pub slice_bounds-count_ends-end-in-loop-from : goal.slice_bounds-count_ends-end-in-loop-from
 slice_bounds-count_ends-end-in-loop-from c = length-replicate {A = ℕ} 4096 0
 
 pub count_ends-requires : goal.count_ends-requires
-count_ends-requires c = (omega arith, omega arith, omega (arith, c.take_loops-taken.ensures.0.few, length-take-le c.take_loops-taken.result.count c.take_loops-taken.new.1.1.1.1.0 (omega (arith, c.take_loops-taken.ensures.0.few))), c.take_loops-taken.ensures.1, refl)
+count_ends-requires c = (omega arith, omega arith, omega (arith, c.take_loops-taken.ensures.0.few, length-take-le c.take_loops-taken.result.count c.take_loops-taken.new.keys (omega (arith, c.take_loops-taken.ensures.0.few))), c.take_loops-taken.ensures.1, refl)
 
 pub slice_bounds-keys-end-in-loop-from : goal.slice_bounds-keys-end-in-loop-from
 slice_bounds-keys-end-in-loop-from c = omega (arith, c.take_loops-taken.ensures.0.few)
 
 pub slice_bounds-any_between-end : goal.slice_bounds-any_between-end
-slice_bounds-any_between-end c = omega (arith, length-take-le c.take_loops-taken.result.count c.take_loops-taken.new.1.1.1.1.0 (omega (arith, c.take_loops-taken.ensures.0.few)))
+slice_bounds-any_between-end c = omega (arith, length-take-le c.take_loops-taken.result.count c.take_loops-taken.new.keys (omega (arith, c.take_loops-taken.ensures.0.few)))
 
 pub slice_bounds-any_between-end-in-loop-from : goal.slice_bounds-any_between-end-in-loop-from
 slice_bounds-any_between-end-in-loop-from c = omega (arith, c.count_ends.ensures.0)
 
 pub any_between-requires : goal.any_between-requires
-any_between-requires c = ((omega (arith, c.take_loops-taken.ensures.0.onward), omega (arith, c.take_loops-taken.ensures.0.within), omega arith), record { order = c.take_loops-taken.ensures.1; held = c.take_loops-taken.ensures.0.held; tallied = c.count_ends.ensures.1 })
+any_between-requires c = record { from_le_next = (omega (arith, c.take_loops-taken.ensures.0.onward), omega (arith, c.take_loops-taken.ensures.0.within), omega arith); table = record { order = c.take_loops-taken.ensures.1; held = c.take_loops-taken.ensures.0.held; tallied = c.count_ends.ensures.1 } }
 
 pub returns-then-any_between : goal.returns-then-any_between
 returns-then-any_between c = rw c.if-any_between.true at c.any_between.ensures ∙ c.loop-from.invariant.2 ∙ sym (lacks-first c.args.profile c.args.rows c.args.buffer.now)

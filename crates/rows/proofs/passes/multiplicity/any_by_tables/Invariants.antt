@@ -1,11 +1,8 @@
 -- Chunk by chunk, what is asked from a row on is what is asked of all.
-use mathlib.Core.Path.{◌≡◌, refl, sym, ◌∙◌}
-use Prim.Native.Nat.{ℕ, ◌-◌, ◌≤◌}
-use native.Mathlib.Omega.{arith}
-use lib.ListN.{length, length-replicate}
-use lib.Seq.{length-take-le}
+use mathlib.Core.Path.{◌≡◌}
+use Prim.Native.Nat.{◌-◌, ◌≤◌}
+use lib.ListN.{length}
 use Rattle.rows.specs.ways.LoopCounts.{ends_in, lacks_from}
-use Rattle.rows.proofs.passes.RowsFrom.{lacks-first, lacks-last}
 use Rattle.rows.proofs.passes.multiplicity.any_by_tables.Given as goal
 
 abbrev pub invariant-loop-from : goal.invariant-loop-from

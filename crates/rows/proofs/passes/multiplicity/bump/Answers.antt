@@ -1,5 +1,4 @@
 -- One more for a key: at its place, or nowhere.
-use borrow.Author.Rules.{rules}
 use native.Mathlib.Omega.{arith}
 use Rattle.rows.proofs.passes.Tallies.{bump-there, bump-missing}
 use Rattle.rows.proofs.passes.multiplicity.bump.Goals as goal

@@ -1,9 +1,8 @@
 -- Row by row, a flagged END counts at the address behind it.
 use mathlib.Core.Path.{◌≡◌, sym, ap, ◌∙◌}
-use Prim.Native.Nat.{ℕ, ◌+◌, ◌-◌, ◌≤◌, ◌<◌}
+use Prim.Native.Nat.{ℕ, ◌+◌}
 use native.Mathlib.Omega.{arith}
-use lib.ListN.{length, get_or, length-replicate}
-use Rattle.rows.specs.ways.LoopCounts.{ends_in, Tallied}
+use lib.ListN.{length, length-replicate}
 use Rattle.rows.proofs.passes.Tallies.{zero-at, tally-none, tally-more, tally-skip}
 use Rattle.rows.proofs.passes.multiplicity.count_ends.Goals as goal
 
@@ -32,7 +31,7 @@ pub loop-i-smaller-then-is_flagged_end : goal.loop-i-smaller-then-is_flagged_end
 loop-i-smaller-then-is_flagged_end c = omega arith
 
 pub loop-i-preserved-then-is_flagged_end : goal.loop-i-preserved-then-is_flagged_end
-loop-i-preserved-then-is_flagged_end c = (omega arith, omega arith, (λ p. omega (arith, c.loop-i.invariant.2 p, c.bump.ensures.small p)), tally-more c.args.profile c.args.buffer.now c.loop-i.i c.args.keys.now c.loop-i.counts c.bump.new.1.0 (sym c.is_flagged_end.ensures ∙ c.if-is_flagged_end.true) (rw (← c.addr_at-x.ensures) c.bump.ensures) c.loop-i.invariant.3)
+loop-i-preserved-then-is_flagged_end c = (omega arith, omega arith, (λ p. omega (arith, c.loop-i.invariant.2 p, c.bump.ensures.small p)), tally-more c.args.profile c.args.buffer.now c.loop-i.i c.args.keys.now c.loop-i.counts c.bump.new.counts (sym c.is_flagged_end.ensures ∙ c.if-is_flagged_end.true) (rw (← c.addr_at-x.ensures) c.bump.ensures) c.loop-i.invariant.3)
 
 pub overflow_add-i-else-is_flagged_end : goal.overflow_add-i-else-is_flagged_end
 overflow_add-i-else-is_flagged_end c = omega arith

@@ -1,10 +1,8 @@
 -- Row by row, a flagged END counts at the address behind it.
-use mathlib.Core.Path.{◌≡◌, sym, ap, ◌∙◌}
+use mathlib.Core.Path.{◌≡◌}
 use Prim.Native.Nat.{ℕ, ◌+◌, ◌-◌, ◌≤◌, ◌<◌}
-use native.Mathlib.Omega.{arith}
-use lib.ListN.{length, get_or, length-replicate}
+use lib.ListN.{length, get_or}
 use Rattle.rows.specs.ways.LoopCounts.{ends_in, Tallied}
-use Rattle.rows.proofs.passes.Tallies.{zero-at, tally-none, tally-more, tally-skip}
 use Rattle.rows.proofs.passes.multiplicity.count_ends.Given as goal
 
 abbrev pub invariant-loop-i : goal.invariant-loop-i

@@ -1,6 +1,5 @@
 -- The count at the place of a key.
 use mathlib.Core.Path.{◌∙◌}
-use borrow.Author.Rules.{rules}
 use Rattle.rows.proofs.passes.Tallies.{count-found}
 use Rattle.rows.proofs.passes.multiplicity.count_of.Goals as goal
 

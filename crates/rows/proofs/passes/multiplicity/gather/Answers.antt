@@ -1,9 +1,7 @@
 -- Keys are taken while there are LOOP rows before the last row and room for them.
-use mathlib.Core.Path.{◌≡◌, sym, ◌∙◌}
-use Prim.Native.Nat.{◌+◌, ◌-◌, ◌≤◌, ◌<◌}
+use mathlib.Core.Path.{sym, ◌∙◌}
 use native.Mathlib.Omega.{arith}
-use lib.ListN.{length, take, length-set}
-use Rattle.rows.specs.ways.LoopCounts.{Held}
+use lib.ListN.{take, length-set}
 use Rattle.rows.proofs.passes.Keys.{held-skip, held_more}
 use Rattle.rows.proofs.passes.multiplicity.gather.Goals as goal
 

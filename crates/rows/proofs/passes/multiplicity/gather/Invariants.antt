@@ -1,10 +1,8 @@
 -- Keys are taken while there are LOOP rows before the last row and room for them.
-use mathlib.Core.Path.{◌≡◌, sym, ◌∙◌}
+use mathlib.Core.Path.{◌≡◌}
 use Prim.Native.Nat.{◌+◌, ◌-◌, ◌≤◌, ◌<◌}
-use native.Mathlib.Omega.{arith}
-use lib.ListN.{length, take, length-set}
+use lib.ListN.{length, take}
 use Rattle.rows.specs.ways.LoopCounts.{Held}
-use Rattle.rows.proofs.passes.Keys.{held-skip, held_more}
 use Rattle.rows.proofs.passes.multiplicity.gather.Given as goal
 
 abbrev pub invariant-loop-next : goal.invariant-loop-next

@@ -1,6 +1,5 @@
 -- A flagged END: h4 is exactly 1, and the opcode is that of END.
 use mathlib.Core.Path.{sym, ◌∙◌}
-use borrow.Author.Rules.{rules}
 use Rattle.rows.proofs.passes.RowCells.{flagged-yes, flagged-no}
 use Rattle.rows.proofs.passes.multiplicity.is_flagged_end.Goals as goal
 

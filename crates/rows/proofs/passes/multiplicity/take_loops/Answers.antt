@@ -1,8 +1,7 @@
 -- The keys taken are sorted, for which there is room.
-use borrow.Author.Rules.{rules}
 use native.Mathlib.Omega.{arith}
 use Rattle.rows.proofs.passes.Keys.{took-sorted}
 use Rattle.rows.proofs.passes.multiplicity.take_loops.Goals as goal
 
 pub returns : goal.returns
-returns c = took-sorted c.args.profile c.args.buffer.now c.args.rows c.args.from c.gather-taken.new.1.1.1.1.0 c.sort.new.0 _ _ (omega arith) c.sort.ensures.1 c.gather-taken.ensures
+returns c = took-sorted c.args.profile c.args.buffer.now c.args.rows c.args.from c.gather-taken.new.keys c.sort.new.w _ _ (omega arith) c.sort.ensures.1 c.gather-taken.ensures

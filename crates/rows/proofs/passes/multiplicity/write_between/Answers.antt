@@ -1,11 +1,10 @@
 -- The LOOP rows taken get their counts one after another.
 use mathlib.Core.Path.{◌≡◌, refl, sym, ◌∙◌}
-use Prim.Native.Nat.{◌+◌, ◌-◌, ◌≤◌}
-use borrow.Author.Rules.{rules}
+use Prim.Native.Nat.{◌+◌}
 use native.Mathlib.Omega.{arith}
 use mathlib.Core.Bool.{true}
 use Rattle.rows.specs.records.Buffers.{buffer_row}
-use Rattle.rows.specs.ways.LoopCounts.{is_loop, next_addr, ends_in, counted_from, Alike}
+use Rattle.rows.specs.ways.LoopCounts.{is_loop, next_addr, ends_in}
 use Rattle.rows.proofs.passes.RowCells.{alike_refl, alike_set, opcode-alike, cell-alike}
 use Rattle.rows.proofs.passes.Written.{counted-loop, counted_skip}
 use Rattle.rows.proofs.passes.Keys.{table-count}
@@ -45,7 +44,7 @@ pub loop-i-preserved-then-is_loop : goal.loop-i-preserved-then-is_loop
 loop-i-preserved-then-is_loop c = let y : is_loop c.args.profile (buffer_row c.loop-i.i c.loop-i.buffer) ≡ true = sym c.is_loop.ensures ∙ c.if-is_loop.true in
     let y₀ : is_loop c.args.profile (buffer_row c.loop-i.i c.args.buffer.now) ≡ true = rw (← (opcode-alike c.loop-i.buffer c.args.buffer.now c.loop-i.invariant.2 c.loop-i.i)) y in
     let s : next_addr c.loop-i.i c.loop-i.buffer ≡ next_addr c.loop-i.i c.args.buffer.now = cell-alike c.loop-i.buffer c.args.buffer.now c.loop-i.invariant.2 (c.loop-i.i + 1) 6 (omega arith) in
-    let n = table-count c.args.profile c.args.buffer.now c.args.rows c.args.from c.args.next c.args.keys.now c.args.counts.now c.requires.1 c.loop-i.i (omega arith) (omega arith) y₀ c.addr_at.result c.count_of-count.result (c.addr_at.ensures ∙ s) c.count_of-count.ensures in
+    let n = table-count c.args.profile c.args.buffer.now c.args.rows c.args.from c.args.next c.args.keys.now c.args.counts.now c.requires.table c.loop-i.i (omega arith) (omega arith) y₀ c.addr_at.result c.count_of-count.result (c.addr_at.ensures ∙ s) c.count_of-count.ensures in
     (omega arith, omega arith, alike_set c.loop-i.buffer c.args.buffer.now c.loop-i.i c.count_of-count.result c.loop-i.invariant.2, rw (n, ← s) (counted-loop c.args.profile (ends_in c.args.profile c.args.rows c.args.buffer.now) c.args.rows c.loop-i.i c.loop-i.buffer (omega arith) y) ∙ c.loop-i.invariant.3)
 
 pub overflow_add-i-else-is_loop : goal.overflow_add-i-else-is_loop

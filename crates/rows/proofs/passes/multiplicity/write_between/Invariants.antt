@@ -1,14 +1,7 @@
 -- The LOOP rows taken get their counts one after another.
-use mathlib.Core.Path.{◌≡◌, refl, sym, ◌∙◌}
-use Prim.Native.Nat.{◌+◌, ◌-◌, ◌≤◌}
-use borrow.Author.Rules.{rules}
-use native.Mathlib.Omega.{arith}
-use mathlib.Core.Bool.{true}
-use Rattle.rows.specs.records.Buffers.{buffer_row}
-use Rattle.rows.specs.ways.LoopCounts.{is_loop, next_addr, ends_in, counted_from, Alike}
-use Rattle.rows.proofs.passes.RowCells.{alike_refl, alike_set, opcode-alike, cell-alike}
-use Rattle.rows.proofs.passes.Written.{counted-loop, counted_skip}
-use Rattle.rows.proofs.passes.Keys.{table-count}
+use mathlib.Core.Path.{◌≡◌}
+use Prim.Native.Nat.{◌-◌, ◌≤◌}
+use Rattle.rows.specs.ways.LoopCounts.{ends_in, counted_from, Alike}
 use Rattle.rows.proofs.passes.multiplicity.write_between.Given as goal
 
 abbrev pub invariant-loop-i : goal.invariant-loop-i

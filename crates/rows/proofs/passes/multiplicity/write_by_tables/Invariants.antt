@@ -1,12 +1,8 @@
 -- Chunk by chunk, the buffer with the counts from a row on is that of the whole pass.
-use mathlib.Core.Path.{◌≡◌, refl, sym, ◌∙◌}
-use Prim.Native.Nat.{ℕ, ◌-◌, ◌≤◌}
-use native.Mathlib.Omega.{arith}
-use lib.ListN.{length, length-replicate}
-use lib.Seq.{length-take-le}
+use mathlib.Core.Path.{◌≡◌}
+use Prim.Native.Nat.{◌-◌, ◌≤◌}
+use lib.ListN.{length}
 use Rattle.rows.specs.ways.LoopCounts.{ends_in, counted_from, Alike}
-use Rattle.rows.proofs.passes.RowCells.{alike_refl, alike-trans}
-use Rattle.rows.proofs.passes.Written.{counted-first, counted-last, counted-on}
 use Rattle.rows.proofs.passes.multiplicity.write_by_tables.Given as goal
 
 abbrev pub invariant-loop-from : goal.invariant-loop-from

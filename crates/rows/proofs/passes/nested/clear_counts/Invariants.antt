@@ -1,15 +1,9 @@
 -- `nested::clear_counts` meets its contract. The loop's invariant: of the counts that were in the LOOP rows, those from row i on are left.
-use mathlib.Core.Path.{◌≡◌, refl, sym, ◌∙◌}
-use mathlib.Core.Bool.{true, false}
+use mathlib.Core.Path.{◌≡◌}
 use mathlib.Core.List.{List}
 use Prim.Native.Nat.{ℕ, ◌-◌, ◌≤◌}
-use native.Mathlib.Omega.{arith}
-use lib.ListN.{length, length-set}
-use Rattle.rows.specs.records.Buffers.{buffer_row}
-use Rattle.rows.specs.ways.LoopCounts.{is_loop}
+use lib.ListN.{length}
 use Rattle.rows.specs.ways.OpenLoops.{CountsIn}
-use Rattle.rows.proofs.passes.RowCells.{opcode-alike}
-use Rattle.rows.proofs.passes.OpenLoops.{clear_none, clear-one, cleared-all}
 use Rattle.rows.proofs.passes.nested.clear_counts.Given as goal
 
 abbrev pub invariant-loop-i : goal.invariant-loop-i

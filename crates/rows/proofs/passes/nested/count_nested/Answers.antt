@@ -1,7 +1,6 @@
 -- `nested::count_nested` meets its contract.
 use mathlib.Core.Path.{sym}
 use native.Mathlib.Omega.{arith}
-use borrow.Author.Rules.{rules}
 use Rattle.rows.proofs.cycles.PartScans.{never}
 use Rattle.rows.proofs.passes.nested.count_nested.Goals as goal
 

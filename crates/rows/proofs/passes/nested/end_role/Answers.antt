@@ -1,7 +1,6 @@
 -- `nested::end_role` meets its contract.
 use mathlib.Core.Path.{sym, ◌∙◌}
 use native.Mathlib.Omega.{arith}
-use borrow.Author.Rules.{rules}
 use borrow.Author.Tests.{eq-eqb, ne_eqb}
 use Rattle.rows.specs.records.Buffers.{buffer_row, opcode_of}
 use Rattle.rows.specs.ways.OpenLoops.{RoleOf}
@@ -23,3 +22,15 @@ returns-then-addr_at c = (
   omega (arith, c.if-depth-eq0.false),
   sym c.addr_at.ensures ∙ c.if-addr_at.true ∙ c.addr_at-2.ensures,
 )
+
+pub returns-then-profile : goal.returns-then-profile
+unfolding RoleOf
+returns-then-profile c = tt
+
+pub returns-then-depth-eq0 : goal.returns-then-depth-eq0
+unfolding RoleOf
+returns-then-depth-eq0 c = tt
+
+pub returns : goal.returns
+unfolding RoleOf
+returns c = tt

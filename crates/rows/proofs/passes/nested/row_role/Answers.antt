@@ -2,7 +2,6 @@
 use mathlib.Core.Path.{sym, ◌∙◌}
 use Prim.Native.Nat.{◌<◌}
 use native.Mathlib.Omega.{arith}
-use borrow.Author.Rules.{rules}
 use borrow.Author.Tests.{ne_eqb, ltb-true}
 use Rattle.rows.specs.records.Buffers.{buffer_row, opcode_of}
 use Rattle.rows.specs.ways.OpenLoops.{RoleOf}

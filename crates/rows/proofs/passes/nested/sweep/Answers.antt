@@ -3,19 +3,18 @@
 use mathlib.Core.Path.{◌≡◌, refl, sym, ◌∙◌}
 use mathlib.Core.Bool.{true}
 use mathlib.Core.List.{List}
-use Prim.Native.Nat.{ℕ, ◌+◌, ◌*◌, ◌-◌, ◌≤◌, ◌<◌}
+use Prim.Native.Nat.{ℕ, ◌+◌, ◌*◌, ◌≤◌, ◌<◌}
 use native.Mathlib.Omega.{arith}
-use borrow.Author.Rules.{rules}
-use borrow.Author.Tests.{eqb-true, not-false}
-use lib.ListN.{length, get_or, length-set, length-replicate}
+use borrow.Author.Tests.{eqb-true}
+use lib.ListN.{get_or, length-set, length-replicate}
 use Rattle.field.proofs.CellLaws.{cell_below}
 use Rattle.rows.specs.declared.records.profile.Profile.{Profile}
 use Rattle.rows.specs.records.Buffers.{buffer_row}
-use Rattle.rows.specs.ways.LoopCounts.{is_loop, next_addr, ends_in, counted_from}
-use Rattle.rows.specs.ways.OpenLoops.{RoleOf, CountsIn}
+use Rattle.rows.specs.ways.LoopCounts.{is_loop, next_addr, ends_in}
+use Rattle.rows.specs.ways.OpenLoops.{RoleOf}
 use Rattle.rows.proofs.passes.RowCells.{opcode-alike, flagged_alike, cell-alike}
 use Rattle.rows.proofs.cycles.PartScans.{never}
-use Rattle.rows.proofs.passes.OpenLoops.{LoopsEnded, ended-start, ended-other, ended-opens, ended-ends, ended-all, LoopsCounted, counted_start, counted-other, counted-opens, counted-ends, count_small, still-counted, counted-all, in_start, in-other, in_opens, in-ends}
+use Rattle.rows.proofs.passes.OpenLoops.{ended-start, ended-other, ended-opens, ended-ends, ended-all, LoopsCounted, counted_start, counted-other, counted-opens, counted-ends, count_small, still-counted, counted-all, in_start, in-other, in_opens, in-ends}
 use Rattle.rows.proofs.passes.nested.sweep.Goals as goal
 
 -- the innermost open LOOP row stands before row i
@@ -85,13 +84,19 @@ pub overflow_add-above : goal.overflow_add-above
 overflow_add-above c = omega (arith, c.addr_at-addr.ensures, cell_below (buffer_row (c.loop-i.i + 1) c.loop-i.buffer) 6)
 
 pub overflow_add-depth : goal.overflow_add-depth
-overflow_add-depth c = omega (arith, opens_at c)
+overflow_add-depth c =
+    let opens_at : (c.loop-i.depth < 64) = (c.can_open.ensures c.if-not-can_open.false).0 in
+    omega (arith, opens_at)
 
 pub offset_bounds-stack-depth-in-Opens : goal.offset_bounds-stack-depth-in-Opens
-offset_bounds-stack-depth-in-Opens c = omega (arith, opens_at c)
+offset_bounds-stack-depth-in-Opens c =
+    let opens_at : (c.loop-i.depth < 64) = (c.can_open.ensures c.if-not-can_open.false).0 in
+    omega (arith, opens_at)
 
 pub bounds-stack-depth-in-Opens : goal.bounds-stack-depth-in-Opens
-bounds-stack-depth-in-Opens c = omega (arith, opens_at c)
+bounds-stack-depth-in-Opens c =
+    let opens_at : (c.loop-i.depth < 64) = (c.can_open.ensures c.if-not-can_open.false).0 in
+    omega (arith, opens_at)
 
 pub overflow_add-i-in-Opens-2 : goal.overflow_add-i-in-Opens-2
 overflow_add-i-in-Opens-2 c = omega arith
@@ -137,7 +142,9 @@ overflow_add-buffer-in-Ends c = let r = rw c.in-Ends.is at c.row_role-role.ensur
     omega (arith, count_small c.args.profile c.args.buffer.now c.loop-i.buffer c.loop-i.stack c.loop-i.depth c.loop-i.above c.loop-i.i c.loop-i.invariant.4 _ t.0 t.1)
 
 pub bounds-buffer-top-in-Ends : goal.bounds-buffer-top-in-Ends
-bounds-buffer-top-in-Ends c = slice-read-buffer c
+unfolding RoleOf
+bounds-buffer-top-in-Ends c = let r = rw c.in-Ends.is at c.row_role-role.ensures in
+    omega (arith, c.loop-i.invariant.3.alike.size, (top-row c.args.profile c.args.buffer.now c.loop-i.buffer c.loop-i.stack c.loop-i.depth c.loop-i.above c.loop-i.i c.loop-i.invariant.4 r.2).0)
 
 pub overflow_add-i-in-Ends : goal.overflow_add-i-in-Ends
 overflow_add-i-in-Ends c = omega arith

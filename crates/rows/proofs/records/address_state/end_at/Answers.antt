@@ -1,5 +1,4 @@
 -- `address_state::end_at` meets its contract.
-use borrow.Author.Rules.{rules}
 use borrow.Author.Tests.{le-ltb, lt-ltb}
 use Rattle.rows.specs.records.Addresses.{end_at}
 use Rattle.rows.proofs.records.address_state.end_at.Goals as goal

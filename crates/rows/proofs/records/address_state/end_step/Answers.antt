@@ -1,7 +1,6 @@
 -- `address_state::end_step` meets its contract. The position after an END fits, since the entry lies in the queue.
 use mathlib.Core.Path.{refl}
 use native.Mathlib.Omega.{arith}
-use borrow.Author.Rules.{rules}
 use Rattle.rows.specs.records.Addresses.{end_answer, end_state}
 use Rattle.rows.proofs.records.EndQueue.{end-within}
 use Rattle.rows.proofs.records.address_state.end_step.Goals as goal

@@ -1,5 +1,4 @@
 -- `address_state::respan_step` meets its contract.
-use borrow.Author.Rules.{rules}
 use Rattle.rows.specs.records.Addresses.{respan_step}
 use Rattle.rows.proofs.records.address_state.respan_step.Goals as goal
 

@@ -1,7 +1,6 @@
 -- `address_state::start_step` meets its contract. The positions after a start fit, since the entries lie in their queues.
 use mathlib.Core.Path.{refl}
 use native.Mathlib.Omega.{arith}
-use borrow.Author.Rules.{rules}
 use Rattle.rows.specs.records.Addresses.{started_at, start_answer, start_state}
 use Rattle.rows.proofs.records.EndQueue.{entry-within}
 use Rattle.rows.proofs.records.address_state.start_step.Goals as goal

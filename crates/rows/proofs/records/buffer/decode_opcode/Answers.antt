@@ -1,6 +1,5 @@
 -- The opcode of a row from the buffer's bit cells.
 use mathlib.Core.Path.{sym}
-use borrow.Author.Rules.{rules}
 use Rattle.rows.proofs.passes.RowCells.{opcode-cells, opcode-past}
 use Rattle.rows.proofs.records.buffer.decode_opcode.Goals as goal
 

@@ -1,5 +1,4 @@
 -- `buffer::is_low` meets its contract.
-use borrow.Author.Rules.{rules}
 use Rattle.rows.proofs.passes.RowCells.{low-opcode}
 use Rattle.rows.proofs.records.buffer.is_low.Goals as goal
 

@@ -1,6 +1,5 @@
 -- `call_record::continuation_at` meets its contract.
 use borrow.Author.Tests.{eq-eqb, ne_eqb}
-use borrow.Author.Rules.{rules}
 use Rattle.rows.specs.records.CallRecords.{continuation_in}
 use Rattle.rows.proofs.records.call_record.continuation_at.Goals as goal
 

@@ -42,13 +42,13 @@ returns-in-9 c = rw c.in-9.is
 pub returns-in_default : goal.returns-in_default
 unfolding continuation_on
 returns-in_default c = simp (
-  ne_eqb _ _ c.in_default.rest.0.0.0.0.0.0.0.0.1,
-  ne_eqb _ _ c.in_default.rest.0.0.0.0.0.0.0.1,
-  ne_eqb _ _ c.in_default.rest.0.0.0.0.0.0.1,
-  ne_eqb _ _ c.in_default.rest.0.0.0.0.0.1,
-  ne_eqb _ _ c.in_default.rest.0.0.0.0.1,
-  ne_eqb _ _ c.in_default.rest.0.0.0.1,
-  ne_eqb _ _ c.in_default.rest.0.0.1,
-  ne_eqb _ _ c.in_default.rest.0.1,
-  ne_eqb _ _ c.in_default.rest.1,
+  ne_eqb _ _ c.in_default.in_default-own.rest.0.0.0.0.0.0.0.0.1,
+  ne_eqb _ _ c.in_default.in_default-own.rest.0.0.0.0.0.0.0.1,
+  ne_eqb _ _ c.in_default.in_default-own.rest.0.0.0.0.0.0.1,
+  ne_eqb _ _ c.in_default.in_default-own.rest.0.0.0.0.0.1,
+  ne_eqb _ _ c.in_default.in_default-own.rest.0.0.0.0.1,
+  ne_eqb _ _ c.in_default.in_default-own.rest.0.0.0.1,
+  ne_eqb _ _ c.in_default.in_default-own.rest.0.0.1,
+  ne_eqb _ _ c.in_default.in_default-own.rest.0.1,
+  ne_eqb _ _ c.in_default.in_default-own.rest.1,
 )

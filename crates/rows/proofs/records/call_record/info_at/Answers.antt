@@ -1,7 +1,6 @@
 -- `call_record::info_at` meets its contract.
 use borrow.Author.Tests.{eq-eqb, ne_eqb}
 use Rattle.rows.specs.records.CallRecords.{info_in}
-use borrow.Author.Rules.{rules}
 use Rattle.rows.proofs.records.call_record.info_at.Goals as goal
 
 pub returns-then-number_at-ne1 : goal.returns-then-number_at-ne1

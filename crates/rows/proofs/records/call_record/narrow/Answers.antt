@@ -1,7 +1,6 @@
 -- `call_record::narrow` meets its contract.
 use borrow.Author.Tests.{lt-ltb, le-ltb}
 use Rattle.rows.specs.records.CallRecords.{of32}
-use borrow.Author.Rules.{rules}
 use Rattle.rows.proofs.records.call_record.narrow.Goals as goal
 
 pub returns-then-x-ge4294967296 : goal.returns-then-x-ge4294967296

@@ -27,9 +27,9 @@ pub returns-in_default : goal.returns-in_default
 unfolding many_cells
 returns-in_default c = simp (
   ← c.few_cells.ensures,
-  ne_eqb _ _ c.in_default.rest.0.0.0.0.1,
-  ne_eqb _ _ c.in_default.rest.0.0.0.1,
-  ne_eqb _ _ c.in_default.rest.0.0.1,
-  ne_eqb _ _ c.in_default.rest.0.1,
-  ne_eqb _ _ c.in_default.rest.1,
+  ne_eqb _ _ c.in_default.in_default-own.rest.0.0.0.0.1,
+  ne_eqb _ _ c.in_default.in_default-own.rest.0.0.0.1,
+  ne_eqb _ _ c.in_default.in_default-own.rest.0.0.1,
+  ne_eqb _ _ c.in_default.in_default-own.rest.0.1,
+  ne_eqb _ _ c.in_default.in_default-own.rest.1,
 )

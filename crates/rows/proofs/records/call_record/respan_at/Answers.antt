@@ -1,6 +1,5 @@
 -- `call_record::respan_at` meets its contract.
 use Rattle.rows.specs.records.CallRecords.{respan_in}
-use borrow.Author.Rules.{rules}
 use Rattle.rows.proofs.records.call_record.respan_at.Goals as goal
 
 pub returns-in_default : goal.returns-in_default

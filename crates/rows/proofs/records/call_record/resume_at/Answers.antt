@@ -1,6 +1,5 @@
 -- `call_record::resume_at` meets its contract.
 use Rattle.rows.specs.records.CallRecords.{resume_in}
-use borrow.Author.Rules.{rules}
 use Rattle.rows.proofs.records.call_record.resume_at.Goals as goal
 
 pub returns-in_default : goal.returns-in_default

@@ -1,5 +1,4 @@
 -- `call_record::stored_at` meets its contract.
-use borrow.Author.Rules.{rules}
 use Rattle.rows.specs.records.CallRecords.{stored_in_record}
 use Rattle.rows.proofs.records.call_record.stored_at.Goals as goal
 

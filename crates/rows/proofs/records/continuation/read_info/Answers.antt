@@ -1,5 +1,4 @@
 -- `continuation::read_info` meets its contract.
-use borrow.Author.Rules.{rules}
 use Rattle.rows.proofs.records.continuation.read_info.Goals as goal
 
 pub returns-in-Is : goal.returns-in-Is

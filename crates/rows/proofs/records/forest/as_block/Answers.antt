@@ -1,5 +1,4 @@
 -- `forest::as_block` meets its contract: each arm by the constructor that it knows.
-use borrow.Author.Rules.{rules}
 use Rattle.rows.specs.records.Forests.{block_of}
 use Rattle.rows.proofs.records.forest.as_block.Goals as goal
 

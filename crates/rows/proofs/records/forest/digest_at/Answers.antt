@@ -1,5 +1,4 @@
 -- `forest::digest_at` meets its contract.
-use borrow.Author.Rules.{rules}
 use native.Mathlib.Omega.{arith}
 use borrow.Author.Tests.{lt-ltb, le-leb, lt-leb}
 use Rattle.rows.proofs.records.Slots.{digest-by-kind}

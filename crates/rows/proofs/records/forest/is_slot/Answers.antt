@@ -1,5 +1,4 @@
 -- `forest::is_slot` meets its contract.
-use borrow.Author.Rules.{rules}
 use borrow.Author.Tests.{le-leb, lt-leb}
 use Rattle.rows.specs.records.Forests.{is_slot}
 use Rattle.rows.proofs.records.forest.is_slot.Goals as goal

@@ -1,5 +1,4 @@
 -- `forest::kind_at` meets its contract.
-use borrow.Author.Rules.{rules}
 use borrow.Author.Tests.{not-true, not-false}
 use Rattle.rows.specs.ways.Inner.{kind_at}
 use Rattle.rows.proofs.records.forest.kind_at.Goals as goal

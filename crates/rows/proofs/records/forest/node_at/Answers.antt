@@ -1,6 +1,5 @@
 -- `forest::node_at` meets its contract.
 use native.Mathlib.Omega.{arith}
-use borrow.Author.Rules.{rules}
 use Rattle.groups.specs.Words.{word_at}
 use Rattle.rows.specs.records.Forests.{node_at}
 use Rattle.rows.proofs.records.Slots.{no_node, slot_whole}

@@ -7,46 +7,46 @@ use Rattle.rows.proofs.records.forest.node_of.Goals as goal
 
 pub returns-in-2 : goal.returns-in-2
 unfolding node_of
-returns-in-2 c = rw c.in-2.is
+returns-in-2 c digest = rw c.in-2.is
 
 pub returns-in-3 : goal.returns-in-3
 unfolding node_of
-returns-in-3 c = rw c.in-3.is
+returns-in-3 c digest = rw c.in-3.is
 
 pub returns-in-4 : goal.returns-in-4
 unfolding node_of
-returns-in-4 c = rw c.in-4.is
+returns-in-4 c digest = rw c.in-4.is
 
 pub returns-in-5 : goal.returns-in-5
 unfolding node_of
-returns-in-5 c = rw c.in-5.is
+returns-in-5 c digest = rw c.in-5.is
 
 pub returns-in-6 : goal.returns-in-6
 unfolding node_of
-returns-in-6 c = rw c.in-6.is
+returns-in-6 c digest = rw c.in-6.is
 
 pub returns-in-7 : goal.returns-in-7
 unfolding node_of
-returns-in-7 c = rw c.in-7.is
+returns-in-7 c digest = rw c.in-7.is
 
 pub returns-in-8 : goal.returns-in-8
 unfolding node_of
-returns-in-8 c = rw c.in-8.is
+returns-in-8 c digest = rw c.in-8.is
 
 pub returns-in-9 : goal.returns-in-9
 unfolding node_of
-returns-in-9 c = rw c.in-9.is
+returns-in-9 c digest = rw c.in-9.is
 
 pub returns-in_default : goal.returns-in_default
 unfolding node_of
-returns-in_default c = simp (
-  ne_eqb _ _ c.in_default.rest.0.0.0.0.0.0.0.1,
-  ne_eqb _ _ c.in_default.rest.0.0.0.0.0.0.1,
-  ne_eqb _ _ c.in_default.rest.0.0.0.0.0.1,
-  ne_eqb _ _ c.in_default.rest.0.0.0.0.1,
-  ne_eqb _ _ c.in_default.rest.0.0.0.1,
-  ne_eqb _ _ c.in_default.rest.0.0.1,
-  ne_eqb _ _ c.in_default.rest.0.1,
-  ne_eqb _ _ c.in_default.rest.1,
-  eq-eqb _ _ (last-kind c.args.kind (search rules) (search rules) c.in_default.rest.0.0.0.0.0.0.0.1 c.in_default.rest.0.0.0.0.0.0.1 c.in_default.rest.0.0.0.0.0.1 c.in_default.rest.0.0.0.0.1 c.in_default.rest.0.0.0.1 c.in_default.rest.0.0.1 c.in_default.rest.0.1 c.in_default.rest.1),
+returns-in_default c digest = simp (
+  ne_eqb _ _ c.in_default.in_default-own.rest.0.0.0.0.0.0.0.1,
+  ne_eqb _ _ c.in_default.in_default-own.rest.0.0.0.0.0.0.1,
+  ne_eqb _ _ c.in_default.in_default-own.rest.0.0.0.0.0.1,
+  ne_eqb _ _ c.in_default.in_default-own.rest.0.0.0.0.1,
+  ne_eqb _ _ c.in_default.in_default-own.rest.0.0.0.1,
+  ne_eqb _ _ c.in_default.in_default-own.rest.0.0.1,
+  ne_eqb _ _ c.in_default.in_default-own.rest.0.1,
+  ne_eqb _ _ c.in_default.in_default-own.rest.1,
+  eq-eqb _ _ (last-kind c.args.kind (search rules) (search rules) c.in_default.in_default-own.rest.0.0.0.0.0.0.0.1 c.in_default.in_default-own.rest.0.0.0.0.0.0.1 c.in_default.in_default-own.rest.0.0.0.0.0.1 c.in_default.in_default-own.rest.0.0.0.0.1 c.in_default.in_default-own.rest.0.0.0.1 c.in_default.in_default-own.rest.0.0.1 c.in_default.in_default-own.rest.0.1 c.in_default.in_default-own.rest.1),
 )

@@ -1,5 +1,4 @@
 -- `forest::opcode_at` meets its contract.
-use borrow.Author.Rules.{rules}
 use borrow.Author.Tests.{le-ltb, lt-ltb}
 use Rattle.rows.specs.records.Forests.{opcode_at}
 use Rattle.rows.proofs.records.forest.opcode_at.Goals as goal

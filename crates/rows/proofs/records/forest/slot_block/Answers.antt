@@ -1,5 +1,4 @@
 -- `forest::slot_block` meets its contract.
-use borrow.Author.Rules.{rules}
 use Rattle.rows.proofs.records.forest.slot_block.Goals as goal
 
 pub returns : goal.returns

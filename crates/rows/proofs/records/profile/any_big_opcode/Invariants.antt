@@ -1,12 +1,9 @@
 -- `profile::any_big_opcode` meets its contract.
-use mathlib.Core.Path.{◌≡◌, refl}
+use mathlib.Core.Path.{◌≡◌}
 use mathlib.Core.Bool.{◌||◌}
 use Prim.Native.Nat.{◌-◌}
-use borrow.Author.Rules.{rules}
-use lib.Dec.{leb}
-use lib.ListN.{length, get_or, drop}
+use lib.ListN.{length, drop}
 use Rattle.field.specs.Bounds.{any_from}
-use Rattle.field.proofs.AnyFrom.{gather-turn, gather-last}
 use Rattle.rows.proofs.records.profile.any_big_opcode.Given as goal
 
 abbrev pub invariant-loop-i : goal.invariant-loop-i

@@ -1,10 +1,8 @@
 -- `profile::is_one_of` meets its contract.
-use mathlib.Core.Path.{◌≡◌, refl}
-use mathlib.Core.Bool.{◌||◌}
-use Prim.Native.Nat.{◌-◌}
+use mathlib.Core.Path.{refl}
 use borrow.Author.Rules.{rules}
 use lib.Dec.{eqb}
-use lib.ListN.{length, get_or, drop}
+use lib.ListN.{get_or}
 use Rattle.rows.specs.records.Profiles.{is_one_of}
 use Rattle.field.proofs.AnyFrom.{gather-turn, gather-last}
 use Rattle.rows.proofs.records.profile.is_one_of.Goals as goal

@@ -1,12 +1,9 @@
 -- `profile::is_one_of` meets its contract.
-use mathlib.Core.Path.{◌≡◌, refl}
+use mathlib.Core.Path.{◌≡◌}
 use mathlib.Core.Bool.{◌||◌}
 use Prim.Native.Nat.{◌-◌}
-use borrow.Author.Rules.{rules}
-use lib.Dec.{eqb}
-use lib.ListN.{length, get_or, drop}
+use lib.ListN.{length, drop}
 use Rattle.rows.specs.records.Profiles.{is_one_of}
-use Rattle.field.proofs.AnyFrom.{gather-turn, gather-last}
 use Rattle.rows.proofs.records.profile.is_one_of.Given as goal
 
 abbrev pub invariant-loop-j : goal.invariant-loop-j

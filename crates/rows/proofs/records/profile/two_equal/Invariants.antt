@@ -1,12 +1,9 @@
 -- `profile::two_equal` meets its contract.
-use mathlib.Core.Path.{◌≡◌, refl}
+use mathlib.Core.Path.{◌≡◌}
 use mathlib.Core.Bool.{◌||◌}
 use Prim.Native.Nat.{◌-◌}
-use native.Mathlib.Numerals.{add-one}
-use borrow.Author.Rules.{rules}
 use lib.ListN.{length, drop}
 use Rattle.rows.specs.records.Profiles.{two_equal}
-use Rattle.field.proofs.AnyFrom.{gather-turn, gather-last}
 use Rattle.rows.proofs.records.profile.two_equal.Given as goal
 
 abbrev pub invariant-loop-j : goal.invariant-loop-j

@@ -1,16 +1,9 @@
 -- `row::copy_in` meets its contract. The loop's invariant: the first j cells are copied.
-use mathlib.Core.Path.{◌≡◌, refl, sym, ◌∙◌}
-use Prim.Native.Nat.{◌+◌, ◌-◌, ◌≤◌, ◌<◌}
-use native.Mathlib.Omega.{arith}
-use native.Mathlib.Numerals.{add-one}
-use borrow.Author.Rules.{rules}
-use borrow.Author.Tests.{lt-leb}
-use lib.ListN.{length, get_or, length-set}
-use lib.Seq.{paste, paste-zero, paste-suc}
-use Rattle.field.specs.Cells.{cell_at, reduced}
-use Rattle.field.proofs.CellLaws.{length-reduced, get_or-reduced}
-use Rattle.rows.specs.records.Cells.{copied_in, put_in}
-use Rattle.rows.proofs.records.Rooms.{copy-fits}
+use mathlib.Core.Path.{◌≡◌}
+use Prim.Native.Nat.{◌+◌, ◌-◌, ◌≤◌}
+use lib.ListN.{length}
+use lib.Seq.{paste}
+use Rattle.field.specs.Cells.{reduced}
 use Rattle.rows.proofs.records.row.copy_in.Given as goal
 
 abbrev pub invariant-loop-j : goal.invariant-loop-j

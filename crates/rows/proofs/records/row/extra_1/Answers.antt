@@ -1,6 +1,5 @@
 -- `row::extra_1` meets its contract.
 use Prim.Native.Nat.{◌/◌, ◌%◌}
-use borrow.Author.Rules.{rules}
 use native.Mathlib.Omega.{arith}
 use Rattle.rows.proofs.records.Bits.{bit-mul}
 use Rattle.rows.proofs.records.row.extra_1.Goals as goal

@@ -1,5 +1,4 @@
 -- `row::last_cells` meets its contract.
-use borrow.Author.Rules.{rules}
 use Rattle.field.specs.Cells.{cell_at, reduced}
 use Rattle.rows.specs.records.Built.{stack_cells, read_stack}
 use Rattle.rows.proofs.records.row.last_cells.Goals as goal

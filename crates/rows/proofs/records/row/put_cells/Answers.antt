@@ -15,5 +15,8 @@ unfolding row_written
 returns-then-buffer-row c = rw (le-ltb c.args.row (length c.args.buffer.now / 49) c.if-buffer-row.true)
 
 pub returns : goal.returns
-returns c = rw (row_fits c.args.buffer.now c.args.row (c.args.first ++ c.args.last) (omega arith))
-    (c.put_in-2.ensures ∙ rw c.put_in.ensures (row_put c.args.buffer.now c.args.row c.args.first c.args.last (first-30 c) (last-19 c) (omega arith)))
+returns c =
+    let first-30 : length c.args.first ≡ 30 = search rules in
+    let last-19 : length c.args.last ≡ 19 = search rules in
+    rw (row_fits c.args.buffer.now c.args.row (c.args.first ++ c.args.last) (omega arith))
+    (c.put_in-2.ensures ∙ rw c.put_in.ensures (row_put c.args.buffer.now c.args.row c.args.first c.args.last first-30 last-19 (omega arith)))

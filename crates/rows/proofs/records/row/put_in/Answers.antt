@@ -1,12 +1,11 @@
 -- `row::put_in` meets its contract. The loop's invariant: the first j numbers are copied.
 use mathlib.Core.Path.{◌≡◌, refl, sym, ◌∙◌}
-use Prim.Native.Nat.{◌+◌, ◌-◌, ◌≤◌, ◌<◌}
+use Prim.Native.Nat.{◌+◌, ◌<◌}
 use native.Mathlib.Omega.{arith}
 use native.Mathlib.Numerals.{add-one}
-use borrow.Author.Rules.{rules}
 use borrow.Author.Tests.{lt-leb}
 use lib.ListN.{length, length-set}
-use lib.Seq.{paste, paste-zero, paste-suc}
+use lib.Seq.{paste-zero, paste-suc}
 use Rattle.rows.specs.records.Cells.{put_in}
 use Rattle.rows.proofs.records.Rooms.{put-fits}
 use Rattle.rows.proofs.records.row.put_in.Goals as goal

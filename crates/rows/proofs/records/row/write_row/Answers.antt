@@ -1,5 +1,4 @@
 -- `row::write_row` meets its contract.
-use borrow.Author.Rules.{rules}
 use Rattle.rows.proofs.records.Rooms.{cells-in-two}
 use Rattle.rows.proofs.records.row.write_row.Goals as goal
 

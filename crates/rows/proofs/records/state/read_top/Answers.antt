@@ -1,5 +1,4 @@
 -- `state::read_top` meets its contract.
-use borrow.Author.Rules.{rules}
 use Rattle.groups.specs.Words.{word_at}
 use Rattle.rows.proofs.records.state.read_top.Goals as goal
 

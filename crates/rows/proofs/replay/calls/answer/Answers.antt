@@ -1,5 +1,4 @@
 -- `calls::answer` meets its contract.
-use borrow.Author.Rules.{rules}
 use Rattle.rows.specs.replay.Calls.{told}
 use Rattle.rows.proofs.replay.calls.answer.Goals as goal
 

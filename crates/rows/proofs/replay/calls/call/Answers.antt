@@ -1,6 +1,4 @@
 -- `calls::call` meets its contract.
-use mathlib.Core.Path.{sym, ◌∙◌}
-use borrow.Author.Rules.{rules}
 use borrow.Author.Tests.{eq-eqb, ne_eqb}
 use Rattle.rows.specs.records.CallRecords.{stored_in_record, call_in}
 use Rattle.rows.proofs.cycles.Picks.{pick_same}

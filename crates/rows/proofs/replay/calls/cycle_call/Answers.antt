@@ -1,5 +1,4 @@
 -- `calls::cycle_call` meets its contract: what the record encodes, in the order of the refusals.
-use borrow.Author.Rules.{rules}
 use Rattle.rows.specs.replay.Calls.{call_done, call_written}
 use Rattle.rows.specs.records.CallRecords.{finish_in}
 use Rattle.rows.proofs.cycles.Picks.{pick_same}

@@ -1,6 +1,4 @@
 -- `calls::finish_in` meets its contract: each slice is cut to the forest's part, and the cycle is given the parts.
-use borrow.Author.Rules.{rules}
-use lib.Dec.{lit≤}
 use Rattle.rows.specs.records.Forests.{forest}
 use Rattle.rows.specs.replay.Calls.{forest_of, call_done, call_written}
 use Rattle.rows.proofs.replay.CallSteps.{parts-lent}

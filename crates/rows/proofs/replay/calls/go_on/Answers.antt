@@ -1,22 +1,21 @@
 -- `calls::go_on` meets its contract.
 use native.Mathlib.Omega.{arith}
-use borrow.Author.Rules.{rules}
 use Rattle.rows.proofs.replay.GoingOn.{record-lent, gone_one, gone-more, built-behind}
 use Rattle.rows.proofs.replay.calls.go_on.Goals as goal
 
 pub overflow_add-result : goal.overflow_add-result
-overflow_add-result c = omega (arith, c.requires, c.well-formed.1.1.1.1.1.1.1.1.1.1.1.1.0)
+overflow_add-result c = omega (arith, c.requires, c.well_formed.1.1.1.1.1.1.1.1.1.1.1.1.0)
 
 pub returns-then-done-tracer : goal.returns-then-done-tracer
 returns-then-done-tracer c = let e = record-lent c.args.records.now c.args.k in
     gone_one _ c.args.records.now c.args.k _ _ c.args.write c.args.fragment.now _ c.requires (rw e at c.call-done.ensures.value) (rw e at c.call-done.ensures.fragment_after)
 
 pub overflow_add-k : goal.overflow_add-k
-overflow_add-k c = omega (arith, c.requires, c.well-formed.1.1.1.1.1.1.1.1.1.1.1.1.0)
+overflow_add-k c = omega (arith, c.requires, c.well_formed.1.1.1.1.1.1.1.1.1.1.1.1.0)
 
 pub follow-requires : goal.follow-requires
 follow-requires c = let e = record-lent c.args.records.now c.args.k in
-    ((omega arith, omega (arith, c.requires)), built-behind _ _ c.args.tracer c.args.records.now c.args.k (rw e at c.call-done.ensures.value) c.if-done-tracer.false)
+    record { k_nonzero = (omega arith, omega (arith, c.requires)); built_before = built-behind _ _ c.args.tracer c.args.records.now c.args.k (rw e at c.call-done.ensures.value) c.if-done-tracer.false }
 
 pub returns : goal.returns
 returns c = let e = record-lent c.args.records.now c.args.k in

@@ -1,5 +1,4 @@
 -- `calls::replay_calls` meets its contract: a run that writes nothing, and where that refuses nothing a second that writes.
-use borrow.Author.Rules.{rules}
 use borrow.Author.Tests.{eq-eqb, ne_eqb}
 use Rattle.rows.specs.replay.Calls.{scanned, replayed, replayed_fragment}
 use Rattle.rows.proofs.replay.CallSteps.{told-number}

@@ -1,13 +1,9 @@
 -- `calls::run` meets its contract. Invariant: after k records the tracer and the fragment are those of the definition.
 use mathlib.Core.Path.{◌≡◌}
-use Prim.Native.Nat.{◌≤◌, ◌-◌, ◌/◌}
+use Prim.Native.Nat.{◌/◌}
 use native.Mathlib.Omega.{arith}
-use borrow.Author.Rules.{rules}
 use lib.ListN.{length}
-use Rattle.rows.specs.records.Forests.{forest}
-use Rattle.rows.specs.records.Addresses.{queues}
-use Rattle.rows.specs.replay.Calls.{setting}
-use Rattle.rows.proofs.replay.CallSteps.{Ran, ran-none}
+use Rattle.rows.proofs.replay.CallSteps.{ran-none}
 use Rattle.rows.proofs.replay.GoingOn.{ran_on}
 use Rattle.rows.proofs.replay.calls.run.Goals as goal
 
@@ -27,4 +23,4 @@ loop-k-preserved c = let (more, within, ran) = ran_on _ c.args.records.now c.arg
 
 pub returns : goal.returns
 returns c = let e : c.loop-k.k ≡ length c.args.records.now / 32 = omega arith in
-    rw (← e) c.loop-k.invariant.1.1
+    record { value = rw (← e) c.loop-k.invariant.1.1.0; fragment_after = rw (← e) c.loop-k.invariant.1.1.1 }

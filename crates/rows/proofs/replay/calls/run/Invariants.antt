@@ -1,14 +1,11 @@
 -- `calls::run` meets its contract. Invariant: after k records the tracer and the fragment are those of the definition.
 use mathlib.Core.Path.{◌≡◌}
 use Prim.Native.Nat.{◌≤◌, ◌-◌, ◌/◌}
-use native.Mathlib.Omega.{arith}
-use borrow.Author.Rules.{rules}
 use lib.ListN.{length}
 use Rattle.rows.specs.records.Forests.{forest}
 use Rattle.rows.specs.records.Addresses.{queues}
 use Rattle.rows.specs.replay.Calls.{setting}
-use Rattle.rows.proofs.replay.CallSteps.{Ran, ran-none}
-use Rattle.rows.proofs.replay.GoingOn.{ran_on}
+use Rattle.rows.proofs.replay.CallSteps.{Ran}
 use Rattle.rows.proofs.replay.calls.run.Given as goal
 
 abbrev pub invariant-loop-k : goal.invariant-loop-k

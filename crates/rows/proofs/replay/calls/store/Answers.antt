@@ -1,6 +1,5 @@
 -- `calls::store` meets its contract.
 use Rattle.rows.specs.ways.Inner.{storing_done}
-use borrow.Author.Rules.{rules}
 use Rattle.rows.proofs.replay.calls.store.Goals as goal
 
 pub returns-in_default : goal.returns-in_default

@@ -1,6 +1,5 @@
 -- `directory::clip_from` meets its contract.
 use native.Mathlib.Omega.{arith}
-use borrow.Author.Rules.{rules}
 use Rattle.rows.proofs.replay.directory.clip_from.Goals as goal
 
 pub overflow_add-result : goal.overflow_add-result

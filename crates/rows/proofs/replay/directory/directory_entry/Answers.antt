@@ -1,7 +1,6 @@
 -- `directory::directory_entry` meets its contract.
 use borrow.Author.Tests.{lt-ltb, le-ltb}
 use Rattle.rows.specs.replay.Calls.{directory_entry}
-use borrow.Author.Rules.{rules}
 use Rattle.rows.proofs.replay.directory.directory_entry.Goals as goal
 
 pub returns-then-directory-forest : goal.returns-then-directory-forest

@@ -1,6 +1,5 @@
 -- `pairs::any_pair` meets its contract.
 use mathlib.Core.Path.{refl}
-use borrow.Author.Rules.{rules}
 use Rattle.rows.proofs.replay.PairSteps.{put-row, put-none}
 use Rattle.rows.proofs.replay.pairs.any_pair.Goals as goal
 

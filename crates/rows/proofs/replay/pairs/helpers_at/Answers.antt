@@ -1,5 +1,4 @@
 -- `pairs::helpers_at` meets its contract.
-use borrow.Author.Rules.{rules}
 use Rattle.rows.proofs.replay.PairRecords.{no-helpers, helpers-of}
 use Rattle.rows.proofs.replay.pairs.helpers_at.Goals as goal
 

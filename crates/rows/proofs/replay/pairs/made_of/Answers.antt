@@ -1,5 +1,4 @@
 -- `pairs::made_of` meets its contract.
-use borrow.Author.Rules.{rules}
 use Rattle.rows.specs.ways.Pairs.{pair_made}
 use Rattle.rows.proofs.replay.PairSteps.{makes-told}
 use Rattle.rows.proofs.replay.pairs.made_of.Goals as goal

@@ -1,5 +1,4 @@
 -- `pairs::operation_at` meets its contract.
-use borrow.Author.Rules.{rules}
 use Rattle.rows.specs.records.Forests.{forest}
 use Rattle.rows.proofs.replay.PairRecords.{operation-in}
 use Rattle.rows.proofs.replay.pairs.operation_at.Goals as goal

@@ -1,6 +1,5 @@
 -- `pairs::operation_of` meets its contract.
 use native.Mathlib.Omega.{arith}
-use borrow.Author.Rules.{rules}
 use Rattle.rows.proofs.replay.PairRecords.{three-of-32, stores}
 use Rattle.rows.proofs.replay.pairs.operation_of.Goals as goal
 

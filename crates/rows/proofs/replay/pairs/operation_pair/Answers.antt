@@ -1,6 +1,5 @@
 -- `pairs::operation_pair` meets its contract.
 use mathlib.Core.Path.{◌∙◌, sym}
-use borrow.Author.Rules.{rules}
 use Rattle.rows.proofs.replay.PairSteps.{put-row, put-none, operation-taken}
 use Rattle.rows.proofs.replay.pairs.operation_pair.Goals as goal
 

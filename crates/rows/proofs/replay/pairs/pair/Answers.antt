@@ -1,5 +1,4 @@
 -- `pairs::pair` meets its contract.
-use borrow.Author.Rules.{rules}
 use Rattle.rows.specs.records.Forests.{forest}
 use Rattle.rows.specs.records.Addresses.{queues}
 use Rattle.rows.specs.cycles.Made.{cursor}

@@ -1,5 +1,4 @@
 -- `pairs::put_behind` meets its contract.
-use borrow.Author.Rules.{rules}
 use Rattle.rows.proofs.replay.PairSteps.{row-behind}
 use Rattle.rows.proofs.replay.pairs.put_behind.Goals as goal
 

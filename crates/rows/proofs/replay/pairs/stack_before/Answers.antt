@@ -1,5 +1,4 @@
 -- `pairs::stack_before` meets its contract.
-use borrow.Author.Rules.{rules}
 use Rattle.rows.proofs.replay.PairRecords.{stack_built}
 use Rattle.rows.proofs.replay.pairs.stack_before.Goals as goal
 

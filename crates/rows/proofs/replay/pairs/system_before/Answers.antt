@@ -1,5 +1,4 @@
 -- `pairs::system_before` meets its contract.
-use borrow.Author.Rules.{rules}
 use Rattle.rows.proofs.replay.PairRecords.{system_built}
 use Rattle.rows.proofs.replay.pairs.system_before.Goals as goal
 

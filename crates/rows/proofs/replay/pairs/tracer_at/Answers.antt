@@ -1,6 +1,5 @@
 -- `pairs::tracer_at` meets its contract.
 use mathlib.Core.Path.{sym, ◌∙◌, ap}
-use borrow.Author.Rules.{rules}
 use Rattle.rows.specs.records.CallRecords.{told_stored, told_system, told_small, of32}
 use Rattle.rows.proofs.replay.PairSteps.{no-values, no-system, no-depth, stands-so}
 use Rattle.rows.proofs.replay.pairs.tracer_at.Goals as goal

@@ -1,14 +1,11 @@
 -- `pairs::walk_pairs` meets its contract. Invariant: the walk stands behind a number of pairs.
-use mathlib.Core.Path.{◌≡◌}
-use Prim.Native.Nat.{◌-◌, ◌/◌, ◌<◌, zero, suc}
+use Prim.Native.Nat.{zero, suc}
 use native.Mathlib.Omega.{arith}
 use borrow.Author.Tests.{not-false}
-use lib.ListN.{length}
 use borrow.Author.Rules.{rules}
-use Rattle.groups.specs.Constants.{row_width}
 use Rattle.rows.specs.records.Forests.{forest}
 use Rattle.rows.specs.records.Addresses.{queues}
-use Rattle.rows.specs.ways.Pairs.{Walks, stays, goes}
+use Rattle.rows.specs.ways.Pairs.{stays, goes}
 use Rattle.rows.proofs.replay.PairSteps.{onward}
 use Rattle.rows.proofs.replay.pairs.walk_pairs.Goals as goal
 
@@ -19,19 +16,19 @@ pub returns-then-rows-w : goal.returns-then-rows-w
 returns-then-rows-w c = c.loop-w.invariant.2
 
 pub overflow_mul-i : goal.overflow_mul-i
-overflow_mul-i c = omega (arith, c.loop-w-test.true, c.well-formed.1.1.1.1.1.1.1.1.1.1.1.0)
+overflow_mul-i c = omega (arith, c.loop-w-test.true, c.well_formed.1.1.1.1.1.1.1.1.1.1.1.0)
 
 pub overflow_add-j : goal.overflow_add-j
-overflow_add-j c = omega (arith, c.loop-w-test.true, c.well-formed.1.1.1.1.1.1.1.1.1.1.1.0)
+overflow_add-j c = omega (arith, c.loop-w-test.true, c.well_formed.1.1.1.1.1.1.1.1.1.1.1.0)
 
 pub overflow_add-e : goal.overflow_add-e
-overflow_add-e c = omega (arith, c.loop-w-test.true, c.well-formed.1.1.1.1.1.1.1.1.1.1.1.0)
+overflow_add-e c = omega (arith, c.loop-w-test.true, c.well_formed.1.1.1.1.1.1.1.1.1.1.1.0)
 
 pub returns-then-records-e : goal.returns-then-records-e
 returns-then-records-e c = c.loop-w.invariant.2
 
 pub offset_bounds-records-i : goal.offset_bounds-records-i
-offset_bounds-records-i c = omega (arith, c.loop-w-test.true, c.well-formed.1.1.1.1.1.1.1.1.1.1.1.0)
+offset_bounds-records-i c = omega (arith, c.loop-w-test.true, c.well_formed.1.1.1.1.1.1.1.1.1.1.1.0)
 
 pub slice_bounds-is_pair-count : goal.slice_bounds-is_pair-count
 slice_bounds-is_pair-count c = omega arith
@@ -43,7 +40,7 @@ pub slice_bounds-is_pair-end : goal.slice_bounds-is_pair-end
 slice_bounds-is_pair-end c = omega arith
 
 pub offset_bounds-records-j : goal.offset_bounds-records-j
-offset_bounds-records-j c = omega (arith, c.loop-w-test.true, c.well-formed.1.1.1.1.1.1.1.1.1.1.1.0)
+offset_bounds-records-j c = omega (arith, c.loop-w-test.true, c.well_formed.1.1.1.1.1.1.1.1.1.1.1.0)
 
 pub slice_bounds-is_pair-count-in-loop-w : goal.slice_bounds-is_pair-count-in-loop-w
 slice_bounds-is_pair-count-in-loop-w c = omega arith
@@ -61,7 +58,7 @@ pub overflow_sub-b : goal.overflow_sub-b
 overflow_sub-b c = omega arith
 
 pub offset_bounds-records-b : goal.offset_bounds-records-b
-offset_bounds-records-b c = omega (arith, c.loop-w-test.true, c.well-formed.1.1.1.1.1.1.1.1.1.1.1.0)
+offset_bounds-records-b c = omega (arith, c.loop-w-test.true, c.well_formed.1.1.1.1.1.1.1.1.1.1.1.0)
 
 pub slice_bounds-pair-count : goal.slice_bounds-pair-count
 slice_bounds-pair-count c = omega arith
@@ -73,7 +70,7 @@ pub slice_bounds-pair-end : goal.slice_bounds-pair-end
 slice_bounds-pair-end c = omega arith
 
 pub offset_bounds-records-i-in-loop-w : goal.offset_bounds-records-i-in-loop-w
-offset_bounds-records-i-in-loop-w c = omega (arith, c.loop-w-test.true, c.well-formed.1.1.1.1.1.1.1.1.1.1.1.0)
+offset_bounds-records-i-in-loop-w c = omega (arith, c.loop-w-test.true, c.well_formed.1.1.1.1.1.1.1.1.1.1.1.0)
 
 pub slice_bounds-pair-count-in-loop-w : goal.slice_bounds-pair-count-in-loop-w
 slice_bounds-pair-count-in-loop-w c = omega arith
@@ -85,7 +82,7 @@ pub slice_bounds-pair-end-in-loop-w : goal.slice_bounds-pair-end-in-loop-w
 slice_bounds-pair-end-in-loop-w c = omega arith
 
 pub offset_bounds-records-j-in-loop-w : goal.offset_bounds-records-j-in-loop-w
-offset_bounds-records-j-in-loop-w c = omega (arith, c.loop-w-test.true, c.well-formed.1.1.1.1.1.1.1.1.1.1.1.0)
+offset_bounds-records-j-in-loop-w c = omega (arith, c.loop-w-test.true, c.well_formed.1.1.1.1.1.1.1.1.1.1.1.0)
 
 pub slice_bounds-pair-count-in-loop-w-2 : goal.slice_bounds-pair-count-in-loop-w-2
 slice_bounds-pair-count-in-loop-w-2 c = omega arith
@@ -103,10 +100,10 @@ pub returns-in_default : goal.returns-in_default
 returns-in_default c = rw (rw c.in_default.is at c.pair-taken.ensures) c.loop-w.invariant.2
 
 pub overflow_add-w : goal.overflow_add-w
-overflow_add-w c = omega (arith, c.loop-w-test.true, c.well-formed.1.1.1.1.1.1.1.1.1.1.1.0)
+overflow_add-w c = omega (arith, c.loop-w-test.true, c.well_formed.1.1.1.1.1.1.1.1.1.1.1.0)
 
 pub overflow_add-w-in-loop-w : goal.overflow_add-w-in-loop-w
-overflow_add-w-in-loop-w c = omega (arith, c.if-rows-w.false, c.loop-w.invariant.0, c.well-formed.1.1.1.1.1.1.1.1.1.1.1.1.1)
+overflow_add-w-in-loop-w c = omega (arith, c.if-rows-w.false, c.loop-w.invariant.0, c.well_formed.1.1.1.1.1.1.1.1.1.1.1.1.1)
 
 pub loop-w-smaller : goal.loop-w-smaller
 loop-w-smaller c = omega (arith, c.loop-w-test.true)

@@ -1,15 +1,11 @@
 -- `pairs::walk_pairs` meets its contract. Invariant: the walk stands behind a number of pairs.
 use mathlib.Core.Path.{◌≡◌}
-use Prim.Native.Nat.{◌-◌, ◌/◌, ◌<◌, zero, suc}
-use native.Mathlib.Omega.{arith}
-use borrow.Author.Tests.{not-false}
+use Prim.Native.Nat.{◌-◌, ◌/◌, ◌<◌}
 use lib.ListN.{length}
-use borrow.Author.Rules.{rules}
 use Rattle.groups.specs.Constants.{row_width}
 use Rattle.rows.specs.records.Forests.{forest}
 use Rattle.rows.specs.records.Addresses.{queues}
-use Rattle.rows.specs.ways.Pairs.{Walks, stays, goes}
-use Rattle.rows.proofs.replay.PairSteps.{onward}
+use Rattle.rows.specs.ways.Pairs.{Walks}
 use Rattle.rows.proofs.replay.pairs.walk_pairs.Given as goal
 
 abbrev pub invariant-loop-w : goal.invariant-loop-w

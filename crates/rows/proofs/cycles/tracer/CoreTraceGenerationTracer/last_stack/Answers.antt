@@ -1,5 +1,4 @@
 -- `CoreTraceGenerationTracer::last_stack` meets its contract.
-use borrow.Author.Rules.{rules}
 use borrow.Author.Tests.{eq-eqb, ne_eqb}
 use Rattle.rows.specs.cycles.Cycles.{last_stack}
 use Rattle.rows.proofs.cycles.tracer.CoreTraceGenerationTracer.last_stack.Goals as goal

@@ -1,5 +1,4 @@
 -- `CoreTraceGenerationTracer::new` meets its contract.
-use borrow.Author.Rules.{rules}
 use Rattle.rows.specs.cycles.Cycles.{fresh}
 use Rattle.rows.proofs.cycles.tracer.CoreTraceGenerationTracer.new.Goals as goal
 

@@ -1,5 +1,4 @@
 -- `DecoderState::read` meets its contract.
-use borrow.Author.Rules.{rules}
 use Rattle.rows.specs.records.Addresses.{read_state}
 use Rattle.rows.proofs.records.address_state.DecoderState.read.Goals as goal
 

@@ -1,5 +1,4 @@
 -- `Captured::read` meets its contract.
-use borrow.Author.Rules.{rules}
 use Rattle.rows.specs.records.Captured.{read_captured}
 use Rattle.rows.proofs.records.continuation.Captured.read.Goals as goal
 

@@ -1,11 +1,6 @@
 -- `EndBlockFlags::to_hasher_state_second_word` meets its contract.
-use borrow.Author.Rules.{rules}
 use Rattle.rows.specs.records.DecoderRows.{end_word}
-use Rattle.rows.proofs.records.decoder_row.EndBlockFlags.to_hasher_state_second_word.Statement.{
-  statement,
 use Rattle.rows.proofs.records.decoder_row.EndBlockFlags.to_hasher_state_second_word.Goals as goal
-
-}
 
 pub returns-in-Continuation : goal.returns-in-Continuation
 unfolding end_word

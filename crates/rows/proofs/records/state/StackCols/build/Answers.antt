@@ -1,5 +1,4 @@
 -- `StackCols::build` meets its contract.
-use borrow.Author.Rules.{rules}
 use Rattle.rows.specs.records.Built.{built_stack}
 use Rattle.rows.proofs.records.state.StackCols.build.Goals as goal
 

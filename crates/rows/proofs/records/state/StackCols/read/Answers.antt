@@ -1,5 +1,4 @@
 -- `StackCols::read` meets its contract.
-use borrow.Author.Rules.{rules}
 use Rattle.rows.specs.records.Built.{read_stack}
 use Rattle.rows.proofs.records.state.StackCols.read.Goals as goal
 

@@ -1,5 +1,4 @@
 -- `SystemCols::build` meets its contract.
-use borrow.Author.Rules.{rules}
 use Rattle.rows.specs.records.Built.{built_system}
 use Rattle.rows.proofs.records.state.SystemCols.build.Goals as goal
 

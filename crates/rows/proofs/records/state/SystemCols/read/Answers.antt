@@ -1,5 +1,4 @@
 -- `SystemCols::read` meets its contract.
-use borrow.Author.Rules.{rules}
 use Rattle.rows.specs.records.Built.{read_system}
 use Rattle.rows.proofs.records.state.SystemCols.read.Goals as goal
 

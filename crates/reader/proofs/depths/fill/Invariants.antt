@@ -1,0 +1,21 @@
+-- `depths::fill` meets its contract.
+use mathlib.Core.Path.{◌≡◌, ◌∙◌, refl}
+use mathlib.Core.List.{◌++◌}
+use Prim.Native.Nat.{◌≤◌, ◌<◌, ◌-◌, ◌/◌}
+use native.Mathlib.Omega.{arith}
+use borrow.Author.Rules.{rules}
+use lib.ListN.{length, take, drop, length-set, take-append-drop}
+use lib.Seq.{drop-set-lt}
+use Rattle.theory_readings.specs.ways.Parser.{levels}
+use Rattle.reader.specs.Rows.{word_in}
+use Rattle.reader.proofs.RowTokens.{rows_in}
+use Rattle.reader.proofs.LevelLaws.{scan_step, scan-done, level-le, behind-le}
+use Rattle.reader.proofs.depths.fill.Given as goal
+
+abbrev pub invariant-loop-at : goal.invariant-loop-at
+invariant-loop-at l =
+    (l.at ≤ length l.cells / 49) × (l.opened ≤ l.at) × (length l.depths ≡ length l.initial.depths) × (drop (length l.cells / 49) l.depths ≡ drop (length l.cells / 49) l.initial.depths)
+    × (take l.at l.depths ++ levels l.opened (drop l.at (word_in l.profile l.cells)) ≡ levels 0 (word_in l.profile l.cells))
+
+abbrev pub decreases-loop-at : goal.decreases-loop-at
+decreases-loop-at l = length l.cells / 49 - l.at

@@ -1,0 +1,9 @@
+-- `grammar::first` meets its contract.
+use borrow.Author.Rules.{rules}
+use Rattle.reader.proofs.grammar.first.Goals as goal
+
+pub returns-in-Nowhere : goal.returns-in-Nowhere
+returns-in-Nowhere c = rw c.in-Nowhere.is
+
+pub returns-in-At : goal.returns-in-At
+returns-in-At c = rw c.in-At.is

@@ -1,0 +1,22 @@
+-- `grammar::ops` meets its contract: what is right from a row on is right from the first.
+use mathlib.Core.Path.{◌≡◌, refl}
+use Prim.Native.Nat.{◌≤◌, ◌<◌, ◌-◌, ◌/◌}
+use native.Mathlib.Omega.{arith}
+use borrow.Author.Rules.{rules}
+use lib.ListN.{length}
+use Rattle.theory_readings.specs.Readings.{all_rows}
+use Rattle.reader.specs.Rows.{word_in}
+use Rattle.reader.specs.KeptKinds.{KeptKinds}
+use Rattle.reader.specs.ways.Parts.{PartRead, Ahead, OpsRight}
+use Rattle.reader.specs.declared.token.RowKind.TheVariants.{End}
+use Rattle.reader.proofs.RowTokens.{rows_in, row_inside, stands, op-something}
+use Rattle.reader.proofs.PartLaws.{ops-more, ops-end, ops-no}
+use Rattle.reader.proofs.grammar.ops.Given as goal
+
+abbrev pub invariant-loop-at : goal.invariant-loop-at
+invariant-loop-at l =
+    (length l.kinds ≡ length l.initial.kinds) × KeptKinds l.profile l.cells l.table l.kinds × (l.row ≤ l.at) × (l.at ≤ length l.cells / 49)
+    × ((r : PartRead) → OpsRight (all_rows l.cells) (word_in l.profile l.cells) l.at l.flag r → OpsRight (all_rows l.cells) (word_in l.profile l.cells) l.row l.flag r)
+
+abbrev pub decreases-loop-at : goal.decreases-loop-at
+decreases-loop-at l = length l.cells / 49 - l.at

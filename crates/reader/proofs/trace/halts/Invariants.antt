@@ -1,0 +1,25 @@
+-- `trace::halts` meets its contract.
+use mathlib.Core.Path.{◌≡◌, ◌∙◌, refl}
+use Prim.Native.Nat.{◌≤◌, ◌-◌, ◌/◌}
+use native.Mathlib.Omega.{arith}
+use borrow.Author.Rules.{rules}
+use lib.ListN.{length}
+use Rattle.theory_readings.specs.Readings.{Block}
+use Rattle.theory_readings.specs.ways.Parser.{after_halt}
+use Rattle.reader.specs.Rows.{word_in}
+use Rattle.reader.specs.ways.FromRow.{rows_from}
+use Rattle.reader.specs.KeptKinds.{KeptKinds}
+use Rattle.reader.specs.ways.WholeWord.{HaltsRead}
+use Rattle.reader.specs.declared.token.RowKind.TheVariants.{Halt}
+use Rattle.reader.proofs.RowTokens.{rows_in, stands}
+use Rattle.reader.proofs.ReadLaws.{halt-more, halt-stop, halt-end}
+use borrow.Enum.Refused.{opened}
+use Rattle.reader.proofs.trace.halts.Given as goal
+
+abbrev pub invariant-loop-at : goal.invariant-loop-at
+invariant-loop-at l =
+    (length l.kinds ≡ length l.initial.kinds) × KeptKinds l.profile l.cells l.table l.kinds × (l.from ≤ l.at) × (l.at ≤ length l.cells / 49)
+    × ((b : Block) → after_halt b (rows_from (word_in l.profile l.cells) l.from) ≡ after_halt b (rows_from (word_in l.profile l.cells) l.at))
+
+abbrev pub decreases-loop-at : goal.decreases-loop-at
+decreases-loop-at l = length l.cells / 49 - l.at
