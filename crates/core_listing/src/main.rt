@@ -7,20 +7,19 @@ mod run;
 
 use listing::{write_listing, write_refusal};
 use reader::trace::read_trace;
+use std::io;
 
-fn main() {
+fn main(rt: HostRuntime) -> io::Result<()> {
     let profile = run::profile();
     let mut cells = [0u64; 490];
     let mut depths = [0u32; 10];
     let number = run::write_trace(profile, &mut cells);
     if number != 0 {
-        write_refusal(number);
-        return;
+        return write_refusal(&rt, number);
     }
     let read = read_trace(profile, &cells, &mut depths);
     if read.refusal != 0 {
-        write_refusal(read.refusal);
-        return;
+        return write_refusal(&rt, read.refusal);
     }
-    write_listing(profile, &cells);
+    write_listing(&rt, profile, &cells)
 }

@@ -15,7 +15,7 @@ use Rattle.field.proofs.CellLaws.{length-reduced}
 use Rattle.groups.specs.Answer as group
 use Rattle.rows.specs.declared.records.profile.Profile.{Profile}
 use Rattle.theory_readings.specs.Readings.{Block, Reading, Trace, all_rows}
-use Rattle.theory_readings.specs.Answers.{ReaderAnswer, accepted, refused, Right, refusal_of, row_of}
+use Rattle.theory_readings.specs.Answers.{ReaderAnswer, accepted, refused, refusal_of, row_of}
 use Rattle.theory_readings.specs.Tokens.{tokens_of}
 use Rattle.theory_readings.proofs.AcceptedTraces.{same-right, number-accepted, accepted-trace, trace-accepted}
 use Rattle.theory_readings.proofs.RightAnswer.{one_answer, exactly-one-answer}

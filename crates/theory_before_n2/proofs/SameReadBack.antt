@@ -1,7 +1,7 @@
 -- "Inputs that were answered get the same cells as before." (N2) What demand 3 says of counts is, for cells below p, what it said before; and a replay
 -- whose finisher was accepted before has it accepted now.
 use mathlib.Core.Path.{◌≡◌, ◌∙◌, sym}
-use mathlib.Core.Bool.{Bool, ◌||◌}
+use mathlib.Core.Bool.{◌||◌}
 use mathlib.Core.List.{List, [], ◌∷◌}
 use mathlib.Core.Logic.{◌↔◌}
 use Prim.Native.Nat.{ℕ, ◌+◌, ◌*◌, ◌/◌, ◌<◌}

@@ -10,7 +10,7 @@ use Rattle.theory_readings.specs.Tokens.{Token, repeat, end}
 use Rattle.theory_readings.specs.Readings.{Ops, Block, Passes, Row, numbered, spell_ops, spell, spell_passes, OnlyHalts, WordOf, depth_of, depth_of_passes, end_row_of}
 use Rattle.theory_readings.proofs.WordAnswers.{halts-only}
 use Rattle.theory_indexes.specs.Indexes.{start_row, end_of_passes, blocks_in, blocks_in_passes, index_of, index_of_passes, index}
-use Rattle.theory_indexes.specs.ways.IndexScan.{around, ended, index_scan, starts, Fits}
+use Rattle.theory_indexes.specs.ways.IndexScan.{around, index_scan, starts, Fits}
 use Rattle.theory_indexes.proofs.IndexLists.{index-append}
 
 -- THE INDEX

@@ -30,7 +30,6 @@ use Rattle.rows.specs.cycles.Cycles.{fresh, stored_in, cycle_with, left_after, t
 use Rattle.rows.specs.cycles.LentTally.{is_free, is_of, first_from, place_for, counted_at, cannot_count, counts_next, unless_full, tally_after, tallied_cycle}
 use Rattle.rows.specs.replay.Calls.{directory_entry, window, forest_in, forest_of, call_done, call_written, through, written, ending, next_state, next_positions, told, scanned, replayed, replayed_fragment}
 use Rattle.rows.specs.records.CallRecords.{names_no_kind, of32, condition_in, callee_in, info_in, resume_in, continuation_on, continuation_in, names_nothing, stored_in_record, system_in, stack_in, few_cells, many_cells, registers_in, finish_in, call_in, record_at}
-use Rattle.rows.specs.records.CallRecords as records
 use Rattle.rows.specs.records.Buffers.{rows_of, buffer_row, flat, on_rows, last_row, addr_of, low_bits, opcode_of, buffer_wrong, fewer_rows}
 use Rattle.rows.specs.passes.Passes.{with_sides, first_row, later_rows, fixed_up, built_of, flagged_end, body_ends, with_counts, any_without_body, multiplied, loop_without_body, inverted, halt_decoder, halt_stack, halt_row, halted, padding_row, padding_rows, padded, sum_of, any_above, not_full, fragments_wrong, height_wrong, refusal_all, last_built, all_passes}
 use Rattle.groups.specs.Answer.{first_of}

@@ -17,7 +17,6 @@ use Rattle.rows.specs.records.Forests.{Forest, node_id}
 use Rattle.rows.specs.records.Addresses.{Queues}
 use Rattle.rows.specs.cycles.Made.{Cursor}
 use Rattle.rows.specs.cycles.Cycles.{fresh, keeping}
-use Rattle.rows.specs.replay.Calls as replays
 use Rattle.rows.specs.records.CallRecords as records
 use Rattle.rows.specs.replay.Calls.{scanned, refusing, through, ending, replayed}
 use Rattle.rows.specs.records.CallRecords.{names_no_kind, of32, info_in, resume_in, respan_in, continuation_on, continuation_in, names_nothing, stored_in_record, system_in, few_cells, many_cells, registers_in, stores, finishes, finish_in, call_in, record_at}

@@ -12,7 +12,7 @@ use Rattle.field.specs.Cells.{cell_at, reduced}
 use Rattle.rows.specs.records.Profiles.{opcodes, is_one_of, two_equal, profile_wrong, lacks_bits}
 use Rattle.rows.specs.records.Buffers.{rows_of, flat, opcode_of, low_bits, buffer_wrong}
 use Rattle.groups.specs.Answer.{first_of}
-use Rattle.theory_readings.specs.Tokens.{split, call, syscall, dyncall, Kind, Token, start, repeat, end, halt, controls, token_beside, control_token, control_opcodes, is_op_opcode, op_token, all_bits, token_of, tokens_of}
+use Rattle.theory_readings.specs.Tokens.{split, syscall, Kind, Token, start, end, halt, controls, token_beside, control_token, control_opcodes, is_op_opcode, op_token, all_bits, token_of, tokens_of}
 use Rattle.theory_readings.specs.Readings.{Ops, Block, Passes, numbered, spell_ops, spell, depths_of_ops, depths_of, program_rows, depth_list, passes_in, end_row_of, asks_of, asks, all_rows, Trace}
 use Rattle.theory_readings.specs.Answers.{ReaderAnswer, accepted, refused, reader_refusal, row_asked}
 use Rattle.theory_readings.specs.ways.Parser.{give, passes_with, ops_with, close, enter, opening, at_repeat, step, parse, WordAnswer, word_of, no_word_at, too_deep_at, if_halt, after_halt, after_block, word_answer, read_word, is_met, first_wrong, answer_of_cells, answer_of_word, unless_bad_input, answer}

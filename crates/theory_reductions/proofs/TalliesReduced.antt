@@ -7,11 +7,11 @@ use Prim.Native.Nat.{ℕ, zero, suc, ◌+◌, ◌*◌, ◌%◌, ◌<◌}
 use native.Mathlib.Omega.{arith}
 use borrow.Author.Tests.{leb-false}
 use lib.Dec.{leb, eqb}
-use lib.ListN.{length, take, drop, get_or, set}
+use lib.ListN.{length, take, drop, set}
 use Rattle.field.specs.Modulus.{P}
 use Rattle.field.specs.Cells.{read, cell_at, reduced}
 use Rattle.field.proofs.CellLaws.{read_below, read_twice, length-reduced, reduced-append, reduced-twice, reduced-take, reduced-drop}
-use Rattle.groups.specs.Answer.{Answer, accepted, refused, and_then, pick, refusal}
+use Rattle.groups.specs.Answer.{Answer, accepted, refused, pick, refusal}
 use Rattle.groups.specs.Helpers.{read_registers}
 use Rattle.groups.specs.declared.helpers.OperationHelperRegisters.{OperationHelperRegisters}
 use Rattle.groups.proofs.OneGroup.{neither}
@@ -27,10 +27,10 @@ use Rattle.rows.specs.records.Buffers.{buffer_row}
 use Rattle.rows.specs.records.Cells.{row_cells, put_row}
 use Rattle.rows.specs.passes.Passes.{flagged_end}
 use Rattle.rows.specs.cycles.Scans.{scan_of}
-use Rattle.rows.specs.cycles.Cycles.{refuse_if, cycle_with, tracer_after, following_of, fragment_after}
+use Rattle.rows.specs.cycles.Cycles.{refuse_if, tracer_after, following_of, fragment_after}
 use Rattle.rows.specs.cycles.LentTally.{count_in, is_free, is_of, first_from, place_for, counted_at, cannot_count, counts_next, row_addr, with_tally, unless_full, tally_after, tallied_cycle}
 use Rattle.theory_reductions.specs.Inputs.{read_forest, read_queues, read_system_state, read_stack_state, read_tracer, read_places, tally_cell, read_tally}
-use Rattle.theory_reductions.specs.ways.ReadSteps.{read_row, read_made, read_answer}
+use Rattle.theory_reductions.specs.ways.ReadSteps.{read_row, read_made}
 use Rattle.theory_reductions.specs.Left.{Kept}
 use Rattle.theory_reductions.proofs.StatesRead.{Gives, if-gives}
 use Rattle.theory_reductions.proofs.MadeReduced.{Same}

@@ -20,7 +20,7 @@ use Rattle.rows.specs.records.Forests.{Forest, is_slot, node_id, node_of, node_a
 use Rattle.rows.specs.records.Profiles.{is_one_of}
 use Rattle.theory_readings.specs.Tokens.{OneChild, split, call, syscall, dyn, dyncall, Kind, controls, control_opcodes, is_op_opcode}
 use Rattle.theory_readings.proofs.Examples.{profile}
-use Rattle.theory_runs.specs.Happened.{Ending, Did, started, operated, respanned, repeated, finished, Cycle}
+use Rattle.theory_runs.specs.Happened.{Ending, started, operated, respanned, repeated, finished, Cycle}
 use Rattle.theory_runs.specs.ProperRuns.{Holds, HasOperations, HasOpcode, Child, ending_of, moved, InBlock, Run, RunPasses}
 
 -- a StartNode cycle says forest, node and addresses of a run that begins with it

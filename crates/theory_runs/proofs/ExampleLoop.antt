@@ -40,7 +40,7 @@ use Rattle.theory_readings.specs.Tokens.{controls, control_opcodes, is_op_opcode
 use Rattle.theory_readings.specs.Readings.{Ops, Block, Passes, depth_of, all_rows, Trace}
 use Rattle.theory_readings.proofs.Examples.{profile}
 use Rattle.theory_runs.specs.Calls.{Call, store, finish, Fragment, after, call_refusal, after_all, Accepted, AllAccepted, final_states, cells_of, counts_of, built_cells, OneSize}
-use Rattle.theory_runs.specs.LiveCalls.{LiveCall, call, lend, LiveFragment, plain_calls, plain_all, live_refusal, live_after, live_after_all, LiveAccepted, AllLiveAccepted, live_ends, live_finals, live_cells, NoneLent, LentAsZeros, live_after_each, FreshFragment, fresh_end, fresh_ends}
+use Rattle.theory_runs.specs.LiveCalls.{call, lend, LiveFragment, plain_calls, plain_all, live_refusal, live_after, live_after_all, LiveAccepted, AllLiveAccepted, live_ends, live_finals, live_cells, NoneLent, LentAsZeros, live_after_each, FreshFragment, fresh_end, fresh_ends}
 use Rattle.theory_runs.specs.LiveFinished.{live_by_five, live_by_finisher, LiveFivePass, LiveFinisherPasses}
 use Rattle.theory_runs.specs.TallyClaims.{tallied_at, tallies_at, crossing, crossings, over_fragments, rows_of_all, NoneEmpty, CountsSet}
 use Rattle.theory_runs.specs.Written.{decoders_of}

@@ -25,7 +25,7 @@ use Rattle.theory_readings.specs.Readings.{numbered, OnlyHalts, Halts, WordOf, d
 use Rattle.theory_runs.specs.Happened.{Cycle}
 use Rattle.theory_runs.specs.ProperRuns.{Run, tree_from, loop_starts}
 use Rattle.theory_runs.proofs.Looks.{none, flag, count, Seen, seen, mark_of, look, looks, looks-app, laid}
-use Rattle.theory_runs.proofs.Spelled.{tokens_in, at, run-spell}
+use Rattle.theory_runs.proofs.Spelled.{tokens_in, run-spell}
 use Rattle.theory_runs.proofs.Tallied.{hits, counted, shows, shown}
 use Rattle.theory_runs.proofs.Counted.{whole-counts, run-shown}
 use Rattle.theory_runs.proofs.PassLooks.{fixed-looks, multiplied-looks, inverted-looks, inverted-wide, inverted-length, AllHalting, halting-halt, halting-paddings, halting-wide, length-paddings}

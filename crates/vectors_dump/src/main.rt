@@ -6,42 +6,44 @@ mod given;
 mod read_list;
 mod write_list;
 
+use std::io;
+use std::rt::Runtime;
 use vectors_shared::text;
 use vectors_shared::text::report;
 
-fn writes(name: &[u8]) {
+fn writes(rt: &impl Runtime, name: &str) -> io::Result<()> {
     let mut numbers = [0u64; 8192];
-    text::load(name, &mut numbers);
+    text::load(rt, name, &mut numbers)?;
     let all = numbers[0];
-    report(name, write_list::right(&numbers, all), all);
+    report(rt, name, write_list::right(&numbers, all), all)
 }
 
-fn reads(name: &[u8]) {
+fn reads(rt: &impl Runtime, name: &str) -> io::Result<()> {
     let mut numbers = [0u64; 8192];
-    text::load(name, &mut numbers);
+    text::load(rt, name, &mut numbers)?;
     let all = numbers[0];
-    report(name, read_list::right(&numbers, all), all);
+    report(rt, name, read_list::right(&numbers, all), all)
 }
 
-fn main() {
-    writes(b"writes_a");
-    writes(b"writes_b");
-    writes(b"writes_c");
-    writes(b"writes_d");
-    writes(b"writes_e");
-    writes(b"writes_f");
-    writes(b"writes_g");
-    writes(b"writes_h");
-    writes(b"writes_i");
-    reads(b"reads_one_a");
-    reads(b"reads_one_b");
-    reads(b"reads_one_c");
-    reads(b"reads_two");
-    reads(b"reads_four_a");
-    reads(b"reads_four_b");
-    reads(b"reads_four_c");
-    reads(b"reads_four_d");
-    reads(b"reads_four_e");
-    reads(b"reads_four_f");
-    reads(b"reads_twelve");
+fn main(rt: HostRuntime) -> io::Result<()> {
+    writes(&rt, "writes_a")?;
+    writes(&rt, "writes_b")?;
+    writes(&rt, "writes_c")?;
+    writes(&rt, "writes_d")?;
+    writes(&rt, "writes_e")?;
+    writes(&rt, "writes_f")?;
+    writes(&rt, "writes_g")?;
+    writes(&rt, "writes_h")?;
+    writes(&rt, "writes_i")?;
+    reads(&rt, "reads_one_a")?;
+    reads(&rt, "reads_one_b")?;
+    reads(&rt, "reads_one_c")?;
+    reads(&rt, "reads_two")?;
+    reads(&rt, "reads_four_a")?;
+    reads(&rt, "reads_four_b")?;
+    reads(&rt, "reads_four_c")?;
+    reads(&rt, "reads_four_d")?;
+    reads(&rt, "reads_four_e")?;
+    reads(&rt, "reads_four_f")?;
+    reads(&rt, "reads_twelve")
 }

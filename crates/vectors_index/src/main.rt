@@ -6,29 +6,31 @@ mod build_list;
 mod given;
 mod lookup_list;
 
+use std::io;
+use std::rt::Runtime;
 use vectors_shared::text;
 use vectors_shared::text::report;
 
-fn builds(name: &[u8]) {
+fn builds(rt: &impl Runtime, name: &str) -> io::Result<()> {
     let mut numbers = [0u64; 8192];
-    text::load(name, &mut numbers);
+    text::load(rt, name, &mut numbers)?;
     let all = numbers[0];
-    report(name, build_list::right(&numbers, all), all);
+    report(rt, name, build_list::right(&numbers, all), all)
 }
 
-fn lookups(name: &[u8]) {
+fn lookups(rt: &impl Runtime, name: &str) -> io::Result<()> {
     let mut numbers = [0u64; 8192];
-    text::load(name, &mut numbers);
+    text::load(rt, name, &mut numbers)?;
     let all = numbers[0];
-    report(name, lookup_list::right(&numbers, all), all);
+    report(rt, name, lookup_list::right(&numbers, all), all)
 }
 
-fn main() {
-    builds(b"traces_a");
-    builds(b"traces_b");
-    builds(b"traces_c");
-    builds(b"cells");
-    builds(b"refused_a");
-    builds(b"refused_b");
-    lookups(b"lookups");
+fn main(rt: HostRuntime) -> io::Result<()> {
+    builds(&rt, "traces_a")?;
+    builds(&rt, "traces_b")?;
+    builds(&rt, "traces_c")?;
+    builds(&rt, "cells")?;
+    builds(&rt, "refused_a")?;
+    builds(&rt, "refused_b")?;
+    lookups(&rt, "lookups")
 }

@@ -6,34 +6,36 @@ mod given;
 mod large;
 mod list;
 
+use std::io;
+use std::rt::Runtime;
 use vectors_shared::text;
 use vectors_shared::text::report;
 
-fn vectors(name: &[u8]) {
+fn vectors(rt: &impl Runtime, name: &str) -> io::Result<()> {
     let mut numbers = [0u64; 8192];
-    text::load(name, &mut numbers);
+    text::load(rt, name, &mut numbers)?;
     let all = numbers[0];
-    report(name, list::right(&numbers, all), all);
+    report(rt, name, list::right(&numbers, all), all)
 }
 
-fn large_vector(name: &[u8]) {
+fn large_vector(rt: &impl Runtime, name: &str) -> io::Result<()> {
     let mut numbers = [0u64; 32];
-    text::load(name, &mut numbers);
-    report(name, large::right(&numbers), numbers[0]);
+    text::load(rt, name, &mut numbers)?;
+    report(rt, name, large::right(&numbers), numbers[0])
 }
 
-fn main() {
-    vectors(b"passes_a");
-    vectors(b"passes_b");
-    vectors(b"cells_a");
-    vectors(b"cells_b");
-    vectors(b"cells_c");
-    vectors(b"refusals_a");
-    vectors(b"refusals_b");
-    vectors(b"orders");
-    vectors(b"finished_a");
-    vectors(b"finished_b");
-    vectors(b"finished_c");
-    vectors(b"finished_d");
-    large_vector(b"large");
+fn main(rt: HostRuntime) -> io::Result<()> {
+    vectors(&rt, "passes_a")?;
+    vectors(&rt, "passes_b")?;
+    vectors(&rt, "cells_a")?;
+    vectors(&rt, "cells_b")?;
+    vectors(&rt, "cells_c")?;
+    vectors(&rt, "refusals_a")?;
+    vectors(&rt, "refusals_b")?;
+    vectors(&rt, "orders")?;
+    vectors(&rt, "finished_a")?;
+    vectors(&rt, "finished_b")?;
+    vectors(&rt, "finished_c")?;
+    vectors(&rt, "finished_d")?;
+    large_vector(&rt, "large")
 }

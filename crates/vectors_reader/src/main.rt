@@ -5,25 +5,27 @@
 mod given;
 mod list;
 
+use std::io;
+use std::rt::Runtime;
 use vectors_shared::text;
 use vectors_shared::text::report;
 
-fn vectors(name: &[u8]) {
+fn vectors(rt: &impl Runtime, name: &str) -> io::Result<()> {
     let mut numbers = [0u64; 8192];
-    text::load(name, &mut numbers);
+    text::load(rt, name, &mut numbers)?;
     let all = numbers[0];
-    report(name, list::right(&numbers, all), all);
+    report(rt, name, list::right(&numbers, all), all)
 }
 
-fn main() {
-    vectors(b"listing");
-    vectors(b"lengths");
-    vectors(b"cells_a");
-    vectors(b"cells_b");
-    vectors(b"faults_a");
-    vectors(b"faults_b");
-    vectors(b"faults_c");
-    vectors(b"deep");
-    vectors(b"random_a");
-    vectors(b"random_b");
+fn main(rt: HostRuntime) -> io::Result<()> {
+    vectors(&rt, "listing")?;
+    vectors(&rt, "lengths")?;
+    vectors(&rt, "cells_a")?;
+    vectors(&rt, "cells_b")?;
+    vectors(&rt, "faults_a")?;
+    vectors(&rt, "faults_b")?;
+    vectors(&rt, "faults_c")?;
+    vectors(&rt, "deep")?;
+    vectors(&rt, "random_a")?;
+    vectors(&rt, "random_b")
 }

@@ -9,47 +9,49 @@ mod parts;
 mod refused;
 mod states;
 
+use std::io;
+use std::rt::Runtime;
 use vectors_shared::text;
 use vectors_shared::text::report;
 
-fn runs(name: &[u8]) {
+fn runs(rt: &impl Runtime, name: &str) -> io::Result<()> {
     let mut numbers = [0u64; 8192];
-    text::load(name, &mut numbers);
-    report(name, list::right(&numbers), numbers[0]);
+    text::load(rt, name, &mut numbers)?;
+    report(rt, name, list::right(&numbers), numbers[0])
 }
 
-fn refused_records(name: &[u8]) {
+fn refused_records(rt: &impl Runtime, name: &str) -> io::Result<()> {
     let mut numbers = [0u64; 8192];
-    text::load(name, &mut numbers);
+    text::load(rt, name, &mut numbers)?;
     let right = refused::right(&mut numbers);
-    report(name, right, numbers[0]);
+    report(rt, name, right, numbers[0])
 }
 
-fn address_states(name: &[u8]) {
+fn address_states(rt: &impl Runtime, name: &str) -> io::Result<()> {
     let mut numbers = [0u64; 8192];
-    text::load(name, &mut numbers);
+    text::load(rt, name, &mut numbers)?;
     let right = states::right(&mut numbers);
-    report(name, right, numbers[0]);
+    report(rt, name, right, numbers[0])
 }
 
-fn main() {
-    runs(b"runs_01");
-    runs(b"runs_02");
-    runs(b"runs_03");
-    runs(b"runs_04");
-    runs(b"runs_05");
-    runs(b"runs_06");
-    runs(b"runs_07");
-    runs(b"runs_08");
-    runs(b"runs_09");
-    runs(b"runs_10");
-    runs(b"runs_11");
-    runs(b"runs_12");
-    runs(b"cells_01");
-    runs(b"cells_02");
-    runs(b"cells_03");
-    runs(b"cells_04");
-    refused_records(b"refused");
-    refused_records(b"syscall");
-    address_states(b"states");
+fn main(rt: HostRuntime) -> io::Result<()> {
+    runs(&rt, "runs_01")?;
+    runs(&rt, "runs_02")?;
+    runs(&rt, "runs_03")?;
+    runs(&rt, "runs_04")?;
+    runs(&rt, "runs_05")?;
+    runs(&rt, "runs_06")?;
+    runs(&rt, "runs_07")?;
+    runs(&rt, "runs_08")?;
+    runs(&rt, "runs_09")?;
+    runs(&rt, "runs_10")?;
+    runs(&rt, "runs_11")?;
+    runs(&rt, "runs_12")?;
+    runs(&rt, "cells_01")?;
+    runs(&rt, "cells_02")?;
+    runs(&rt, "cells_03")?;
+    runs(&rt, "cells_04")?;
+    refused_records(&rt, "refused")?;
+    refused_records(&rt, "syscall")?;
+    address_states(&rt, "states")
 }

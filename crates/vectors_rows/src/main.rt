@@ -6,34 +6,36 @@ mod given;
 mod list;
 mod told;
 
+use std::io;
+use std::rt::Runtime;
 use vectors_shared::text;
 use vectors_shared::text::report;
 
-fn vectors(name: &[u8]) {
+fn vectors(rt: &impl Runtime, name: &str) -> io::Result<()> {
     let mut numbers = [0u64; 8192];
-    text::load(name, &mut numbers);
+    text::load(rt, name, &mut numbers)?;
     let all = numbers[0];
-    report(name, list::right(&numbers, all), all);
+    report(rt, name, list::right(&numbers, all), all)
 }
 
-fn main() {
-    vectors(b"rows_a");
-    vectors(b"rows_b");
-    vectors(b"operations");
-    vectors(b"following");
-    vectors(b"cells_a");
-    vectors(b"cells_b");
-    vectors(b"cells_c");
-    vectors(b"tracers_a");
-    vectors(b"tracers_b");
-    vectors(b"inputs");
-    vectors(b"refusals");
-    vectors(b"tallies_a");
-    vectors(b"tallies_b");
-    vectors(b"orders");
-    vectors(b"runs_a");
-    vectors(b"runs_b");
-    vectors(b"mixed_a");
-    vectors(b"mixed_b");
-    vectors(b"mixed_c");
+fn main(rt: HostRuntime) -> io::Result<()> {
+    vectors(&rt, "rows_a")?;
+    vectors(&rt, "rows_b")?;
+    vectors(&rt, "operations")?;
+    vectors(&rt, "following")?;
+    vectors(&rt, "cells_a")?;
+    vectors(&rt, "cells_b")?;
+    vectors(&rt, "cells_c")?;
+    vectors(&rt, "tracers_a")?;
+    vectors(&rt, "tracers_b")?;
+    vectors(&rt, "inputs")?;
+    vectors(&rt, "refusals")?;
+    vectors(&rt, "tallies_a")?;
+    vectors(&rt, "tallies_b")?;
+    vectors(&rt, "orders")?;
+    vectors(&rt, "runs_a")?;
+    vectors(&rt, "runs_b")?;
+    vectors(&rt, "mixed_a")?;
+    vectors(&rt, "mixed_b")?;
+    vectors(&rt, "mixed_c")
 }

@@ -2,6 +2,8 @@
 ghost use Rattle.std.specs.Prelude.{◌≤◌, ◌<◌};
 
 use field::cell::number_at;
+use std::rt::Files;
+use std::{fs, io};
 
 fn wide(b: u8) -> u64 {
     b as u64
@@ -51,17 +53,15 @@ pub fn numbers(text: &[u8], out: &mut [u64]) -> usize {
     count
 }
 
-// Puts the numbers of a file into `out`, and answers how many there are; 0 where the file cannot be read.
-pub fn load(name: &[u8], out: &mut [u64]) -> usize {
-    let mut text = io::large_buffer();
-    let fd = os::open_read(name);
-    if fd < 0 {
-        os::fail(name);
-        return 0;
+// Puts the numbers of a file into `out`, and answers how many there are; 0 where the file cannot be read, which a line on standard error says.
+pub fn load(rt: &(impl Files + Alloc + Eprint), name: &str, out: &mut [u64]) -> io::Result<usize> {
+    match fs::read(rt, name) {
+        Ok(text) => Ok(numbers(&text, out)),
+        Err(error) => {
+            eprintln!(rt; "{name}: {error}")?;
+            Ok(0)
+        }
     }
-    let n = io::read_full(fd, &mut text);
-    libc::close(fd);
-    numbers(&text[..n], out)
 }
 
 // 1 where the test holds, else 0.
@@ -112,11 +112,6 @@ pub struct Step {
 }
 
 // Writes how many vectors of a list came out right.
-pub fn report(name: &[u8], right: u64, all: u64) {
-    io::write_all(libc::STDOUT_FILENO, name);
-    io::write_all(libc::STDOUT_FILENO, b": ");
-    io::print_decimal(libc::STDOUT_FILENO, right);
-    io::write_all(libc::STDOUT_FILENO, b" of ");
-    io::print_decimal(libc::STDOUT_FILENO, all);
-    io::write_all(libc::STDOUT_FILENO, b" right\n");
+pub fn report(rt: &impl Print, name: &str, right: u64, all: u64) -> io::Result<()> {
+    println!(rt; "{name}: {right} of {all} right")
 }

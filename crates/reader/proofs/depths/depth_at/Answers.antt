@@ -1,5 +1,4 @@
 -- `depths::depth_at` meets its contract.
-use borrow.Author.Rules.{rules}
 use borrow.Enum.Refused.{opened}
 use Rattle.reader.proofs.LevelLaws.{level-start, level-same}
 use Rattle.reader.proofs.depths.depth_at.Goals as goal

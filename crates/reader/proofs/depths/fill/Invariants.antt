@@ -1,15 +1,10 @@
 -- `depths::fill` meets its contract.
-use mathlib.Core.Path.{◌≡◌, ◌∙◌, refl}
+use mathlib.Core.Path.{◌≡◌}
 use mathlib.Core.List.{◌++◌}
-use Prim.Native.Nat.{◌≤◌, ◌<◌, ◌-◌, ◌/◌}
-use native.Mathlib.Omega.{arith}
-use borrow.Author.Rules.{rules}
-use lib.ListN.{length, take, drop, length-set, take-append-drop}
-use lib.Seq.{drop-set-lt}
+use Prim.Native.Nat.{◌≤◌, ◌-◌, ◌/◌}
+use lib.ListN.{length, take, drop}
 use Rattle.theory_readings.specs.ways.Parser.{levels}
 use Rattle.reader.specs.Rows.{word_in}
-use Rattle.reader.proofs.RowTokens.{rows_in}
-use Rattle.reader.proofs.LevelLaws.{scan_step, scan-done, level-le, behind-le}
 use Rattle.reader.proofs.depths.fill.Given as goal
 
 abbrev pub invariant-loop-at : goal.invariant-loop-at

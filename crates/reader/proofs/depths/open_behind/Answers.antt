@@ -1,6 +1,5 @@
 -- `depths::open_behind` meets its contract.
 use native.Mathlib.Omega.{arith}
-use borrow.Author.Rules.{rules}
 use Rattle.reader.specs.ways.Levels.{level_behind}
 use Rattle.reader.proofs.LevelLaws.{behind-same}
 use borrow.Enum.Refused.{opened}

@@ -1,18 +1,12 @@
 -- `grammar::block` and `grammar::passes` meet their contracts: the rows left fall from call to call.
-use mathlib.Core.Path.{◌≡◌, refl, ap}
-use mathlib.Core.Option.{none}
-use Prim.Native.Nat.{ℕ, ◌<◌, ◌≤◌, ◌+◌, ◌-◌, ◌*◌, ◌/◌}
+use mathlib.Core.Path.{refl, ap}
 use native.Mathlib.Omega.{arith}
 use borrow.Author.Rules.{rules}
 use borrow.Enum.Refused.{opened}
-use lib.ListN.{length}
-use Rattle.theory_readings.specs.Readings.{all_rows}
-use Rattle.reader.specs.Rows.{word_in}
-use Rattle.reader.specs.KeptKinds.{KeptKinds}
-use Rattle.reader.specs.ways.Parts.{PartRead, told_wrong, told_part, Ahead}
+use Rattle.reader.specs.ways.Parts.{told_part, Ahead}
 use Rattle.reader.specs.declared.token.RowKind.TheVariants.{Span, Join, One, Loop, Repeat, End}
 use Rattle.reader.proofs.RowTokens.{rows_in, Stands, stands}
-use Rattle.reader.proofs.PartLaws.{ahead-done, ahead-from, deep-ahead, closed-ahead, at_left, block-deep, block_no, block-span, one-refused, one-closed, first-refused, second-refused, join-closed, block-loop, PassesFrom, from-none, body_refused, pass-last, pass-more, pass-no}
+use Rattle.reader.proofs.PartLaws.{ahead-done, ahead-from, deep-ahead, closed-ahead, at_left, block-deep, block_no, block-span, one-refused, one-closed, first-refused, second-refused, join-closed, block-loop, from-none, body_refused, pass-last, pass-more, pass-no}
 use Rattle.reader.proofs.grammar.+block_passes.Goals as goal
 
 pub block-note_kind-kind-requires : goal.block-note_kind-kind-requires

@@ -1,7 +1,6 @@
 -- `grammar::close` meets its contract.
 use mathlib.Core.Path.{◌∙◌, sym}
 use native.Mathlib.Omega.{arith}
-use borrow.Author.Rules.{rules}
 use Rattle.reader.specs.declared.token.RowKind.TheVariants.{End}
 use Rattle.reader.proofs.RowTokens.{stands}
 use Rattle.reader.proofs.PartLaws.{closed-end, closed-no}

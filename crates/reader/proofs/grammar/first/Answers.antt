@@ -1,5 +1,4 @@
 -- `grammar::first` meets its contract.
-use borrow.Author.Rules.{rules}
 use Rattle.reader.proofs.grammar.first.Goals as goal
 
 pub returns-in-Nowhere : goal.returns-in-Nowhere

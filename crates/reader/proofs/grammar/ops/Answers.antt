@@ -1,13 +1,11 @@
 -- `grammar::ops` meets its contract: what is right from a row on is right from the first.
-use mathlib.Core.Path.{◌≡◌, refl}
-use Prim.Native.Nat.{◌≤◌, ◌<◌, ◌-◌, ◌/◌}
+use mathlib.Core.Path.{refl}
+use Prim.Native.Nat.{◌<◌, ◌/◌}
 use native.Mathlib.Omega.{arith}
 use borrow.Author.Rules.{rules}
 use lib.ListN.{length}
-use Rattle.theory_readings.specs.Readings.{all_rows}
 use Rattle.reader.specs.Rows.{word_in}
-use Rattle.reader.specs.KeptKinds.{KeptKinds}
-use Rattle.reader.specs.ways.Parts.{PartRead, Ahead, OpsRight}
+use Rattle.reader.specs.ways.Parts.{Ahead}
 use Rattle.reader.specs.declared.token.RowKind.TheVariants.{End}
 use Rattle.reader.proofs.RowTokens.{rows_in, row_inside, stands, op-something}
 use Rattle.reader.proofs.PartLaws.{ops-more, ops-end, ops-no}

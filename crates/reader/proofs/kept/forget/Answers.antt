@@ -1,9 +1,9 @@
 -- `kept::forget` meets its contract.
-use mathlib.Core.Path.{◌≡◌, ◌∙◌, refl}
-use Prim.Native.Nat.{ℕ, ◌-◌, ◌≤◌, ◌<◌}
+use mathlib.Core.Path.{◌∙◌, refl}
+use Prim.Native.Nat.{◌<◌}
 use native.Mathlib.Omega.{arith}
 use borrow.Author.Rules.{rules}
-use lib.ListN.{length, get_or, length-set}
+use lib.ListN.{length, length-set}
 use Rattle.reader.specs.KeptKinds.{unknown_kind}
 use Rattle.reader.proofs.KindLaws.{forget-more}
 use Rattle.reader.proofs.kept.forget.Goals as goal

@@ -1,11 +1,8 @@
 -- `kept::forget` meets its contract.
-use mathlib.Core.Path.{◌≡◌, ◌∙◌, refl}
+use mathlib.Core.Path.{◌≡◌}
 use Prim.Native.Nat.{ℕ, ◌-◌, ◌≤◌, ◌<◌}
-use native.Mathlib.Omega.{arith}
-use borrow.Author.Rules.{rules}
-use lib.ListN.{length, get_or, length-set}
+use lib.ListN.{length, get_or}
 use Rattle.reader.specs.KeptKinds.{unknown_kind}
-use Rattle.reader.proofs.KindLaws.{forget-more}
 use Rattle.reader.proofs.kept.forget.Given as goal
 
 abbrev pub invariant-loop-row : goal.invariant-loop-row

@@ -1,5 +1,4 @@
 -- `kept::kind_of_code` meets its contract.
-use borrow.Author.Rules.{rules}
 use borrow.Author.Tests.{lt-ltb, le-ltb}
 use Rattle.reader.specs.KeptKinds.{kind_of_code}
 use Rattle.reader.proofs.kept.kind_of_code.Goals as goal

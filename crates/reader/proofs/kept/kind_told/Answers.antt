@@ -1,6 +1,5 @@
 -- `kept::kind_told` meets its contract.
 use mathlib.Core.Path.{◌∙◌}
-use borrow.Author.Rules.{rules}
 use Rattle.reader.proofs.kept.kind_told.Goals as goal
 
 pub returns-then-number-lt-UNKNOWN : goal.returns-then-number-lt-UNKNOWN

@@ -1,7 +1,5 @@
 -- `kept::note_kind` meets its contract.
 use mathlib.Core.Path.{◌∙◌, ap}
-use mathlib.Core.Logic.{⊎_elim}
-use borrow.Author.Rules.{rules}
 use lib.ListN.{length, length-set}
 use Rattle.reader.proofs.KindLaws.{kinds-more}
 use Rattle.reader.proofs.kept.note_kind.Goals as goal

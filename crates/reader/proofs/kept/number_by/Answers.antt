@@ -2,8 +2,6 @@
 use native.Mathlib.Omega.{arith}
 use borrow.Author.Rules.{rules}
 use Rattle.reader.proofs.KindLaws.{RowBits, row-bits, told-by-table, told_none}
-use Rattle.reader.proofs.kept.number_by.Reads as reads
-use Rattle.reader.proofs.kept.number_by.Lts as lts
 use Rattle.reader.proofs.kept.number_by.Goals as goal
 
 pub returns-then-cells-row : goal.returns-then-cells-row

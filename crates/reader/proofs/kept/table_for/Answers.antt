@@ -1,5 +1,4 @@
 -- `kept::table_for` meets its contract.
-use borrow.Author.Rules.{rules}
 use Rattle.reader.proofs.KindLaws.{table-unknown}
 use Rattle.reader.proofs.kept.table_for.Goals as goal
 

@@ -1,8 +1,7 @@
 -- `kept::table_of` meets its contract.
 use mathlib.Core.Path.{◌∙◌}
-use Prim.Native.Nat.{◌-◌}
 use borrow.Author.Rules.{rules}
-use Rattle.reader.proofs.KindLaws.{TableTo, table_none, table_more, table-all}
+use Rattle.reader.proofs.KindLaws.{table_none, table_more, table-all}
 use Rattle.reader.proofs.kept.table_of.Goals as goal
 
 pub loop-code-init : goal.loop-code-init

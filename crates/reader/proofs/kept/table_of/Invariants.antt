@@ -1,8 +1,6 @@
 -- `kept::table_of` meets its contract.
-use mathlib.Core.Path.{◌∙◌}
 use Prim.Native.Nat.{◌-◌}
-use borrow.Author.Rules.{rules}
-use Rattle.reader.proofs.KindLaws.{TableTo, table_none, table_more, table-all}
+use Rattle.reader.proofs.KindLaws.{TableTo}
 use Rattle.reader.proofs.kept.table_of.Given as goal
 
 abbrev pub invariant-loop-code : goal.invariant-loop-code

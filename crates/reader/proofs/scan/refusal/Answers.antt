@@ -1,5 +1,4 @@
 -- `scan::refusal` meets its contract: each way out by the tests before it.
-use borrow.Author.Rules.{rules}
 use Rattle.rows.specs.records.Buffers.{buffer_wrong}
 use Rattle.groups.specs.Answer.{first_of}
 use Rattle.theory_readings.specs.Answers.{reader_refusal}

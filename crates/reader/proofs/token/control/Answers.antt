@@ -1,5 +1,4 @@
 -- `token::control` meets its contract: each way out by the tests before it.
-use borrow.Author.Rules.{rules}
 use borrow.Author.Tests.{eq-eqb, ne_eqb}
 use Rattle.theory_readings.specs.Tokens.{controls, token_beside, control_token}
 use Rattle.reader.specs.Rows.{row_kind_of}

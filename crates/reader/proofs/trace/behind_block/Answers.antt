@@ -1,6 +1,5 @@
 -- `trace::behind_block` meets its contract.
 use mathlib.Core.Path.{sym, ap}
-use borrow.Author.Rules.{rules}
 use Rattle.reader.specs.ways.WholeWord.{BehindRead}
 use Rattle.reader.specs.ways.Parts.{told_wrong}
 use Rattle.reader.proofs.RowTokens.{rows_in}

@@ -1,14 +1,8 @@
 -- `trace::halts` meets its contract.
-use mathlib.Core.Path.{◌≡◌, ◌∙◌, refl}
-use Prim.Native.Nat.{◌≤◌, ◌-◌, ◌/◌}
+use mathlib.Core.Path.{◌∙◌, refl}
 use native.Mathlib.Omega.{arith}
 use borrow.Author.Rules.{rules}
-use lib.ListN.{length}
-use Rattle.theory_readings.specs.Readings.{Block}
-use Rattle.theory_readings.specs.ways.Parser.{after_halt}
 use Rattle.reader.specs.Rows.{word_in}
-use Rattle.reader.specs.ways.FromRow.{rows_from}
-use Rattle.reader.specs.KeptKinds.{KeptKinds}
 use Rattle.reader.specs.ways.WholeWord.{HaltsRead}
 use Rattle.reader.specs.declared.token.RowKind.TheVariants.{Halt}
 use Rattle.reader.proofs.RowTokens.{rows_in, stands}

@@ -1,19 +1,12 @@
 -- `trace::halts` meets its contract.
-use mathlib.Core.Path.{◌≡◌, ◌∙◌, refl}
+use mathlib.Core.Path.{◌≡◌}
 use Prim.Native.Nat.{◌≤◌, ◌-◌, ◌/◌}
-use native.Mathlib.Omega.{arith}
-use borrow.Author.Rules.{rules}
 use lib.ListN.{length}
 use Rattle.theory_readings.specs.Readings.{Block}
 use Rattle.theory_readings.specs.ways.Parser.{after_halt}
 use Rattle.reader.specs.Rows.{word_in}
 use Rattle.reader.specs.ways.FromRow.{rows_from}
 use Rattle.reader.specs.KeptKinds.{KeptKinds}
-use Rattle.reader.specs.ways.WholeWord.{HaltsRead}
-use Rattle.reader.specs.declared.token.RowKind.TheVariants.{Halt}
-use Rattle.reader.proofs.RowTokens.{rows_in, stands}
-use Rattle.reader.proofs.ReadLaws.{halt-more, halt-stop, halt-end}
-use borrow.Enum.Refused.{opened}
 use Rattle.reader.proofs.trace.halts.Given as goal
 
 abbrev pub invariant-loop-at : goal.invariant-loop-at

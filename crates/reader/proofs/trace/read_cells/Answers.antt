@@ -1,7 +1,6 @@
 -- `trace::read_cells` meets its contract.
 use mathlib.Core.Path.{ap}
 use native.Mathlib.Omega.{arith}
-use borrow.Author.Rules.{rules}
 use Rattle.reader.specs.ways.Parts.{told_part}
 use Rattle.reader.proofs.RowTokens.{rows_in}
 use Rattle.reader.proofs.PartLaws.{ahead-done}

@@ -1,5 +1,4 @@
 -- `trace::read_few` meets its contract.
-use borrow.Author.Rules.{rules}
 use Rattle.reader.proofs.KindLaws.{few_rows, kinds-none}
 use Rattle.reader.proofs.trace.read_few.Goals as goal
 

@@ -1,5 +1,4 @@
 -- `trace::read_long` meets its contract.
-use borrow.Author.Rules.{rules}
 use Rattle.reader.proofs.KindLaws.{long_list, kinds-none}
 use Rattle.reader.proofs.trace.read_long.Goals as goal
 

@@ -1,5 +1,4 @@
 -- `trace::read_short` meets its contract.
-use borrow.Author.Rules.{rules}
 use Rattle.reader.proofs.KindLaws.{short_list, kinds-none}
 use Rattle.reader.proofs.trace.read_short.Goals as goal
 

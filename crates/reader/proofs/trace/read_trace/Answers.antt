@@ -1,5 +1,4 @@
 -- `trace::read_trace` meets its contract.
-use borrow.Author.Rules.{rules}
 use Rattle.reader.proofs.trace.read_trace.Goals as goal
 
 pub returns-then-cells-le-FEW_ROWS : goal.returns-then-cells-le-FEW_ROWS

@@ -1,5 +1,4 @@
 -- `trace::read_with` meets its contract.
-use borrow.Author.Rules.{rules}
 use Rattle.reader.proofs.ReadLaws.{few-rows, enough, kept-depths, filled-depths}
 use Rattle.reader.proofs.trace.read_with.Goals as goal
 

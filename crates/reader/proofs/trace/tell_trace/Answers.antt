@@ -1,5 +1,4 @@
 -- `trace::tell_trace` meets its contract.
-use borrow.Author.Rules.{rules}
 use Rattle.reader.proofs.ReadLaws.{bad-read, good-read}
 use Rattle.reader.proofs.trace.tell_trace.Goals as goal
 

@@ -1,5 +1,4 @@
 -- `trace::validate` meets its contract.
-use borrow.Author.Rules.{rules}
 use Rattle.reader.proofs.KindLaws.{kinds-none}
 use Rattle.reader.proofs.trace.validate.Goals as goal
 

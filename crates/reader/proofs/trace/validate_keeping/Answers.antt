@@ -1,5 +1,4 @@
 -- `trace::validate_keeping` meets its contract.
-use borrow.Author.Rules.{rules}
 use Rattle.reader.proofs.KindLaws.{kinds-unknown}
 use Rattle.reader.proofs.trace.validate_keeping.Goals as goal
 

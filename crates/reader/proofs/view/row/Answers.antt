@@ -2,7 +2,6 @@
 use Prim.Native.Nat.{◌*◌, ◌%◌}
 use native.Mathlib.Nat.{add-sub_cancel_left, zero-add}
 use native.Mathlib.Omega.{arith}
-use borrow.Author.Rules.{rules}
 use borrow.Author.Tests.{le-leb, lt-leb, lt-ltb, le-ltb}
 use lib.ListN.{length}
 use Rattle.rows.specs.records.Buffers.{buffer_wrong}
