@@ -28,14 +28,14 @@ CLAIMS = {
     "crates/field/proofs/Entries.antt": ["entry-inverse"],
     "crates/groups/proofs/RoundUp.antt": ["round-up"],
     "crates/groups/proofs/OneGroup.antt": ["lies", "found", "only"],
-    "crates/groups/proofs/FollowingOps.antt": ["fold-end", "next-in-group", "next-in-later", "told-found"],
+    "crates/groups/proofs/FollowingOps.antt": ["fold_end", "next-in-group", "next-in-later", "told-found"],
     "crates/theory_readings/proofs/ReducedCells.antt": ["trace-reduced"],
     "crates/reader/proofs/ReaderExact.antt": ["reads-reduced"],
     "crates/theory_reductions/proofs/CyclesReduced.antt": ["fresh-reduced", "storing-reduced", "final-reduced"],
     "crates/theory_reductions/proofs/TalliesReduced.antt": [],
     "crates/theory_reductions/proofs/ReplaysReduced.antt": ["replay-reduced", "replay-fragment-reduced"],
     "crates/theory_reductions/proofs/PassesReduced.antt": [],
-    "crates/theory_reductions/proofs/PassesKept.antt": ["left1-kept", "left2-kept", "left3-kept", "left4-kept", "left5-kept", "leftAll-kept"],
+    "crates/theory_reductions/proofs/PassesKept.antt": ["left1-kept", "left2-kept", "left3-kept", "left4-kept", "left5-kept", "left_all-kept"],
     "crates/theory_reductions/proofs/WrittenBelow.antt": ["replay-kept"],
     "crates/theory_runs/proofs/StartsReduced.antt": ["starts-read"],
     "crates/theory_runs/proofs/WrittenReduced.antt": [],
@@ -43,7 +43,7 @@ CLAIMS = {
     "crates/theory_runs/proofs/NoSyscalls.antt": ["start-refused"],
     "crates/theory_read_back/proofs/ReadBackTheorems.antt": [],
     "crates/index/proofs/IndexExact.antt": [],
-    "crates/dump/proofs/Waveforms.antt": ["buffers", "writer-gives", "one-text", "one-answer", "gets-29", "gets-11", "reads-given", "come-back"],
+    "crates/dump/proofs/Waveforms.antt": ["buffers", "writer-gives", "one-text", "one_answer", "gets-29", "gets-11", "reads-given", "come-back"],
 }
 
 MODIFIERS = r"(?:(?:unfoldable|abbrev|opaque|pub(?:\(crate\))?)\s+)*"
@@ -123,7 +123,7 @@ def antt_definitions(path):
 
 
 def tokens(text):
-    return re.findall(r"[^\s(){}\[\];,«»⌜⌝]+", text)
+    return re.findall(r"[^\s(){}\[\];,«»]+", text)
 
 
 def bound_in(definition, scope):
@@ -148,11 +148,11 @@ def is_case(target, token):
 # ---- the files of code
 
 def header_end(text, start):
-    """Where the body of the function at `start` begins: the first brace that opens no clause of its contract."""
+    """Where the body of the function at `start` begins: the first brace that opens no clause of its contract (`ensures {`, `requires name {`)."""
     depth, i = 0, start
     while True:
         if text[i] == "{":
-            if depth == 0 and not re.search(r"\b(ensures|requires)\s*$", text[start:i]):
+            if depth == 0 and not re.search(r"\b(?:(?:ensures|requires)\*?(?:\s+[\w'-]+)?|ghost\s+\w+:)\s*$", text[start:i]):
                 return i
             depth += 1
         elif text[i] == "}":
@@ -183,7 +183,7 @@ def public_functions(path):
     text = re.sub(r"//.*", "", path.read_text())
     for m in re.finditer(r'^\s*pub (?:extern "C" )?fn ', text, re.M):
         header = re.sub(r"<'[^<>]*>", " ", text[m.start():header_end(text, m.end())])  # without lifetimes
-        yield header, set(re.findall(r"(\w+): ", re.sub(r"⌜.*?⌝", "", header, flags=re.S)))
+        yield header, set(re.findall(r"(\w+): ", header))
 
 
 def public_files(crate):
@@ -214,10 +214,13 @@ class Sources:
                 return d
         return None
 
+    def is_own(self, crate):
+        return (ROOT / "crates" / crate).is_dir()
+
     def module(self, name):
         """The file of a module's name, and the names behind the file's; nothing for a module of the toolchain."""
-        m = re.match(r"Rattle·([^.·]+)(?:·\w+)?\.(.*)", name)
-        if not m:
+        m = re.match(r"Rattle\.(\w+)\.(.*)", name)
+        if not m or not self.is_own(m[1]):
             return None, []
         parts = m[2].split(".")
         folder, suffix = ROOT / "crates" / m[1], ".antt"
@@ -233,7 +236,8 @@ class Sources:
         path, rest = self.module(module)
         if path:
             return self.named(path, rest[0] if rest else name)
-        return None if module.startswith("Rattle·") else (module, name)
+        m = re.match(r"Rattle\.(\w+)", module)
+        return None if m and self.is_own(m[1]) else (module, name)
 
     def scope(self, path):
         """What each name means in a file: a definition, a name of the toolchain, or a module by another name."""
@@ -250,12 +254,13 @@ class Sources:
             scope[other] = module
         if path.suffix == ".rt":
             crate = path.relative_to(ROOT / "crates").parts[0]
-            for used in re.findall(r"^(?:pub )?use ([\w:]+);", text, re.M):
-                parts = used.split("::")
-                file = (ROOT / "crates" / (crate if parts[0] == "crate" else parts[0]) / "src").joinpath(*parts[1:-1]).with_suffix(".rt")
-                target = self.named(file, parts[-1]) if file.is_file() else None
-                if target:
-                    scope[parts[-1]] = target
+            for module, names in re.findall(r"^(?:pub )?use ([\w:]+)::(\w+|\{[^{}]*\});", text, re.M):
+                parts = module.split("::")
+                file = (ROOT / "crates" / (crate if parts[0] == "crate" else parts[0]) / "src").joinpath(*parts[1:]).with_suffix(".rt")
+                for name in re.findall(r"\w+", names) if file.is_file() else []:
+                    target = self.named(file, name)
+                    if target:
+                        scope[name] = target
         for d in self.file(path):
             scope.update({case: d for case in d.cases})
             scope[d.name] = d
@@ -265,7 +270,7 @@ class Sources:
     def names(self, path, text, bound):
         """The definitions that a text of a file names."""
         scope, found = self.scope(path), []
-        seen = tokens(re.sub(r"[\w′-]+ = (?=[^=])", " ", text) if path.suffix == ".antt" and "record {" in text else text)
+        seen = tokens(re.sub(r"[\w'-]+ = (?=[^=])", " ", text) if path.suffix == ".antt" and "record {" in text else text)
         for token in seen:
             head, _, rest = token.partition(".")
             if head in bound or not head:
@@ -278,7 +283,7 @@ class Sources:
             elif target:
                 self.library.setdefault(target[0], set()).add(target[1])
         for name, target in scope.items():  # operators
-            if "_" in name and isinstance(target, tuple) and any(part in seen for part in name.split("_") if part):
+            if "◌" in name and isinstance(target, tuple) and any(part in seen for part in name.split("◌") if part):
                 self.library.setdefault(target[0], set()).add(target[1])
         return found
 
@@ -382,7 +387,7 @@ def outside(sources, crates, reached):
 
 
 def written():
-    crates = re.findall(r"^(\w+):", (ROOT / "crates.txt").read_text(), re.M)
+    crates = re.findall(r"^(\w+)(?: [^:#]*)?:", (ROOT / "crates.txt").read_text(), re.M)
     unknown = [c for c in ORDER + LIBRARIES if c not in crates] + [c for c in CLAIMS if not (ROOT / c).is_file()]
     if unknown:
         sys.exit(f"there is no {', '.join(unknown)}")
@@ -401,7 +406,7 @@ def written():
         "the claims are document 01's cases (`theory_cases`), the comparison with before change request N2 (`theory_before_n2`, with its premise `Narrow32`), and the further",
         "laws that docs/theorems lists, which rest on definitions of their own as well.",
         "",
-        "A function counts as public that only another crate of the library calls. Of `reader` these are `validate_keeping` and `kept_kind`, for `index`: `opKind` and",
+        "A function counts as public that only another crate of the library calls. Of `reader` these are `validate_keeping` and `kept_kind`, for `index`: `op_kind` and",
         "`specs/KeptKinds.antt` stand here for their contracts alone, and those of `read_trace`, `row` and `build_index` do not rest on them.",
         "",
         "Claims:",

@@ -1,7 +1,7 @@
 //! Cuts the ported functions out of the listed files, unchanged, and finds the archive of the proved library.
 //!
 //! `LISTED_SRC` names the folder of the listed files (the default is `../../shared/docs/src`), `CORE_TRACE_ARCHIVE` the folder of
-//! `libexports.a` (the default is `../target/staticlib`). What is not there is left out: `cfg(listed)`, `cfg(archive)`.
+//! `libexports.a` (the default is `../crates/exports/out`). What is not there is left out: `cfg(listed)`, `cfg(archive)`.
 
 use std::path::{Path, PathBuf};
 use std::{env, fs};
@@ -160,13 +160,13 @@ fn main() {
         println!("cargo::warning=no listed Rust at {}: the comparison with it is left out", source.display());
     }
 
-    let archive = here.join(env::var("CORE_TRACE_ARCHIVE").unwrap_or_else(|_| "../target/staticlib".into()));
+    let archive = here.join(env::var("CORE_TRACE_ARCHIVE").unwrap_or_else(|_| "../crates/exports/out".into()));
     println!("cargo::rerun-if-changed={}", archive.join("libexports.a").display());
     if archive.join("libexports.a").is_file() {
         println!("cargo::rustc-link-search=native={}", archive.display());
         println!("cargo::rustc-link-lib=static=exports");
         println!("cargo::rustc-cfg=archive");
     } else {
-        println!("cargo::warning=no libexports.a at {}: run `rt staticlib exports` first", archive.display());
+        println!("cargo::warning=no libexports.a at {}: run `rt lib` in crates/exports first", archive.display());
     }
 }

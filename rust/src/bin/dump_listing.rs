@@ -2,7 +2,7 @@
 
 #[cfg(not(archive))]
 fn main() {
-    eprintln!("dump_listing: the archive is not there: `rt staticlib exports` builds it");
+    eprintln!("dump_listing: the archive is not there: `rt lib` in crates/exports builds it");
     std::process::exit(1);
 }
 
