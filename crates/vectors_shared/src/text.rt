@@ -53,10 +53,20 @@ pub fn numbers(text: &[u8], out: &mut [u64]) -> usize {
     count
 }
 
+// As many bytes of a file are read.
+const MOST_BYTES: usize = 65536;
+
 // Puts the numbers of a file into `out`, and answers how many there are; 0 where the file cannot be read, which a line on standard error says.
 pub fn load(rt: &(impl Files + Alloc + Eprint), name: &str, out: &mut [u64]) -> io::Result<usize> {
     match fs::read(rt, name) {
-        Ok(text) => Ok(numbers(&text, out)),
+        Ok(text) => {
+            let n = if text.len() < MOST_BYTES {
+                text.len()
+            } else {
+                MOST_BYTES
+            };
+            Ok(numbers(&text[..n], out))
+        }
         Err(error) => {
             eprintln!(rt; "{name}: {error}")?;
             Ok(0)
