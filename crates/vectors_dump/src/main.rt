@@ -11,14 +11,14 @@ use std::rt::Runtime;
 use vectors_shared::text;
 use vectors_shared::text::report;
 
-fn writes(rt: &impl Runtime, name: &str) -> io::Result<()> {
+fn writes(rt: &impl Runtime, name: &[u8]) -> io::Result<()> {
     let mut numbers = [0u64; 8192];
     text::load(rt, name, &mut numbers)?;
     let all = numbers[0];
     report(rt, name, write_list::right(&numbers, all), all)
 }
 
-fn reads(rt: &impl Runtime, name: &str) -> io::Result<()> {
+fn reads(rt: &impl Runtime, name: &[u8]) -> io::Result<()> {
     let mut numbers = [0u64; 8192];
     text::load(rt, name, &mut numbers)?;
     let all = numbers[0];
@@ -26,24 +26,24 @@ fn reads(rt: &impl Runtime, name: &str) -> io::Result<()> {
 }
 
 fn main(rt: HostRuntime) -> io::Result<()> {
-    writes(&rt, "writes_a")?;
-    writes(&rt, "writes_b")?;
-    writes(&rt, "writes_c")?;
-    writes(&rt, "writes_d")?;
-    writes(&rt, "writes_e")?;
-    writes(&rt, "writes_f")?;
-    writes(&rt, "writes_g")?;
-    writes(&rt, "writes_h")?;
-    writes(&rt, "writes_i")?;
-    reads(&rt, "reads_one_a")?;
-    reads(&rt, "reads_one_b")?;
-    reads(&rt, "reads_one_c")?;
-    reads(&rt, "reads_two")?;
-    reads(&rt, "reads_four_a")?;
-    reads(&rt, "reads_four_b")?;
-    reads(&rt, "reads_four_c")?;
-    reads(&rt, "reads_four_d")?;
-    reads(&rt, "reads_four_e")?;
-    reads(&rt, "reads_four_f")?;
-    reads(&rt, "reads_twelve")
+    writes(&rt, b"writes_a")?;
+    writes(&rt, b"writes_b")?;
+    writes(&rt, b"writes_c")?;
+    writes(&rt, b"writes_d")?;
+    writes(&rt, b"writes_e")?;
+    writes(&rt, b"writes_f")?;
+    writes(&rt, b"writes_g")?;
+    writes(&rt, b"writes_h")?;
+    writes(&rt, b"writes_i")?;
+    reads(&rt, b"reads_one_a")?;
+    reads(&rt, b"reads_one_b")?;
+    reads(&rt, b"reads_one_c")?;
+    reads(&rt, b"reads_two")?;
+    reads(&rt, b"reads_four_a")?;
+    reads(&rt, b"reads_four_b")?;
+    reads(&rt, b"reads_four_c")?;
+    reads(&rt, b"reads_four_d")?;
+    reads(&rt, b"reads_four_e")?;
+    reads(&rt, b"reads_four_f")?;
+    reads(&rt, b"reads_twelve")
 }

@@ -15,13 +15,13 @@ use vectors_shared::text::report;
 
 fn field_vectors(rt: &impl Runtime) -> io::Result<()> {
     let mut numbers = [0u64; 8192];
-    let count = text::load(rt, "field", &mut numbers)?;
+    let count = text::load(rt, b"field", &mut numbers)?;
     let all = (count / 4) as u64;
-    report(rt, "field", field_list::right(&numbers, all), all)
+    report(rt, b"field", field_list::right(&numbers, all), all)
 }
 
 // A list of the groups layer: records of `given` numbers, and an answer's number and six values.
-fn groups_vectors(rt: &impl Runtime, name: &str, list: List, given: usize) -> io::Result<()>
+fn groups_vectors(rt: &impl Runtime, name: &[u8], list: List, given: usize) -> io::Result<()>
     requires { given < 4096 }
 {
     let mut numbers = [0u64; 8192];
@@ -37,12 +37,12 @@ fn groups_vectors(rt: &impl Runtime, name: &str, list: List, given: usize) -> io
 
 fn main(rt: HostRuntime) -> io::Result<()> {
     field_vectors(&rt)?;
-    groups_vectors(&rt, "helpers", List::Helpers, 7)?;
-    groups_vectors(&rt, "flags", List::Flags, 1)?;
-    groups_vectors(&rt, "places", List::Places, 11)?;
-    groups_vectors(&rt, "records", List::Records, 39)?;
-    groups_vectors(&rt, "contexts_a", List::Contexts, 67)?;
-    groups_vectors(&rt, "contexts_b", List::Contexts, 67)?;
-    groups_vectors(&rt, "contexts_c", List::Contexts, 67)?;
-    groups_vectors(&rt, "contexts_d", List::Contexts, 67)
+    groups_vectors(&rt, b"helpers", List::Helpers, 7)?;
+    groups_vectors(&rt, b"flags", List::Flags, 1)?;
+    groups_vectors(&rt, b"places", List::Places, 11)?;
+    groups_vectors(&rt, b"records", List::Records, 39)?;
+    groups_vectors(&rt, b"contexts_a", List::Contexts, 67)?;
+    groups_vectors(&rt, b"contexts_b", List::Contexts, 67)?;
+    groups_vectors(&rt, b"contexts_c", List::Contexts, 67)?;
+    groups_vectors(&rt, b"contexts_d", List::Contexts, 67)
 }

@@ -11,14 +11,14 @@ use std::rt::Runtime;
 use vectors_shared::text;
 use vectors_shared::text::report;
 
-fn builds(rt: &impl Runtime, name: &str) -> io::Result<()> {
+fn builds(rt: &impl Runtime, name: &[u8]) -> io::Result<()> {
     let mut numbers = [0u64; 8192];
     text::load(rt, name, &mut numbers)?;
     let all = numbers[0];
     report(rt, name, build_list::right(&numbers, all), all)
 }
 
-fn lookups(rt: &impl Runtime, name: &str) -> io::Result<()> {
+fn lookups(rt: &impl Runtime, name: &[u8]) -> io::Result<()> {
     let mut numbers = [0u64; 8192];
     text::load(rt, name, &mut numbers)?;
     let all = numbers[0];
@@ -26,11 +26,11 @@ fn lookups(rt: &impl Runtime, name: &str) -> io::Result<()> {
 }
 
 fn main(rt: HostRuntime) -> io::Result<()> {
-    builds(&rt, "traces_a")?;
-    builds(&rt, "traces_b")?;
-    builds(&rt, "traces_c")?;
-    builds(&rt, "cells")?;
-    builds(&rt, "refused_a")?;
-    builds(&rt, "refused_b")?;
-    lookups(&rt, "lookups")
+    builds(&rt, b"traces_a")?;
+    builds(&rt, b"traces_b")?;
+    builds(&rt, b"traces_c")?;
+    builds(&rt, b"cells")?;
+    builds(&rt, b"refused_a")?;
+    builds(&rt, b"refused_b")?;
+    lookups(&rt, b"lookups")
 }

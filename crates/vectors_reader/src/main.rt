@@ -10,7 +10,7 @@ use std::rt::Runtime;
 use vectors_shared::text;
 use vectors_shared::text::report;
 
-fn vectors(rt: &impl Runtime, name: &str) -> io::Result<()> {
+fn vectors(rt: &impl Runtime, name: &[u8]) -> io::Result<()> {
     let mut numbers = [0u64; 8192];
     text::load(rt, name, &mut numbers)?;
     let all = numbers[0];
@@ -18,14 +18,14 @@ fn vectors(rt: &impl Runtime, name: &str) -> io::Result<()> {
 }
 
 fn main(rt: HostRuntime) -> io::Result<()> {
-    vectors(&rt, "listing")?;
-    vectors(&rt, "lengths")?;
-    vectors(&rt, "cells_a")?;
-    vectors(&rt, "cells_b")?;
-    vectors(&rt, "faults_a")?;
-    vectors(&rt, "faults_b")?;
-    vectors(&rt, "faults_c")?;
-    vectors(&rt, "deep")?;
-    vectors(&rt, "random_a")?;
-    vectors(&rt, "random_b")
+    vectors(&rt, b"listing")?;
+    vectors(&rt, b"lengths")?;
+    vectors(&rt, b"cells_a")?;
+    vectors(&rt, b"cells_b")?;
+    vectors(&rt, b"faults_a")?;
+    vectors(&rt, b"faults_b")?;
+    vectors(&rt, b"faults_c")?;
+    vectors(&rt, b"deep")?;
+    vectors(&rt, b"random_a")?;
+    vectors(&rt, b"random_b")
 }

@@ -14,20 +14,20 @@ use std::rt::Runtime;
 use vectors_shared::text;
 use vectors_shared::text::report;
 
-fn runs(rt: &impl Runtime, name: &str) -> io::Result<()> {
+fn runs(rt: &impl Runtime, name: &[u8]) -> io::Result<()> {
     let mut numbers = [0u64; 8192];
     text::load(rt, name, &mut numbers)?;
     report(rt, name, list::right(&numbers), numbers[0])
 }
 
-fn refused_records(rt: &impl Runtime, name: &str) -> io::Result<()> {
+fn refused_records(rt: &impl Runtime, name: &[u8]) -> io::Result<()> {
     let mut numbers = [0u64; 8192];
     text::load(rt, name, &mut numbers)?;
     let right = refused::right(&mut numbers);
     report(rt, name, right, numbers[0])
 }
 
-fn address_states(rt: &impl Runtime, name: &str) -> io::Result<()> {
+fn address_states(rt: &impl Runtime, name: &[u8]) -> io::Result<()> {
     let mut numbers = [0u64; 8192];
     text::load(rt, name, &mut numbers)?;
     let right = states::right(&mut numbers);
@@ -35,23 +35,23 @@ fn address_states(rt: &impl Runtime, name: &str) -> io::Result<()> {
 }
 
 fn main(rt: HostRuntime) -> io::Result<()> {
-    runs(&rt, "runs_01")?;
-    runs(&rt, "runs_02")?;
-    runs(&rt, "runs_03")?;
-    runs(&rt, "runs_04")?;
-    runs(&rt, "runs_05")?;
-    runs(&rt, "runs_06")?;
-    runs(&rt, "runs_07")?;
-    runs(&rt, "runs_08")?;
-    runs(&rt, "runs_09")?;
-    runs(&rt, "runs_10")?;
-    runs(&rt, "runs_11")?;
-    runs(&rt, "runs_12")?;
-    runs(&rt, "cells_01")?;
-    runs(&rt, "cells_02")?;
-    runs(&rt, "cells_03")?;
-    runs(&rt, "cells_04")?;
-    refused_records(&rt, "refused")?;
-    refused_records(&rt, "syscall")?;
-    address_states(&rt, "states")
+    runs(&rt, b"runs_01")?;
+    runs(&rt, b"runs_02")?;
+    runs(&rt, b"runs_03")?;
+    runs(&rt, b"runs_04")?;
+    runs(&rt, b"runs_05")?;
+    runs(&rt, b"runs_06")?;
+    runs(&rt, b"runs_07")?;
+    runs(&rt, b"runs_08")?;
+    runs(&rt, b"runs_09")?;
+    runs(&rt, b"runs_10")?;
+    runs(&rt, b"runs_11")?;
+    runs(&rt, b"runs_12")?;
+    runs(&rt, b"cells_01")?;
+    runs(&rt, b"cells_02")?;
+    runs(&rt, b"cells_03")?;
+    runs(&rt, b"cells_04")?;
+    refused_records(&rt, b"refused")?;
+    refused_records(&rt, b"syscall")?;
+    address_states(&rt, b"states")
 }

@@ -11,7 +11,7 @@ use std::rt::Runtime;
 use vectors_shared::text;
 use vectors_shared::text::report;
 
-fn vectors(rt: &impl Runtime, name: &str) -> io::Result<()> {
+fn vectors(rt: &impl Runtime, name: &[u8]) -> io::Result<()> {
     let mut numbers = [0u64; 8192];
     text::load(rt, name, &mut numbers)?;
     let all = numbers[0];
@@ -19,23 +19,23 @@ fn vectors(rt: &impl Runtime, name: &str) -> io::Result<()> {
 }
 
 fn main(rt: HostRuntime) -> io::Result<()> {
-    vectors(&rt, "rows_a")?;
-    vectors(&rt, "rows_b")?;
-    vectors(&rt, "operations")?;
-    vectors(&rt, "following")?;
-    vectors(&rt, "cells_a")?;
-    vectors(&rt, "cells_b")?;
-    vectors(&rt, "cells_c")?;
-    vectors(&rt, "tracers_a")?;
-    vectors(&rt, "tracers_b")?;
-    vectors(&rt, "inputs")?;
-    vectors(&rt, "refusals")?;
-    vectors(&rt, "tallies_a")?;
-    vectors(&rt, "tallies_b")?;
-    vectors(&rt, "orders")?;
-    vectors(&rt, "runs_a")?;
-    vectors(&rt, "runs_b")?;
-    vectors(&rt, "mixed_a")?;
-    vectors(&rt, "mixed_b")?;
-    vectors(&rt, "mixed_c")
+    vectors(&rt, b"rows_a")?;
+    vectors(&rt, b"rows_b")?;
+    vectors(&rt, b"operations")?;
+    vectors(&rt, b"following")?;
+    vectors(&rt, b"cells_a")?;
+    vectors(&rt, b"cells_b")?;
+    vectors(&rt, b"cells_c")?;
+    vectors(&rt, b"tracers_a")?;
+    vectors(&rt, b"tracers_b")?;
+    vectors(&rt, b"inputs")?;
+    vectors(&rt, b"refusals")?;
+    vectors(&rt, b"tallies_a")?;
+    vectors(&rt, b"tallies_b")?;
+    vectors(&rt, b"orders")?;
+    vectors(&rt, b"runs_a")?;
+    vectors(&rt, b"runs_b")?;
+    vectors(&rt, b"mixed_a")?;
+    vectors(&rt, b"mixed_b")?;
+    vectors(&rt, b"mixed_c")
 }

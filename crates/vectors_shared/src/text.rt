@@ -1,9 +1,10 @@
 // A file of decimal numbers, read into an array.
-ghost use Rattle.std.specs.Prelude.{◌≤◌, ◌<◌};
+ghost use Rattle.std.specs.Prelude.{◌≤◌, ◌<◌, length, IfOk};
 
 use field::cell::number_at;
+use std::io::Read;
 use std::rt::Files;
-use std::{fs, io};
+use std::{fs, io, str};
 
 fn wide(b: u8) -> u64 {
     b as u64
@@ -56,19 +57,45 @@ pub fn numbers(text: &[u8], out: &mut [u64]) -> usize {
 // As many bytes of a file are read.
 const MOST_BYTES: usize = 65536;
 
-// Puts the numbers of a file into `out`, and answers how many there are; 0 where the file cannot be read, which a line on standard error says.
-pub fn load(rt: &(impl Files + Alloc + Eprint), name: &str, out: &mut [u64]) -> io::Result<usize> {
-    match fs::read(rt, name) {
-        Ok(text) => {
-            let n = if text.len() < MOST_BYTES {
-                text.len()
-            } else {
-                MOST_BYTES
-            };
-            Ok(numbers(&text[..n], out))
+// Reads into the text as far as the file and the room go, and answers how many bytes there are. A read that fails ends it.
+fn read_full(file: &mut impl Read, text: &mut [u8]) -> usize
+    ensures { result ≤ length text.old }
+{
+    let mut n = 0;
+    while n < text.len() {
+        match file.read(&mut text[n..]) {
+            Ok(0) => return n,
+            Ok(k) => n += k,
+            Err(_) => return n,
         }
+    }
+    n
+}
+
+// The first bytes of a file, and how many there are. A path is text.
+fn first_bytes(rt: &impl Files, name: &[u8], text: &mut [u8]) -> io::Result<usize>
+    ensures { IfOk result (λ n. n ≤ length text.old) }
+{
+    let path = str::from_utf8(name).map_err(|_| io::Error::from(io::ErrorKind::InvalidInput))?;
+    let mut file = fs::open(rt, path)?;
+    Ok(read_full(&mut file, text))
+}
+
+// Says on standard error that a file cannot be read.
+fn fail(rt: &impl Eprint, name: &[u8], error: io::Error) -> io::Result<()> {
+    if let Ok(path) = str::from_utf8(name) {
+        eprint!(rt; "{path}")?;
+    }
+    eprintln!(rt; ": {error}")
+}
+
+// Puts the numbers of a file into `out`, and answers how many there are; 0 where the file cannot be read, which a line on standard error says.
+pub fn load(rt: &(impl Files + Eprint), name: &[u8], out: &mut [u64]) -> io::Result<usize> {
+    let mut text = [0u8; MOST_BYTES];
+    match first_bytes(rt, name, &mut text) {
+        Ok(n) => Ok(numbers(&text[..n], out)),
         Err(error) => {
-            eprintln!(rt; "{name}: {error}")?;
+            fail(rt, name, error)?;
             Ok(0)
         }
     }
@@ -122,6 +149,7 @@ pub struct Step {
 }
 
 // Writes how many vectors of a list came out right.
-pub fn report(rt: &impl Print, name: &str, right: u64, all: u64) -> io::Result<()> {
-    println!(rt; "{name}: {right} of {all} right")
+pub fn report(rt: &impl Print, name: &[u8], right: u64, all: u64) -> io::Result<()> {
+    rt.write_all(name)?;
+    println!(rt; ": {right} of {all} right")
 }
