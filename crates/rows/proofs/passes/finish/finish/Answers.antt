@@ -11,12 +11,15 @@ use Rattle.rows.proofs.passes.PassOrder.{second-first}
 use Rattle.rows.proofs.passes.finish.finish.Goals as goal
 
 pub returns-then-number-ne0 : goal.returns-then-number-ne0
-returns-then-number-ne0 c = let both = refused-pass _ _ _ _ (c.finish_refusal-number.ensures.1 c.if-number-ne0.true) c.if-number-ne0.true in
+returns-then-number-ne0 c =
+    let refused : ¬ (c.finish_refusal-number.result ≡ 0) = omega (arith, c.if-number-ne0.true) in
+    let both = refused-pass _ _ _ _ (c.finish_refusal-number.ensures.1 refused) refused in
     record { value = both.0; buffer_after = both.1 }
 
 pub write_multiplicities-requires : goal.write_multiplicities-requires
 write_multiplicities-requires c =
-    let passed : Passed c.args.profile (length c.args.buffer.now) c.args.fragment_size c.args.height c.args.counts.now c.args.built.now = c.finish_refusal-number.ensures.0 c.if-number-ne0.false in
+    let none : c.finish_refusal-number.result ≡ 0 = omega (arith, c.if-number-ne0.false) in
+    let passed : Passed c.args.profile (length c.args.buffer.now) c.args.fragment_size c.args.height c.args.counts.now c.args.built.now = c.finish_refusal-number.ensures.0 none in
     let sum_is : c.sum_up_to-rows.result ≡ sum_of c.args.counts.now = c.sum_up_to-rows.ensures ∙ sum-uncapped _ _ _ _ (passed).fragments in
     let f = sum-held _ _ _ _ (passed).fragments in
     let s = sum_is in
@@ -25,7 +28,8 @@ write_multiplicities-requires c =
 pub returns-then-write_multiplicities : goal.returns-then-write_multiplicities
 unfolding first_of refusal_all
 returns-then-write_multiplicities c =
-    let passed : Passed c.args.profile (length c.args.buffer.now) c.args.fragment_size c.args.height c.args.counts.now c.args.built.now = c.finish_refusal-number.ensures.0 c.if-number-ne0.false in
+    let none : c.finish_refusal-number.result ≡ 0 = omega (arith, c.if-number-ne0.false) in
+    let passed : Passed c.args.profile (length c.args.buffer.now) c.args.fragment_size c.args.height c.args.counts.now c.args.built.now = c.finish_refusal-number.ensures.0 none in
     let sum_is : c.sum_up_to-rows.result ≡ sum_of c.args.counts.now = c.sum_up_to-rows.ensures ∙ sum-uncapped _ _ _ _ (passed).fragments in
     let h = passed in
     let w = rw (c.if-write_multiplicities.true, sum_is) at c.write_multiplicities.ensures in
@@ -34,7 +38,8 @@ returns-then-write_multiplicities c =
 
 pub finish_rows-requires : goal.finish_rows-requires
 finish_rows-requires c =
-    let passed : Passed c.args.profile (length c.args.buffer.now) c.args.fragment_size c.args.height c.args.counts.now c.args.built.now = c.finish_refusal-number.ensures.0 c.if-number-ne0.false in
+    let none : c.finish_refusal-number.result ≡ 0 = omega (arith, c.if-number-ne0.false) in
+    let passed : Passed c.args.profile (length c.args.buffer.now) c.args.fragment_size c.args.height c.args.counts.now c.args.built.now = c.finish_refusal-number.ensures.0 none in
     let sum_is : c.sum_up_to-rows.result ≡ sum_of c.args.counts.now = c.sum_up_to-rows.ensures ∙ sum-uncapped _ _ _ _ (passed).fragments in
     let h = passed in
     record { rows_value = sum_is; built_value = rw c.buffer-1.given (h.fragments, h.height_right); counts_value = (h.fragment, h.full) }
@@ -42,7 +47,8 @@ finish_rows-requires c =
 pub returns : goal.returns
 unfolding first_of refusal_all
 returns c =
-    let passed : Passed c.args.profile (length c.args.buffer.now) c.args.fragment_size c.args.height c.args.counts.now c.args.built.now = c.finish_refusal-number.ensures.0 c.if-number-ne0.false in
+    let none : c.finish_refusal-number.result ≡ 0 = omega (arith, c.if-number-ne0.false) in
+    let passed : Passed c.args.profile (length c.args.buffer.now) c.args.fragment_size c.args.height c.args.counts.now c.args.built.now = c.finish_refusal-number.ensures.0 none in
     let sum_is : c.sum_up_to-rows.result ≡ sum_of c.args.counts.now = c.sum_up_to-rows.ensures ∙ sum-uncapped _ _ _ _ (passed).fragments in
     let h = passed in
     let f = sum-held (length c.args.buffer.now) c.args.fragment_size c.args.counts.now c.args.built.now h.fragments in
