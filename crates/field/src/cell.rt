@@ -17,3 +17,10 @@ pub fn number_at(numbers: &[u64], i: usize) -> u64
 {
     if i < numbers.len() { numbers[i] } else { 0 }
 }
+
+// Item i of the slice, `other` past its end.
+pub fn item_or<T: Copy>(items: &[T], i: usize, other: T) -> T
+    ensures { result ≡ get_or items.now i other }
+{
+    if i < items.len() { items[i] } else { other }
+}

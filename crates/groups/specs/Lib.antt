@@ -7,4 +7,5 @@ pub mod GroupsLeft
 pub mod GroupOfOperation
 pub mod Contexts
 pub mod Helpers
+pub mod Refusals
 pub mod ways

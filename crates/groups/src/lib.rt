@@ -8,5 +8,6 @@ pub mod flags;
 pub mod group;
 pub mod helpers;
 pub mod number;
+pub mod refusal;
 pub mod sum;
 pub mod word;
