@@ -1,5 +1,5 @@
 -- Document 01, "Entry: one cycle": storing, finishing and the final state.
-use Rattle.std.specs.Prelude.{Bool, true, false, not, ◌||◌, List, ◌++◌, ℕ, ◌+◌, ◌/◌, min, leb, ltb, eqb}
+use Rattle.std.specs.Prelude.{Option, Some, None, Bool, true, false, not, ◌||◌, List, ◌++◌, ℕ, ◌+◌, ◌/◌, min, leb, ltb, eqb}
 use Rattle.groups.specs.Answer.{Answer, accepted, refused, and_then, pick}
 use Rattle.groups.specs.Constants.{row_width, big_opcode, bad_profile, low_depth, bad_length, stored_absent, no_row_left}
 use Rattle.groups.specs.declared.helpers.OperationHelperRegisters.{OperationHelperRegisters}
@@ -11,15 +11,11 @@ use Rattle.rows.specs.declared.records.state.StackState.{StackState}
 use Rattle.rows.specs.declared.records.state.SystemCols.{SystemCols}
 use Rattle.rows.specs.declared.records.state.StackCols.{StackCols}
 use Rattle.rows.specs.declared.records.continuation.Continuation.{Continuation}
-use Rattle.rows.specs.declared.records.continuation.LoopCondition.{LoopCondition}
-use Rattle.rows.specs.declared.records.continuation.CalleeWord.{CalleeWord}
-use Rattle.rows.specs.declared.records.continuation.ContextInfo.{ContextInfo}
 use Rattle.rows.specs.declared.records.continuation.Captured.{Captured}
 use Rattle.rows.specs.declared.records.continuation.StoredValues.{StoredValues}
 use Rattle.rows.specs.declared.records.continuation.Used.{Used}
 use Rattle.rows.specs.declared.cycles.made.MadeRow.{MadeRow}
 use Rattle.rows.specs.declared.cycles.scan.Scan.{Scan}
-use Rattle.rows.specs.declared.cycles.tracer.StoredContinuation.{StoredContinuation}
 use Rattle.rows.specs.declared.cycles.tracer.CoreTraceGenerationTracer.{CoreTraceGenerationTracer}
 use Rattle.rows.specs.declared.cycles.tracer.TracerFinalState.{TracerFinalState}
 use Rattle.rows.specs.declared.cycles.tracer.FragmentEnd.{FragmentEnd}
@@ -37,9 +33,9 @@ unfoldable pub fresh : DecoderState → Positions → CoreTraceGenerationTracer
 fresh state at = record {
   refusal = 0;
   row_write_index = 0;
-  continuation = StoredContinuation.Nothing;
+  continuation = None;
   is_loop_body = false;
-  captured = record { finish_loop_condition = LoopCondition.Absent; dyn_callee_hash = CalleeWord.Absent; ctx_info = ContextInfo.Absent };
+  captured = record { finish_loop_condition = None; dyn_callee_hash = None; ctx_info = None };
   decoder_state = read_state state;
   at = at;
   system_cols = no_system;
@@ -51,7 +47,7 @@ abbrev pub storing_of : CoreTraceGenerationTracer → StoredValues → CoreTrace
 storing_of t values = record {
   refusal = t.refusal;
   row_write_index = t.row_write_index;
-  continuation = StoredContinuation.Is values.continuation;
+  continuation = Some values.continuation;
   is_loop_body = values.is_loop_body;
   captured = read_captured values.captured;
   decoder_state = t.decoder_state;
@@ -65,9 +61,9 @@ unfoldable pub stored_in : CoreTraceGenerationTracer → StoredValues → CoreTr
 stored_in t values = pick (eqb t.refusal 0) (storing_of t values) t
 
 -- "23 if nothing is stored"
-abbrev pub continuation_of : StoredContinuation → Answer Continuation
-continuation_of (StoredContinuation.Is continuation) = accepted continuation
-continuation_of StoredContinuation.Nothing = refused stored_absent
+abbrev pub continuation_of : Option Continuation → Answer Continuation
+continuation_of (Some continuation) = accepted continuation
+continuation_of None = refused stored_absent
 
 -- a refusal that holds is answered, and else what follows
 abbrev pub refuse_if : {A : Type 0} → Bool → ℕ → Answer A → Answer A
@@ -95,11 +91,11 @@ cycle p f q stack registers cells t = cycle_with (scan_of p f.nodes f.batches f.
 unfoldable pub left_after : Used → Captured → Captured
 left_after Used.Nothing captured = captured
 left_after Used.Condition captured =
-    record { finish_loop_condition = LoopCondition.Absent; dyn_callee_hash = captured.dyn_callee_hash; ctx_info = captured.ctx_info }
+    record { finish_loop_condition = None; dyn_callee_hash = captured.dyn_callee_hash; ctx_info = captured.ctx_info }
 left_after Used.Callee captured =
-    record { finish_loop_condition = captured.finish_loop_condition; dyn_callee_hash = CalleeWord.Absent; ctx_info = captured.ctx_info }
+    record { finish_loop_condition = captured.finish_loop_condition; dyn_callee_hash = None; ctx_info = captured.ctx_info }
 left_after Used.CalleeAndInfo captured =
-    record { finish_loop_condition = captured.finish_loop_condition; dyn_callee_hash = CalleeWord.Absent; ctx_info = ContextInfo.Absent }
+    record { finish_loop_condition = captured.finish_loop_condition; dyn_callee_hash = None; ctx_info = None }
 
 -- the tracer with a refusal's number, else unchanged
 abbrev pub keeping : ℕ → CoreTraceGenerationTracer → CoreTraceGenerationTracer

@@ -1,6 +1,6 @@
 -- Document 01, "Entry: one cycle": what each continuation makes, with its own refusals in their order. A row's decoder part, the address
 -- state and positions after it, and which captured values it used up. No system or stack state and no fragment goes in.
-use Rattle.std.specs.Prelude.{Bool, List, ℕ}
+use Rattle.std.specs.Prelude.{Bool, Option, Some, None, List, ℕ}
 use Rattle.groups.specs.Answer.{Answer, accepted, refused, and_then, pick}
 use Rattle.groups.specs.Constants.{wrong_node_kind, stored_absent, syscall_start}
 use Rattle.groups.specs.Batches.{batch_at}
@@ -16,28 +16,20 @@ use Rattle.rows.specs.declared.records.profile.Profile.{Profile}
 use Rattle.rows.specs.declared.records.forest.MastNode.{MastNode}
 use Rattle.rows.specs.declared.records.address_state.DecoderState.{DecoderState}
 use Rattle.rows.specs.declared.records.address_state.Positions.{Positions}
+use Rattle.rows.specs.declared.records.address_state.Cursor.{Cursor}
 use Rattle.rows.specs.declared.records.decoder_row.DecoderRow.{DecoderRow}
 use Rattle.rows.specs.declared.records.decoder_row.EndBlockStackEntryKind.{EndBlockStackEntryKind}
 use Rattle.rows.specs.declared.records.continuation.Continuation.{Continuation}
 use Rattle.rows.specs.declared.records.continuation.Captured.{Captured}
-use Rattle.rows.specs.declared.records.continuation.LoopCondition.{LoopCondition}
-use Rattle.rows.specs.declared.records.continuation.CalleeWord.{CalleeWord}
-use Rattle.rows.specs.declared.records.continuation.ContextInfo.{ContextInfo}
 use Rattle.rows.specs.declared.records.continuation.ExecutionContextInfo.{ExecutionContextInfo}
 use Rattle.rows.specs.declared.records.continuation.Used.{Used}
 use Rattle.rows.specs.declared.cycles.made.MadeRow.{MadeRow}
-use Rattle.rows.specs.declared.cycles.made.Made.{Made}
 use Rattle.rows.specs.declared.cycles.made.Finish.{Finish}
-use Rattle.rows.specs.declared.cycles.made.KindFound.{KindFound}
 use Rattle.rows.specs.records.Forests.{Forest, node_at, digest_at, opcode_at, block_of}
 use Rattle.rows.specs.records.Addresses.{Queues, started_at, after_start, end_at, state_after_end, after_end, respan_step}
 use Rattle.rows.specs.records.DecoderRows.{zero_word, control_flow, basic_block_batch, operation, flag_word}
 
 -- where a cycle stands: the address state and the queue positions
-pub record Cursor : Type 0 where
-  pub state : DecoderState
-  pub at : Positions
-
 abbrev pub cursor : DecoderState → Positions → Cursor
 cursor state at = record { state = state; at = at }
 
@@ -48,15 +40,6 @@ made_with row here used following = accepted (record { row = row; state = here.s
 -- "For other continuations it is 0" (N7)
 abbrev pub made_row : DecoderRow → Cursor → Used → Answer MadeRow
 made_row row here used = made_with row here used 0
-
--- the number and the values of each case
-abbrev pub told_made : Made → Answer MadeRow
-told_made (Made.Row made) = accepted made
-told_made (Made.Refused n) = refused n
-
-abbrev pub told_kind : KindFound → Answer EndBlockStackEntryKind
-told_kind (KindFound.Is kind) = accepted kind
-told_kind KindFound.Other = refused wrong_node_kind
 
 -- Block: "5 if it has no batch, 7". SPAN carries the parent address and the block total
 unfoldable pub start_block : (batches groups : List ℕ) → (span : ℕ) → BasicBlockNode → Cursor → Answer MadeRow
@@ -79,26 +62,26 @@ start_one nodes digests opcode child here =
     made_row (control_flow opcode a zero_word here.state.parent_addr) here Used.Nothing)
 
 -- a captured value, or "23 .. a captured value absent"
-abbrev pub callee_of : CalleeWord → Answer Word
-callee_of (CalleeWord.Is word) = accepted word
-callee_of CalleeWord.Absent = refused stored_absent
+abbrev pub callee_of : Option Word → Answer Word
+callee_of (Some word) = accepted word
+callee_of None = refused stored_absent
 
-abbrev pub info_of : ContextInfo → Answer ExecutionContextInfo
-info_of (ContextInfo.Is info) = accepted info
-info_of ContextInfo.Absent = refused stored_absent
+abbrev pub info_of : Option ExecutionContextInfo → Answer ExecutionContextInfo
+info_of (Some info) = accepted info
+info_of None = refused stored_absent
 
-abbrev pub condition_of : LoopCondition → Answer Bool
-condition_of (LoopCondition.Is again) = accepted again
-condition_of LoopCondition.Absent = refused stored_absent
+abbrev pub condition_of : Option Bool → Answer Bool
+condition_of (Some again) = accepted again
+condition_of None = refused stored_absent
 
 -- Dyn: "23 for the callee word"; "DYN the callee word"
-unfoldable pub start_dyn : (opcode : ℕ) → CalleeWord → Cursor → Answer MadeRow
+unfoldable pub start_dyn : (opcode : ℕ) → Option Word → Cursor → Answer MadeRow
 start_dyn opcode callee here =
     and_then (callee_of callee) (λ word.
     made_row (control_flow opcode word zero_word here.state.parent_addr) here Used.Callee)
 
 -- Dyn: "23 for the callee word, then for DYNCALL's context info"; "DYNCALL that, then depth, next overflow address"
-unfoldable pub start_dyncall : (opcode : ℕ) → CalleeWord → ContextInfo → Cursor → Answer MadeRow
+unfoldable pub start_dyncall : (opcode : ℕ) → Option Word → Option ExecutionContextInfo → Cursor → Answer MadeRow
 start_dyncall opcode callee info here =
     and_then (callee_of callee) (λ word.
     and_then (info_of info) (λ context.
@@ -194,7 +177,7 @@ made_repeat nodes digests repeat id here =
     made_row (control_flow repeat digest (1, 0, 0, 0) here.state.current_addr) here Used.Condition)))
 
 -- "FinishLoop: 23 if no condition. Condition one: 3, 4, and a REPEAT row. Else: 3, 22, and an END row."
-unfoldable pub finish_loop : (nodes digests ends : List ℕ) → Profile → MastNodeId → LoopCondition → (is_loop_body : Bool) → Cursor → Answer MadeRow
+unfoldable pub finish_loop : (nodes digests ends : List ℕ) → Profile → MastNodeId → Option Bool → (is_loop_body : Bool) → Cursor → Answer MadeRow
 finish_loop nodes digests ends p id condition is_loop_body here =
     and_then (condition_of condition) (λ again.
     pick again (made_repeat nodes digests p.repeat id here)

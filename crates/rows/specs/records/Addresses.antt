@@ -8,11 +8,6 @@ use Rattle.groups.specs.Constants.{address_queue_empty, parent_queue_empty, end_
 use Rattle.rows.specs.declared.records.address_state.DecoderState.{DecoderState}
 use Rattle.rows.specs.declared.records.address_state.Positions.{Positions}
 use Rattle.rows.specs.declared.records.address_state.NodeEndData.{NodeEndData}
-use Rattle.rows.specs.declared.records.address_state.EndFound.{EndFound}
-use Rattle.rows.specs.declared.records.address_state.AddressFound.{AddressFound}
-use Rattle.rows.specs.declared.records.address_state.ParentFound.{ParentFound}
-use Rattle.rows.specs.declared.records.address_state.Started.{Started}
-use Rattle.rows.specs.declared.records.address_state.Ended.{Ended}
 
 -- an address state as it comes in (N2)
 unfoldable pub read_state : DecoderState → DecoderState
@@ -65,29 +60,6 @@ after_end at = record { addresses = at.addresses; parents = at.parents; ends = a
 unfoldable pub respan_step : (step : ℕ) → DecoderState → DecoderState
 respan_step step state =
     record { current_addr = (state.current_addr + step) % P; parent_addr = state.parent_addr }
-
--- the number and the values of each case: "20 address, 21 parent, 22 end queue empty"
-abbrev pub told_address : AddressFound → Answer ℕ
-told_address (AddressFound.At address) = accepted address
-told_address AddressFound.Missing = refused address_queue_empty
-
-abbrev pub told_parent : ParentFound → Answer ℕ
-told_parent (ParentFound.At address) = accepted address
-told_parent ParentFound.Missing = refused parent_queue_empty
-
-abbrev pub told_end : EndFound → Answer NodeEndData
-told_end (EndFound.At entry) = accepted entry
-told_end EndFound.Missing = refused end_queue_empty
-
--- of a start: the positions after it
-abbrev pub told_started : Started → Answer Positions
-told_started (Started.Moved next) = accepted next
-told_started (Started.Refused n) = refused n
-
--- of an END: the address that ended, and the positions after it
-abbrev pub told_ended : Ended → Answer (ℕ × Positions)
-told_ended (Ended.Moved addr next) = accepted (addr, next)
-told_ended (Ended.Refused n) = refused n
 
 -- the state after a step: where it leads, and as it was on a refusal
 abbrev pub moved_to : Answer DecoderState → DecoderState → DecoderState

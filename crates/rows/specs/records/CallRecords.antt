@@ -1,8 +1,9 @@
 -- Calls lent as records of 32 numbers: what each number of a storing and of a finish names. Cells among them are read (N2).
-use Rattle.std.specs.Prelude.{◌≡◌, Bool, ◌||◌, List, [], ◌∷◌, ℕ, ◌*◌, ltb, eqb, take, drop, get_or}
+use Rattle.std.specs.Prelude.{◌≡◌, Bool, Option, Some, None, ◌||◌, List, [], ◌∷◌, ℕ, ◌*◌, ltb, eqb, take, drop, get_or}
 use Rattle.groups.specs.Answer.{Answer, accepted, refused, and_then, pick}
 use Rattle.field.specs.Cells.{cell_at}
 use Rattle.groups.specs.Constants.{stored_absent}
+use Rattle.groups.specs.Refusals.{told_or}
 use Rattle.groups.specs.Words.{word_at}
 use Rattle.groups.specs.declared.word.Word.{Word}
 use Rattle.groups.specs.declared.helpers.OperationHelperRegisters.{OperationHelperRegisters}
@@ -10,16 +11,8 @@ use Rattle.rows.specs.declared.records.ids.MastNodeId.{MastNodeId}
 use Rattle.rows.specs.declared.records.state.SystemState.{SystemState}
 use Rattle.rows.specs.declared.records.state.StackState.{StackState}
 use Rattle.rows.specs.declared.records.continuation.Continuation.{Continuation}
-use Rattle.rows.specs.declared.records.continuation.LoopCondition.{LoopCondition}
-use Rattle.rows.specs.declared.records.continuation.CalleeWord.{CalleeWord}
-use Rattle.rows.specs.declared.records.continuation.ContextInfo.{ContextInfo}
+use Rattle.rows.specs.declared.records.continuation.ExecutionContextInfo.{ExecutionContextInfo}
 use Rattle.rows.specs.declared.records.continuation.StoredValues.{StoredValues}
-use Rattle.rows.specs.declared.records.call_record.Small.{Small}
-use Rattle.rows.specs.declared.records.call_record.InfoFound.{InfoFound}
-use Rattle.rows.specs.declared.records.call_record.ContinuationFound.{ContinuationFound}
-use Rattle.rows.specs.declared.records.call_record.StoredFound.{StoredFound}
-use Rattle.rows.specs.declared.records.call_record.SystemFound.{SystemFound}
-use Rattle.rows.specs.declared.records.call_record.RegistersFound.{RegistersFound}
 use Rattle.rows.specs.records.Forests.{node_id}
 
 -- A RECORD
@@ -30,20 +23,20 @@ unfoldable pub of32 : (refusal : ℕ) → ℕ → Answer ℕ
 of32 refusal x = pick (ltb x 4294967296) (accepted x) (refused refusal)
 
 -- number 6: 0 absent, 1 zero, 2 one
-unfoldable pub condition_in : List ℕ → LoopCondition
-condition_in r = pick (eqb (get_or r 6 0) 0) LoopCondition.Absent (LoopCondition.Is (eqb (get_or r 6 0) 2))
+unfoldable pub condition_in : List ℕ → Option Bool
+condition_in r = pick (eqb (get_or r 6 0) 0) None (Some (eqb (get_or r 6 0) 2))
 
 -- number 7: 1 present; numbers 8 to 11 the word
-unfoldable pub callee_in : List ℕ → CalleeWord
-callee_in r = pick (eqb (get_or r 7 0) 1) (CalleeWord.Is (word_at r 8)) CalleeWord.Absent
+unfoldable pub callee_in : List ℕ → Option Word
+callee_in r = pick (eqb (get_or r 7 0) 1) (Some (word_at r 8)) None
 
 -- number 12: 1 present; number 13 the depth, 14 the next overflow address
-unfoldable pub info_in : List ℕ → Answer ContextInfo
+unfoldable pub info_in : List ℕ → Answer (Option ExecutionContextInfo)
 info_in r =
     pick (eqb (get_or r 12 0) 1)
     (and_then (of32 23 (get_or r 13 0)) (λ depth.
-    accepted (ContextInfo.Is (record { stack_depth = depth; next_overflow_addr = cell_at r 14 }))))
-    (accepted ContextInfo.Absent)
+    accepted (Some (record { stack_depth = depth; next_overflow_addr = cell_at r 14 }))))
+    (accepted None)
 
 -- number 3 the batch, number 4 the operation: no such batch (5), operation past the batch's (6)
 unfoldable pub resume_in : List ℕ → MastNodeId → Answer Continuation
@@ -172,32 +165,6 @@ call_in r = pick (eqb (get_or r 0 0) 0) (recorded_storing (stored_in_record r)) 
 unfoldable pub record_at : List ℕ → ℕ → List ℕ
 record_at records k = take 32 (drop (32 * k) records)
 
--- THE NUMBERS OF EACH ANSWER'S CASES
-
-abbrev pub told_small : (refusal : ℕ) → Small → Answer ℕ
-told_small refusal (Small.Is x) = accepted x
-told_small refusal Small.Over = refused refusal
-
 -- whatever the refusal is
-abbrev pub ReadAs32 : Small → ℕ → Type 0
-ReadAs32 r x = (n : ℕ) → told_small n r ≡ of32 n x
-
-abbrev pub told_info : InfoFound → Answer ContextInfo
-told_info (InfoFound.Is info) = accepted info
-told_info InfoFound.Over = refused stored_absent
-
-abbrev pub told_continuation : ContinuationFound → Answer Continuation
-told_continuation (ContinuationFound.Is continuation) = accepted continuation
-told_continuation (ContinuationFound.Refused n) = refused n
-
-abbrev pub told_stored : StoredFound → Answer StoredValues
-told_stored (StoredFound.Are values) = accepted values
-told_stored (StoredFound.Refused n) = refused n
-
-abbrev pub told_system : SystemFound → Answer SystemState
-told_system (SystemFound.Is system) = accepted system
-told_system SystemFound.Over = refused stored_absent
-
-abbrev pub told_registers : RegistersFound → Answer OperationHelperRegisters
-told_registers (RegistersFound.Are registers) = accepted registers
-told_registers RegistersFound.Missing = refused stored_absent
+abbrev pub ReadAs32 : Option ℕ → ℕ → Type 0
+ReadAs32 r x = (n : ℕ) → told_or n r ≡ of32 n x

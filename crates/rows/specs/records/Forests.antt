@@ -11,10 +11,6 @@ use Rattle.groups.specs.declared.batch.OpBatch.{OpBatch}
 use Rattle.rows.specs.declared.records.ids.MastNodeId.{MastNodeId}
 use Rattle.rows.specs.declared.records.forest.MastNode.{MastNode}
 use Rattle.rows.specs.declared.records.forest.NodeEntry.{NodeEntry}
-use Rattle.rows.specs.declared.records.forest.NodeFound.{NodeFound}
-use Rattle.rows.specs.declared.records.forest.DigestFound.{DigestFound}
-use Rattle.rows.specs.declared.records.forest.OpcodeFound.{OpcodeFound}
-use Rattle.rows.specs.declared.records.forest.BlockFound.{BlockFound}
 
 -- the five lent slices
 pub record Forest : Type 0 where
@@ -92,20 +88,3 @@ block_of (MastNode.Syscall a) = refused wrong_node_kind
 block_of MastNode.Dyn = refused wrong_node_kind
 block_of MastNode.Dyncall = refused wrong_node_kind
 block_of MastNode.External = refused wrong_node_kind
-
--- the number and the values of each look-up's cases
-abbrev pub told_node : NodeFound → Answer NodeEntry
-told_node (NodeFound.At entry) = accepted entry
-told_node NodeFound.Missing = refused no_such_node
-
-abbrev pub told_digest : DigestFound → Answer Word
-told_digest (DigestFound.Is digest) = accepted digest
-told_digest DigestFound.Missing = refused no_such_node
-
-abbrev pub told_opcode : OpcodeFound → Answer ℕ
-told_opcode (OpcodeFound.Is opcode) = accepted opcode
-told_opcode OpcodeFound.Missing = refused no_such_operation
-
-abbrev pub told_block : BlockFound → Answer BasicBlockNode
-told_block (BlockFound.Is block) = accepted block
-told_block BlockFound.Other = refused wrong_node_kind

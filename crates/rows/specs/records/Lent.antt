@@ -1,23 +1,13 @@
--- The lent slices as a contract names them: each is told at a function's entry and at its exit.
-use Rattle.std.specs.Prelude.{List, ℕ}
-use Rattle.std.specs.Borrow.{Bor, MutBor}
-use denote.Triple.Both.{Both}
+-- The lent slices of a forest and of the queues.
+use Rattle.rows.specs.declared.records.forest.LentForest.{LentForest}
+use Rattle.rows.specs.declared.records.address_state.LentQueues.{LentQueues}
 use Rattle.rows.specs.records.Forests.{Forest, forest}
 use Rattle.rows.specs.records.Addresses.{Queues, queues}
 
--- a slice of numbers
-abbrev pub Slice : Type 0
-Slice = Both (Bor (List ℕ)) (Bor (List ℕ))
+-- the forest that is lent
+abbrev pub lent_forest : LentForest → Forest
+lent_forest f = forest f.nodes.now f.digests.now f.batches.records.now f.batches.groups.now f.ops.now
 
--- one that is lent to be written
-abbrev pub MutSlice : Type 0
-MutSlice = Both (MutBor (List ℕ)) (MutBor (List ℕ))
-
--- the forest that a function is lent
-abbrev pub lent_forest : (nodes digests batches groups ops : Slice) → Forest
-lent_forest nodes digests batches groups ops =
-    forest nodes.entry.now digests.entry.now batches.entry.now groups.entry.now ops.entry.now
-
--- the queues that a function is lent
-abbrev pub lent_queues : (addresses parents ends : Slice) → Queues
-lent_queues addresses parents ends = queues addresses.entry.now parents.entry.now ends.entry.now
+-- the queues that are lent
+abbrev pub lent_queues : LentQueues → Queues
+lent_queues q = queues q.addresses.now q.parents.now q.ends.now

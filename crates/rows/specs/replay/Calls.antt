@@ -11,7 +11,6 @@ use Rattle.rows.specs.declared.replay.directory.DirectoryEntry.{DirectoryEntry}
 use Rattle.rows.specs.declared.replay.calls.Replayed.{Replayed}
 use Rattle.rows.specs.records.Forests.{Forest, forest}
 use Rattle.rows.specs.records.Addresses.{Queues}
-use Rattle.rows.specs.records.Lent.{Slice, MutSlice, lent_forest, lent_queues}
 use Rattle.rows.specs.records.CallRecords.{RecordedCall, stores, finishes, call_in, record_at}
 use Rattle.rows.specs.cycles.Scans.{scan_of}
 use Rattle.rows.specs.cycles.Cycles.{fresh, stored_in, cycle_with, keeping, tracer_after, fragment_after, final_state, for_passes}
@@ -33,7 +32,7 @@ directory_entry directory k =
     (record { first_slot = 0; slots = 0; first_batch = 0; batches = 0; first_op = 0; ops = 0 })
 
 -- `count` records of a width from record `first` on, as far as they are in the slice
-unfoldable pub window : (width first count : ℕ) → List ℕ → List ℕ
+unfoldable pub window : {A : Type 0} → (width first count : ℕ) → List A → List A
 window width first count xs = take (width * count) (drop (width * first) xs)
 
 -- the forest that lies there
@@ -60,11 +59,6 @@ pub record Setting : Type 0 where
 abbrev pub setting : Scan → Profile → Forest → (directory : List ℕ) → Queues → (cells : ℕ) → Setting
 setting scan profile forests directory queues cells =
     record { scan = scan; profile = profile; forests = forests; directory = directory; queues = queues; cells = cells }
-
--- the setting of a function that is lent its slices
-abbrev pub lent_setting : Scan → Profile → (nodes digests batches groups ops directory addresses parents ends : Slice) (fragment : MutSlice) → Setting
-lent_setting scan profile nodes digests batches groups ops directory addresses parents ends fragment =
-    setting scan profile (lent_forest nodes digests batches groups ops) directory.entry.now (lent_queues addresses parents ends) (length fragment.entry.now)
 
 -- the forest of a number
 unfoldable pub forest_of : Setting → ℕ → Forest
@@ -125,11 +119,6 @@ told t = record {
 -- all forests are scanned, also those that no record names: "used or not"
 unfoldable pub scanned : Profile → Forest → (directory : List ℕ) → Queues → (cells : ℕ) → Setting
 scanned p f directory q cells = setting (scan_of p f.nodes f.batches f.ops) p f directory q cells
-
--- of a function that is lent its slices
-abbrev pub lent_scanned : Profile → (nodes digests batches groups ops directory addresses parents ends : Slice) (fragment : MutSlice) → Setting
-lent_scanned profile nodes digests batches groups ops directory addresses parents ends fragment =
-    scanned profile (lent_forest nodes digests batches groups ops) directory.entry.now (lent_queues addresses parents ends) (length fragment.entry.now)
 
 -- "each fragment takes a fresh tracer (nothing stored, no refusal, no row) and ends with its final state, address state and queues
 -- continuing"

@@ -1,13 +1,12 @@
 -- Stretches of a replay in which each storing is followed by its cycle, all in one forest: what the functions of `pairs.rt` promise. No public
 -- contract names this file; `proofs/replay/Stretches.antt` shows that the tracer and the fragment are those of the calls one by one.
-use Rattle.std.specs.Prelude.{◌≡◌, Bool, true, false, List, ℕ, zero, suc, ◌+◌, ◌-◌, ◌/◌, ◌<◌, ◌≤◌, ltb, eqb, length, get_or}
+use Rattle.std.specs.Prelude.{◌≡◌, Option, Some, None, Bool, true, false, List, ℕ, zero, suc, ◌+◌, ◌-◌, ◌/◌, ◌<◌, ◌≤◌, ltb, eqb, length, get_or}
 use Rattle.field.specs.Cells.{reduced}
 use Rattle.groups.specs.Answer.{Answer, accepted, and_then, pick}
 use Rattle.groups.specs.Constants.{row_width}
 use Rattle.groups.specs.Helpers.{helpers_answer}
 use Rattle.groups.specs.declared.helpers.OperationHelperRegisters.{OperationHelperRegisters}
 use Rattle.groups.specs.declared.helpers.UserOpHelpers.{UserOpHelpers}
-use Rattle.groups.specs.declared.helpers.HelpersFound.{HelpersFound}
 use Rattle.rows.specs.declared.records.ids.MastNodeId.{MastNodeId}
 use Rattle.rows.specs.declared.records.profile.Profile.{Profile}
 use Rattle.rows.specs.declared.records.state.SystemState.{SystemState}
@@ -16,16 +15,15 @@ use Rattle.rows.specs.declared.records.decoder_row.DecoderRow.{DecoderRow}
 use Rattle.rows.specs.declared.records.continuation.Continuation.{Continuation}
 use Rattle.rows.specs.declared.records.continuation.StoredValues.{StoredValues}
 use Rattle.rows.specs.declared.records.continuation.Used.{Used}
-use Rattle.rows.specs.declared.cycles.made.Made.{Made}
 use Rattle.rows.specs.declared.cycles.made.MadeRow.{MadeRow}
 use Rattle.rows.specs.declared.records.address_state.DecoderState.{DecoderState}
 use Rattle.rows.specs.declared.records.address_state.Positions.{Positions}
-use Rattle.rows.specs.declared.cycles.tracer.StoredContinuation.{StoredContinuation}
 use Rattle.rows.specs.declared.cycles.tracer.CoreTraceGenerationTracer.{CoreTraceGenerationTracer}
 use Rattle.rows.specs.declared.replay.pairs.Walk.{Walk}
-use Rattle.rows.specs.declared.replay.pairs.OpStored.{OpStored}
-use Rattle.rows.specs.declared.replay.pairs.OpFound.{OpFound}
-use Rattle.rows.specs.declared.replay.pairs.PairFound.{PairFound}
+use Rattle.rows.specs.declared.replay.pairs.StoredOp.{StoredOp}
+use Rattle.rows.specs.declared.replay.pairs.PairEnd.{PairEnd}
+use Rattle.groups.specs.declared.context.OpCells.{OpCells}
+use Rattle.rows.specs.declared.records.address_state.Cursor.{Cursor}
 use Rattle.rows.specs.declared.replay.pairs.Followed.{Followed}
 use Rattle.rows.specs.records.Forests.{Forest}
 use Rattle.rows.specs.records.Addresses.{Queues}
@@ -34,7 +32,7 @@ use Rattle.rows.specs.records.Built.{built_system, built_stack, stack_cells}
 use Rattle.rows.specs.records.Cells.{row_cells, row_written}
 use Rattle.rows.specs.records.DecoderRows.{operation}
 use Rattle.rows.specs.records.CallRecords.{of32, stored_in_record, system_in, stack_in, registers_in, call_in, record_at}
-use Rattle.rows.specs.cycles.Made.{Cursor, cursor, made_with, resumed, made}
+use Rattle.rows.specs.cycles.Made.{cursor, made_with, resumed, made}
 use Rattle.rows.specs.cycles.Cycles.{left_after}
 use Rattle.rows.specs.replay.Calls.{Setting, call_done, call_written}
 
@@ -71,14 +69,14 @@ RowBehind before row decoder entry exit =
     → exit ≡ row_written entry row (row_cells (built_system state) decoder (built_stack (stack_in before depth)))
 
 -- a storing that stores an operation
-abbrev pub StoresOperation : OpStored → List ℕ → Type 0
-StoresOperation (OpStored.Is id index op) s =
-    (values : StoredValues) × (stored_in_record s ≡ accepted values) × (values.continuation ≡ Continuation.ResumeBasicBlock id index op)
-StoresOperation OpStored.Not s = Unit {0}
+abbrev pub StoresOperation : Option StoredOp → List ℕ → Type 0
+StoresOperation (Some op) s =
+    (values : StoredValues) × (stored_in_record s ≡ accepted values) × (values.continuation ≡ Continuation.ResumeBasicBlock op.id op.index op.op)
+StoresOperation None s = Unit {0}
 
 -- an operation's row, whatever its helpers
-abbrev pub OperationIn : OpFound → Forest → (push : ℕ) → MastNodeId → (index op : ℕ) → Type 0
-OperationIn (OpFound.Is opcode cells) f push id index op =
+abbrev pub OperationIn : Option (ℕ × OpCells) → Forest → (push : ℕ) → MastNodeId → (index op : ℕ) → Type 0
+OperationIn (Some (opcode, cells)) f push id index op =
     (registers : OperationHelperRegisters) (helpers : UserOpHelpers) (here : Cursor) → helpers_answer registers ≡ accepted helpers → (following : ℕ)
     × (resumed f push id index op registers here ≡ made_with
     (operation opcode here.state.current_addr here.state.parent_addr cells.index cells.context.current_op_group
@@ -86,13 +84,13 @@ OperationIn (OpFound.Is opcode cells) f push id index op =
     here
     Used.Nothing
     following)
-OperationIn OpFound.Not f push id index op = Unit {0}
+OperationIn None f push id index op = Unit {0}
 
 -- the helpers of a cycle's record
-abbrev pub HelpersIn : HelpersFound → List ℕ → Type 0
-HelpersIn (HelpersFound.Are helpers) c =
+abbrev pub HelpersIn : Option UserOpHelpers → List ℕ → Type 0
+HelpersIn (Some helpers) c =
     (registers : OperationHelperRegisters) × (registers_in c ≡ accepted registers) × (helpers_answer registers ≡ accepted helpers)
-HelpersIn (HelpersFound.Refused n) c = Unit {0}
+HelpersIn None c = Unit {0}
 
 -- what a storing and its cycle make
 unfoldable pub pair_made : Forest → Queues → Profile → (s c : List ℕ) → Cursor → Answer MadeRow
@@ -101,9 +99,9 @@ pair_made f q p s c here =
     and_then (registers_in c) (λ registers.
     made f q p registers values.continuation values.is_loop_body (read_captured values.captured) here))
 
-abbrev pub Makes : Made → Answer MadeRow → Type 0
-Makes (Made.Row m) answer = answer ≡ accepted m
-Makes (Made.Refused n) answer = Unit {0}
+abbrev pub Makes : Option MadeRow → Answer MadeRow → Type 0
+Makes (Some m) answer = answer ≡ accepted m
+Makes None answer = Unit {0}
 
 -- a storing and a cycle in a forest that no check before the continuation's refuses
 pub record IsPair (s c : List ℕ) (forest : ℕ) : Type 0 where
@@ -126,18 +124,18 @@ PutBehind write before row m entry exit =
     → exit ≡ pick write (row_written entry row (row_cells (built_system state) m.row (built_stack (stack_in before depth)))) entry
 
 -- an operation's pair that is taken, and what it leaves; else nothing is changed
-abbrev pub TakesOperation : PairFound → Forest → (push : ℕ) → MastNodeId → (index op : ℕ) → (before c : List ℕ) → (row : ℕ) → Cursor → (write : Bool) → (entry exit : List ℕ) → Type 0
-TakesOperation (PairFound.Taken end) f push id index op before c row here write entry exit =
+abbrev pub TakesOperation : Option PairEnd → Forest → (push : ℕ) → MastNodeId → (index op : ℕ) → (before c : List ℕ) → (row : ℕ) → Cursor → (write : Bool) → (entry exit : List ℕ) → Type 0
+TakesOperation (Some end) f push id index op before c row here write entry exit =
     (registers : OperationHelperRegisters) × (registers_in c ≡ accepted registers)
-    × (m : MadeRow) × (resumed f push id index op registers here ≡ accepted m) × (m.state ≡ end.state) × (m.at ≡ end.at) × (m.used ≡ end.used)
+    × (m : MadeRow) × (resumed f push id index op registers here ≡ accepted m) × (m.state ≡ end.here.state) × (m.at ≡ end.here.at) × (m.used ≡ end.used)
     × PutBehind write before row m entry exit
-TakesOperation PairFound.Not f push id index op before c row here write entry exit = exit ≡ entry
+TakesOperation None f push id index op before c row here write entry exit = exit ≡ entry
 
 -- a pair that is taken moves the walk as the continuation does and writes its row; else nothing is changed
-abbrev pub TakesPair : PairFound → Forest → Queues → Profile → (before s c : List ℕ) → (row : ℕ) → Cursor → (write : Bool) → (entry exit : List ℕ) → Type 0
-TakesPair (PairFound.Taken end) f q p before s c row here write entry exit =
-    (m : MadeRow) × (pair_made f q p s c here ≡ accepted m) × (m.state ≡ end.state) × (m.at ≡ end.at) × (m.used ≡ end.used) × PutBehind write before row m entry exit
-TakesPair PairFound.Not f q p before s c row here write entry exit = exit ≡ entry
+abbrev pub TakesPair : Option PairEnd → Forest → Queues → Profile → (before s c : List ℕ) → (row : ℕ) → Cursor → (write : Bool) → (entry exit : List ℕ) → Type 0
+TakesPair (Some end) f q p before s c row here write entry exit =
+    (m : MadeRow) × (pair_made f q p s c here ≡ accepted m) × (m.state ≡ end.here.state) × (m.at ≡ end.here.at) × (m.used ≡ end.used) × PutBehind write before row m entry exit
+TakesPair None f q p before s c row here write entry exit = exit ≡ entry
 
 -- MANY PAIRS
 
@@ -147,12 +145,12 @@ pub record Onward (f : Forest) (q : Queues) (p : Profile) (forest : ℕ) (record
   pub room : w.row < length entry / row_width
   pub is_pair : IsPair (record_at records w.next) (record_at records (w.next + 1)) forest
   pub m : MadeRow
-  pub makes : pair_made f q p (record_at records w.next) (record_at records (w.next + 1)) (cursor w.state w.at) ≡ accepted m
+  pub makes : pair_made f q p (record_at records w.next) (record_at records (w.next + 1)) w.here ≡ accepted m
   pub put : PutBehind write (record_at records (w.next - 1)) w.row m entry exit
   pub next : w'.next ≡ w.next + 2
   pub row : w'.row ≡ w.row + 1
-  pub state : w'.state ≡ m.state
-  pub at : w'.at ≡ m.at
+  pub state : w'.here.state ≡ m.state
+  pub at : w'.here.at ≡ m.at
   pub used : w'.used ≡ m.used
   pub same_length : length exit ≡ length entry
 
@@ -182,7 +180,7 @@ abbrev pub tracer_behind : (c : List ℕ) → (row : ℕ) → StoredValues → U
 tracer_behind c row values used state at system depth = record {
   refusal = 0;
   row_write_index = row;
-  continuation = StoredContinuation.Is values.continuation;
+  continuation = Some values.continuation;
   is_loop_body = values.is_loop_body;
   captured = left_after used (read_captured values.captured);
   decoder_state = state;
@@ -196,7 +194,7 @@ abbrev pub StandsAt : (records : List ℕ) → Walk → CoreTraceGenerationTrace
 StandsAt records w r =
     (values : StoredValues) (system : SystemState) (depth : ℕ) → stored_in_record (record_at records (w.next - 2)) ≡ accepted values
     → system_in (record_at records (w.next - 1)) ≡ accepted system → of32 23 (get_or (record_at records (w.next - 1)) 24 0) ≡ accepted depth
-    → r ≡ tracer_behind (record_at records (w.next - 1)) w.row values w.used w.state w.at system depth
+    → r ≡ tracer_behind (record_at records (w.next - 1)) w.row values w.used w.here.state w.here.at system depth
 
 -- what is followed are the calls one by one
 abbrev pub Follows : Setting → (records : List ℕ) → (k : ℕ) → CoreTraceGenerationTracer → (write : Bool) → (entry exit : List ℕ) → Followed → Type 0

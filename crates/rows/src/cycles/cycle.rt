@@ -2,27 +2,30 @@
 ghost use Rattle.std.specs.Prelude.{◌≡◌, ◌+◌, ◌/◌, ◌<◌, length};
 ghost use Rattle.groups.specs.Answer.{refusal, accepted, pick};
 ghost use Rattle.groups.specs.Constants.{row_width};
+ghost use Rattle.groups.specs.Refusals.{told};
 ghost use Rattle.rows.specs.records.Lent.{lent_forest, lent_queues};
-ghost use Rattle.rows.specs.cycles.Made.{told_made};
 ghost use Rattle.rows.specs.records.Cells.{row_cells, put_row};
 ghost use Rattle.rows.specs.cycles.Cycles.{cycle_with, left_after, keeping, tracer_after, following_of, last_system, last_stack, fragment_after};
-ghost use Rattle.rows.specs.cycles.LentTally.{tallied_cycle, tally_after};
+ghost use Rattle.rows.specs.cycles.LentTally.{tallied_cycle, tally_after, unless_full};
 ghost use Rattle.rows.specs.ways.Inner.{HasRoom, InLimits};
 
-use crate::cycles::made::{Made, MadeRow, make};
+use crate::cycles::made::{MadeRow, make};
 use crate::cycles::scan::{Scan, scan_lent};
 use crate::cycles::tally::{count_row, with_tally};
-use crate::cycles::tracer::{CoreTraceGenerationTracer, StoredContinuation};
-use crate::records::continuation::{CalleeWord, Captured, ContextInfo, LoopCondition, Used};
+use crate::cycles::tracer::CoreTraceGenerationTracer;
+use crate::records::address_state::{Cursor, LentQueues};
+use crate::records::continuation::{Captured, Used};
 use crate::records::decoder_row::DecoderRow;
+use crate::records::forest::LentForest;
 use crate::records::profile::Profile;
 use crate::records::row::{fragment_wrong, write_row};
 use crate::records::state::{StackCols, StackState, SystemCols, SystemState};
-use groups::constants::{Refusal, Row};
+use groups::constants::Row;
 use groups::helpers::OperationHelperRegisters;
+use groups::refusal::Refusal;
 
 // What a finish answers: 0 or the refusal's number, the tracer, and how many operations follow in the operation's group (0 where none was
-// resumed, and on a refusal).
+// resumed, and on a refusal). A number and no `Result`, since a tracer that is passed in may keep any number.
 #[derive(Clone, Copy)]
 pub struct Finished {
     pub refusal: u32,
@@ -34,116 +37,78 @@ pub struct Finished {
 pub(crate) fn left_after(used: Used, captured: Captured) -> Captured
     ensures { result ≡ left_after used captured }
 {
-    let condition = captured.finish_loop_condition;
-    let callee = captured.dyn_callee_hash;
-    let info = captured.ctx_info;
     match used {
         Used::Nothing => captured,
         Used::Condition => Captured {
-            finish_loop_condition: LoopCondition::Absent,
-            dyn_callee_hash: callee,
-            ctx_info: info,
+            finish_loop_condition: None,
+            ..captured
         },
         Used::Callee => Captured {
-            finish_loop_condition: condition,
-            dyn_callee_hash: CalleeWord::Absent,
-            ctx_info: info,
+            dyn_callee_hash: None,
+            ..captured
         },
         Used::CalleeAndInfo => Captured {
-            finish_loop_condition: condition,
-            dyn_callee_hash: CalleeWord::Absent,
-            ctx_info: ContextInfo::Absent,
+            dyn_callee_hash: None,
+            ctx_info: None,
+            ..captured
         },
     }
 }
 
-// Every check of a finish in its order, and what the continuation makes.
+// Every check of a finish in its order but the kept refusal, and what the continuation makes.
 fn checked(
     scan: Scan,
     cells: usize,
-    nodes: &[u32],
-    digests: &[u64],
-    batches: &[u32],
-    groups: &[u64],
-    ops: &[u8],
-    addresses: &[u64],
-    parents: &[u64],
-    ends: &[u64],
+    forest: &LentForest,
+    queues: &LentQueues,
     profile: Profile,
     stack: StackState,
     registers: OperationHelperRegisters,
     tracer: CoreTraceGenerationTracer,
-) -> Made
-    ensures result_value { told_made result ≡ cycle_with scan profile (lent_forest nodes digests batches groups ops)
-        (lent_queues addresses parents ends) stack registers cells tracer }
+) -> Result<MadeRow, Refusal>
+    requires { tracer.refusal ≡ 0 }
+    ensures result_value { told result ≡ cycle_with scan profile (lent_forest forest.now) (lent_queues queues.now) stack registers cells tracer }
     ensures has_room { HasRoom result cells tracer.row_write_index }
     ensures in_limits { InLimits result scan.too_large tracer.row_write_index }
 {
-    if tracer.refusal != 0 {
-        return Made::Refused(tracer.refusal);
-    }
-    let stored = tracer.continuation;
-    let StoredContinuation::Is(continuation) = stored else {
-        return Made::Refused(Refusal::STORED_ABSENT);
-    };
+    let continuation = tracer.continuation.ok_or(Refusal::StoredAbsent)?;
     if scan.big {
-        return Made::Refused(Refusal::BIG_OPCODE);
+        return Err(Refusal::BigOpcode);
     }
     if scan.profile_wrong {
-        return Made::Refused(Refusal::BAD_PROFILE);
+        return Err(Refusal::BadProfile);
     }
     if scan.too_large | fragment_wrong(cells, tracer.row_write_index) {
-        return Made::Refused(Refusal::BAD_LENGTH);
+        return Err(Refusal::BadLength);
     }
     if stack.stack_depth < 16 {
-        return Made::Refused(Refusal::LOW_DEPTH);
+        return Err(Refusal::LowDepth);
     }
-    let captured = tracer.captured;
-    let state = tracer.decoder_state;
-    let at = tracer.at;
-    let made = make(
-        nodes,
-        digests,
-        batches,
-        groups,
-        ops,
-        addresses,
-        parents,
-        ends,
+    let here = Cursor {
+        state: tracer.decoder_state,
+        at: tracer.at,
+    };
+    let row = make(
+        forest,
+        queues,
         profile,
         registers,
         continuation,
         tracer.is_loop_body,
-        captured,
-        state,
-        at,
-    );
-    let Made::Row(row) = made else {
-        return made;
-    };
+        tracer.captured,
+        here,
+    )?;
     if cells / Row::WIDTH <= tracer.row_write_index {
-        return Made::Refused(Refusal::NO_ROW_LEFT);
+        return Err(Refusal::NoRowLeft);
     }
-    Made::Row(row)
-}
-
-// The number that a cycle refuses with, or 0.
-fn made_refusal(made: Made) -> u32
-    ensures { result ≡ refusal (told_made made) }
-{
-    match made {
-        Made::Refused(n) => n,
-        Made::Row(_) => 0,
-    }
+    Ok(row)
 }
 
 // The tracer with a refusal's number.
-pub(crate) fn kept(n: u32, tracer: CoreTraceGenerationTracer) -> CoreTraceGenerationTracer
-    ensures { result ≡ keeping n tracer }
+pub(crate) fn kept(refusal: u32, tracer: CoreTraceGenerationTracer) -> CoreTraceGenerationTracer
+    ensures { result ≡ keeping refusal tracer }
 {
-    let mut t = tracer;
-    t.refusal = n;
-    t
+    CoreTraceGenerationTracer { refusal, ..tracer }
 }
 
 // The tracer after a row.
@@ -156,24 +121,15 @@ fn moved(
     requires { tracer.row_write_index + 1 < 18446744073709551616 }
     ensures { result ≡ tracer_after system stack tracer (accepted row) }
 {
-    let stored = tracer.continuation;
-    let before = tracer.captured;
-    let used = row.used;
-    let captured = left_after(used, before);
-    let state = row.state;
-    let at = row.at;
-    let built_system = SystemCols::build(system);
-    let built_stack = StackCols::build(stack);
     CoreTraceGenerationTracer {
         refusal: 0,
         row_write_index: tracer.row_write_index + 1,
-        continuation: stored,
-        is_loop_body: tracer.is_loop_body,
-        captured,
-        decoder_state: state,
-        at,
-        system_cols: built_system,
-        stack_cols: built_stack,
+        captured: left_after(row.used, tracer.captured),
+        decoder_state: row.state,
+        at: row.at,
+        system_cols: SystemCols::build(system),
+        stack_cols: StackCols::build(stack),
+        ..tracer
     }
 }
 
@@ -190,48 +146,52 @@ fn put_row(
         fragment.old }
 {
     if write {
-        let last_system = tracer.last_system();
-        let last_stack = tracer.last_stack();
         write_row(
             fragment,
             tracer.row_write_index,
-            last_system,
+            tracer.last_system(),
             decoder,
-            last_stack,
+            tracer.last_stack(),
         );
+    }
+}
+
+// What a refusal leaves.
+fn refused(refusal: u32, tracer: CoreTraceGenerationTracer) -> Finished
+    ensures { (result.refusal ≡ refusal) × (result.tracer ≡ keeping refusal tracer) × (result.following ≡ 0) }
+{
+    Finished {
+        refusal,
+        tracer: kept(refusal, tracer),
+        following: 0,
     }
 }
 
 // What a row that was made, or a refusal, leaves; `write` says whether the row is written.
 fn finish_made(
     write: bool,
-    made: Made,
+    made: Result<MadeRow, Refusal>,
     system: SystemState,
     stack: StackState,
     tracer: CoreTraceGenerationTracer,
     fragment: &mut [u64],
 ) -> Finished
     requires { HasRoom made (length fragment.old) tracer.row_write_index }
-    ensures refusal_value { result.refusal ≡ refusal (told_made made) }
-    ensures tracer_value { result.tracer ≡ tracer_after system stack tracer (told_made made) }
-    ensures following_value { result.following ≡ following_of (told_made made) }
-    ensures fragment_after { fragment.new ≡ pick write (fragment_after fragment.old tracer (told_made made)) fragment.old }
+    ensures refusal_value { result.refusal ≡ refusal (told made) }
+    ensures tracer_value { result.tracer ≡ tracer_after system stack tracer (told made) }
+    ensures following_value { result.following ≡ following_of (told made) }
+    ensures fragment_after { fragment.new ≡ pick write (fragment_after fragment.old tracer (told made)) fragment.old }
 {
-    let Made::Row(row) = made else {
-        let n = made_refusal(made);
-        return Finished {
-            refusal: n,
-            tracer: kept(n, tracer),
-            following: 0,
-        };
-    };
-    let decoder = row.row;
-    let following = row.following;
-    put_row(write, decoder, tracer, fragment);
-    Finished {
-        refusal: 0,
-        tracer: moved(row, system, stack, tracer),
-        following,
+    match made {
+        Ok(row) => {
+            put_row(write, row.row, tracer, fragment);
+            Finished {
+                refusal: 0,
+                tracer: moved(row, system, stack, tracer),
+                following: row.following,
+            }
+        }
+        Err(refusal) => refused(u32::from(refusal), tracer),
     }
 }
 
@@ -240,14 +200,8 @@ fn finish_made(
 pub(crate) fn cycle_with(
     write: bool,
     scan: Scan,
-    nodes: &[u32],
-    digests: &[u64],
-    batches: &[u32],
-    groups: &[u64],
-    ops: &[u8],
-    addresses: &[u64],
-    parents: &[u64],
-    ends: &[u64],
+    forest: &LentForest,
+    queues: &LentQueues,
     profile: Profile,
     system: SystemState,
     stack: StackState,
@@ -255,46 +209,68 @@ pub(crate) fn cycle_with(
     tracer: CoreTraceGenerationTracer,
     fragment: &mut [u64],
 ) -> Finished
-    ensures refusal_value { result.refusal ≡ refusal (cycle_with scan profile (lent_forest nodes digests batches groups ops)
-        (lent_queues addresses parents ends) stack registers (length fragment.old) tracer) }
-    ensures tracer_value { result.tracer ≡ tracer_after system stack tracer (cycle_with scan profile (lent_forest nodes digests batches groups ops)
-        (lent_queues addresses parents ends) stack registers (length fragment.old) tracer) }
-    ensures following_value { result.following ≡ following_of (cycle_with scan profile (lent_forest nodes digests batches groups ops)
-        (lent_queues addresses parents ends) stack registers (length fragment.old) tracer) }
+    ensures refusal_value { result.refusal ≡ refusal (cycle_with scan profile (lent_forest forest.now)
+        (lent_queues queues.now) stack registers (length fragment.old) tracer) }
+    ensures tracer_value { result.tracer ≡ tracer_after system stack tracer (cycle_with scan profile (lent_forest forest.now)
+        (lent_queues queues.now) stack registers (length fragment.old) tracer) }
+    ensures following_value { result.following ≡ following_of (cycle_with scan profile (lent_forest forest.now)
+        (lent_queues queues.now) stack registers (length fragment.old) tracer) }
     ensures fragment_after { fragment.new ≡ pick write
-        (fragment_after fragment.old tracer (cycle_with scan profile (lent_forest nodes digests batches groups ops)
-        (lent_queues addresses parents ends) stack registers (length fragment.old) tracer))
+        (fragment_after fragment.old tracer (cycle_with scan profile (lent_forest forest.now)
+        (lent_queues queues.now) stack registers (length fragment.old) tracer))
         fragment.old }
 {
+    if tracer.refusal != 0 {
+        return refused(tracer.refusal, tracer);
+    }
+    let cells = fragment.len();
     let made = checked(
-        scan,
-        fragment.len(),
-        nodes,
-        digests,
-        batches,
-        groups,
-        ops,
-        addresses,
-        parents,
-        ends,
-        profile,
-        stack,
-        registers,
-        tracer,
+        scan, cells, forest, queues, profile, stack, registers, tracer,
     );
     finish_made(write, made, system, stack, tracer, fragment)
 }
 
+// The row of a finish, counted in the tally; or the refusal.
+fn counted(
+    forest: &LentForest,
+    queues: &LentQueues,
+    profile: Profile,
+    stack: StackState,
+    registers: OperationHelperRegisters,
+    tracer: CoreTraceGenerationTracer,
+    tally: &mut [u64],
+    fragment: &[u64],
+) -> Result<MadeRow, Refusal>
+    requires { tracer.refusal ≡ 0 }
+    ensures result_value { told result ≡ tallied_cycle profile (lent_forest forest.now)
+        (lent_queues queues.now) stack registers tally.old fragment.now tracer }
+    ensures tally_after { tally.new ≡ tally_after profile tally.old fragment.now tracer.row_write_index
+        (tallied_cycle profile (lent_forest forest.now)
+        (lent_queues queues.now) stack registers tally.old fragment.now tracer) }
+    ensures has_room { HasRoom result (length fragment.now) tracer.row_write_index }
+{
+    let batches = forest.batches.records;
+    let scan = with_tally(
+        tally.len(),
+        scan_lent(profile, forest.nodes, batches, forest.ops),
+    );
+    let row = checked(
+        scan,
+        fragment.len(),
+        forest,
+        queues,
+        profile,
+        stack,
+        registers,
+        tracer,
+    )?;
+    count_row(profile, tally, fragment, tracer.row_write_index, row)
+}
+
 // One finish: it writes one row of the fragment and counts in the tally, or keeps a refusal's number.
 pub fn finalize_clock_cycle(
-    nodes: &[u32],
-    digests: &[u64],
-    batches: &[u32],
-    groups: &[u64],
-    ops: &[u8],
-    addresses: &[u64],
-    parents: &[u64],
-    ends: &[u64],
+    forest: &LentForest,
+    queues: &LentQueues,
     profile: Profile,
     system: SystemState,
     stack: StackState,
@@ -303,36 +279,23 @@ pub fn finalize_clock_cycle(
     tally: &mut [u64],
     fragment: &mut [u64],
 ) -> Finished
-    ensures refusal_value { result.refusal ≡ refusal (tallied_cycle profile (lent_forest nodes digests batches groups ops)
-        (lent_queues addresses parents ends) stack registers tally.old fragment.old tracer) }
-    ensures tracer_value { result.tracer ≡ tracer_after system stack tracer (tallied_cycle profile (lent_forest nodes digests batches groups ops)
-        (lent_queues addresses parents ends) stack registers tally.old fragment.old tracer) }
-    ensures following_value { result.following ≡ following_of (tallied_cycle profile (lent_forest nodes digests batches groups ops)
-        (lent_queues addresses parents ends) stack registers tally.old fragment.old tracer) }
+    ensures refusal_value { result.refusal ≡ refusal (tallied_cycle profile (lent_forest forest.now)
+        (lent_queues queues.now) stack registers tally.old fragment.old tracer) }
+    ensures tracer_value { result.tracer ≡ tracer_after system stack tracer (tallied_cycle profile (lent_forest forest.now)
+        (lent_queues queues.now) stack registers tally.old fragment.old tracer) }
+    ensures following_value { result.following ≡ following_of (tallied_cycle profile (lent_forest forest.now)
+        (lent_queues queues.now) stack registers tally.old fragment.old tracer) }
     ensures tally_after { tally.new ≡ tally_after profile tally.old fragment.old tracer.row_write_index
-        (tallied_cycle profile (lent_forest nodes digests batches groups ops)
-        (lent_queues addresses parents ends) stack registers tally.old fragment.old tracer) }
-    ensures fragment_after { fragment.new ≡ fragment_after fragment.old tracer (tallied_cycle profile (lent_forest nodes digests batches groups ops)
-        (lent_queues addresses parents ends) stack registers tally.old fragment.old tracer) }
+        (tallied_cycle profile (lent_forest forest.now)
+        (lent_queues queues.now) stack registers tally.old fragment.old tracer) }
+    ensures fragment_after { fragment.new ≡ fragment_after fragment.old tracer (tallied_cycle profile (lent_forest forest.now)
+        (lent_queues queues.now) stack registers tally.old fragment.old tracer) }
 {
-    let found = scan_lent(profile, nodes, batches, ops);
-    let scan = with_tally(tally.len(), found);
-    let made = checked(
-        scan,
-        fragment.len(),
-        nodes,
-        digests,
-        batches,
-        groups,
-        ops,
-        addresses,
-        parents,
-        ends,
-        profile,
-        stack,
-        registers,
-        tracer,
+    if tracer.refusal != 0 {
+        return refused(tracer.refusal, tracer);
+    }
+    let made = counted(
+        forest, queues, profile, stack, registers, tracer, tally, fragment,
     );
-    let counted = count_row(profile, tally, fragment, tracer.row_write_index, made);
-    finish_made(true, counted, system, stack, tracer, fragment)
+    finish_made(true, made, system, stack, tracer, fragment)
 }

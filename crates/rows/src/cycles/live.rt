@@ -7,6 +7,8 @@ ghost use Rattle.rows.specs.cycles.LentTally.{tallied_cycle, tally_after};
 
 use crate::cycles::cycle::{Finished, finalize_clock_cycle};
 use crate::cycles::tracer::CoreTraceGenerationTracer;
+use crate::records::address_state::LentQueues;
+use crate::records::forest::LentForest;
 use crate::records::profile::Profile;
 use crate::records::state::{StackState, SystemState};
 use groups::helpers::OperationHelperRegisters;
@@ -18,44 +20,32 @@ pub struct LiveTracer<'a> {
 }
 
 // A finish of the record: `finalize_clock_cycle` with its tracer and its tally.
-pub fn finish_live<'n, 'd, 'b, 'g, 'o, 'p, 'q, 'e, 'a, 'f>(
-    nodes: &'n [u32],
-    digests: &'d [u64],
-    batches: &'b [u32],
-    groups: &'g [u64],
-    ops: &'o [u8],
-    addresses: &'p [u64],
-    parents: &'q [u64],
-    ends: &'e [u64],
+pub fn finish_live<'a>(
+    forest: &LentForest,
+    queues: &LentQueues,
     profile: Profile,
     system: SystemState,
     stack: StackState,
     registers: OperationHelperRegisters,
     live: LiveTracer<'a>,
-    fragment: &'f mut [u64],
+    fragment: &mut [u64],
 ) -> Finished
-    ensures refusal_value { result.refusal ≡ refusal (tallied_cycle profile (lent_forest nodes digests batches groups ops)
-        (lent_queues addresses parents ends) stack registers live.entry.tally.now fragment.old live.entry.tracer) }
-    ensures tracer_value { result.tracer ≡ tracer_after system stack live.entry.tracer (tallied_cycle profile (lent_forest nodes digests batches groups ops)
-        (lent_queues addresses parents ends) stack registers live.entry.tally.now fragment.old live.entry.tracer) }
-    ensures following_value { result.following ≡ following_of (tallied_cycle profile (lent_forest nodes digests batches groups ops)
-        (lent_queues addresses parents ends) stack registers live.entry.tally.now fragment.old live.entry.tracer) }
+    ensures refusal_value { result.refusal ≡ refusal (tallied_cycle profile (lent_forest forest.now)
+        (lent_queues queues.now) stack registers live.entry.tally.now fragment.old live.entry.tracer) }
+    ensures tracer_value { result.tracer ≡ tracer_after system stack live.entry.tracer (tallied_cycle profile (lent_forest forest.now)
+        (lent_queues queues.now) stack registers live.entry.tally.now fragment.old live.entry.tracer) }
+    ensures following_value { result.following ≡ following_of (tallied_cycle profile (lent_forest forest.now)
+        (lent_queues queues.now) stack registers live.entry.tally.now fragment.old live.entry.tracer) }
     ensures live_value { live.exit.1.0.now ≡ tally_after profile live.entry.tally.now fragment.old live.entry.tracer.row_write_index
-        (tallied_cycle profile (lent_forest nodes digests batches groups ops)
-        (lent_queues addresses parents ends) stack registers live.entry.tally.now fragment.old live.entry.tracer) }
+        (tallied_cycle profile (lent_forest forest.now)
+        (lent_queues queues.now) stack registers live.entry.tally.now fragment.old live.entry.tracer) }
     ensures fragment_after { fragment.new ≡ fragment_after fragment.old live.entry.tracer
-        (tallied_cycle profile (lent_forest nodes digests batches groups ops)
-        (lent_queues addresses parents ends) stack registers live.entry.tally.now fragment.old live.entry.tracer) }
+        (tallied_cycle profile (lent_forest forest.now)
+        (lent_queues queues.now) stack registers live.entry.tally.now fragment.old live.entry.tracer) }
 {
     finalize_clock_cycle(
-        nodes,
-        digests,
-        batches,
-        groups,
-        ops,
-        addresses,
-        parents,
-        ends,
+        forest,
+        queues,
         profile,
         system,
         stack,

@@ -1,26 +1,26 @@
 // The lent tally of a cycle: 256 places, each an address and then its count.
 ghost use Rattle.std.specs.Prelude.{◌≡◌, ◌<◌, ◌≤◌, length};
 ghost use Rattle.groups.specs.Constants.{most_rows};
-ghost use Rattle.rows.specs.cycles.Made.{told_made};
+ghost use Rattle.groups.specs.Answer.{accepted};
+ghost use Rattle.groups.specs.Refusals.{told};
 ghost use Rattle.rows.specs.cycles.LentTally.{count_in, is_free, is_of, place_for, counted_at, cannot_count, counts_next, with_tally, unless_full, tally_after};
-ghost use Rattle.rows.specs.ways.Inner.{Countable};
 
-use crate::cycles::made::Made;
+use crate::cycles::made::MadeRow;
 use crate::cycles::scan::Scan;
 use crate::passes::multiplicity::is_flagged_end;
 use crate::records::profile::Profile;
-use field::cell::{cell, number_at};
+use field::cell::{cell, item_or};
 use field::felt::reduce;
-use groups::constants::{Refusal, Row};
+use groups::constants::Row;
+use groups::refusal::Refusal;
 
 // A scan's answer, and 11 for a tally of fewer places.
 pub(crate) fn with_tally(numbers: usize, scan: Scan) -> Scan
     ensures { result ≡ with_tally numbers scan }
 {
     Scan {
-        big: scan.big,
-        profile_wrong: scan.profile_wrong,
         too_large: scan.too_large | (numbers < 512),
+        ..scan
     }
 }
 
@@ -28,7 +28,7 @@ fn is_free(tally: &[u64], place: usize) -> bool
     requires { place ≤ 256 }
     ensures { result ≡ is_free tally.now place }
 {
-    number_at(tally, 2 * place + 1) == 0
+    item_or(tally, 2 * place + 1, 0) == 0
 }
 
 // Whether a place is in use with the address.
@@ -45,16 +45,12 @@ fn place_for(tally: &[u64], addr: u64) -> usize
     ensures upper_bound { result ≤ 256 }
 {
     let mut free: usize = 256;
-    let mut place: usize = 0;
-    while place < 256 {
+    for place in 0..256 {
         if is_of(tally, addr, place) {
             return place;
         }
         if (free == 256) & is_free(tally, place) {
             free = place;
-            place += 1;
-        } else {
-            place += 1;
         }
     }
     free
@@ -65,7 +61,7 @@ fn cannot_count(tally: &[u64], place: usize) -> bool
     requires { place ≤ 256 }
     ensures { result ≡ cannot_count tally.now place }
 {
-    (256 <= place) | (Row::MOST as u64 <= number_at(tally, 2 * place + 1))
+    (256 <= place) | (Row::MOST as u64 <= item_or(tally, 2 * place + 1, 0))
 }
 
 // Counts the address at a place.
@@ -98,25 +94,21 @@ pub(crate) fn count_row(
     tally: &mut [u64],
     fragment: &[u64],
     rows: usize,
-    made: Made,
-) -> Made
-    requires { Countable made (length tally.old) rows }
-    ensures result_value { told_made result ≡ unless_full profile tally.old fragment.now rows (told_made made) }
+    made: MadeRow,
+) -> Result<MadeRow, Refusal>
+    requires { (rows < most_rows) × (512 ≤ length tally.old) }
+    ensures result_value { told result ≡ unless_full profile tally.old fragment.now rows (accepted made) }
     ensures tally_after { tally.new ≡ tally_after profile tally.old fragment.now rows
-        (unless_full profile tally.old fragment.now rows (told_made made)) }
+        (unless_full profile tally.old fragment.now rows (accepted made)) }
 {
-    let Made::Row(row) = made else {
-        return made;
-    };
     if !counts_next(profile, fragment, rows) {
-        return Made::Row(row);
+        return Ok(made);
     }
-    let decoder = row.row;
-    let addr = reduce(decoder.addr);
+    let addr = reduce(made.row.addr);
     let place = place_for(tally, addr);
     if cannot_count(tally, place) {
-        return Made::Refused(Refusal::TALLY_FULL);
+        return Err(Refusal::TallyFull);
     }
     count_at(tally, addr, place);
-    Made::Row(row)
+    Ok(made)
 }

@@ -4,16 +4,8 @@ ghost use Rattle.rows.specs.records.Built.{system_cells, stack_cells};
 ghost use Rattle.rows.specs.cycles.Cycles.{fresh, stored_in, last_system, last_stack, final_state, for_passes};
 
 use crate::records::address_state::{DecoderState, Positions};
-use crate::records::continuation::{
-    CalleeWord, Captured, ContextInfo, Continuation, LoopCondition, StoredValues,
-};
+use crate::records::continuation::{Captured, Continuation, StoredValues};
 use crate::records::state::{StackCols, SystemCols};
-
-#[derive(Clone, Copy)]
-pub enum StoredContinuation {
-    Nothing,
-    Is(Continuation),
-}
 
 #[derive(Clone, Copy)]
 pub struct CoreTraceGenerationTracer {
@@ -21,7 +13,7 @@ pub struct CoreTraceGenerationTracer {
     pub refusal: u32,
     // How many rows of the fragment are written.
     pub row_write_index: usize,
-    pub continuation: StoredContinuation,
+    pub continuation: Option<Continuation>,
     pub is_loop_body: bool,
     pub captured: Captured,
     pub decoder_state: DecoderState,
@@ -59,24 +51,20 @@ impl CoreTraceGenerationTracer {
     pub fn new(state: DecoderState, at: Positions) -> Self
         ensures { result ≡ fresh state at }
     {
-        let captured = Captured {
-            finish_loop_condition: LoopCondition::Absent,
-            dyn_callee_hash: CalleeWord::Absent,
-            ctx_info: ContextInfo::Absent,
-        };
-        let system = SystemCols::zeros();
-        let stack = StackCols::zeros();
-        let read = state.read();
         Self {
             refusal: 0,
             row_write_index: 0,
-            continuation: StoredContinuation::Nothing,
+            continuation: None,
             is_loop_body: false,
-            captured,
-            decoder_state: read,
+            captured: Captured {
+                finish_loop_condition: None,
+                dyn_callee_hash: None,
+                ctx_info: None,
+            },
+            decoder_state: state.read(),
             at,
-            system_cols: system,
-            stack_cols: stack,
+            system_cols: SystemCols::zeros(),
+            stack_cols: StackCols::zeros(),
         }
     }
 
@@ -90,23 +78,11 @@ impl CoreTraceGenerationTracer {
                 tracer: self,
             };
         }
-        let continuation = values.continuation;
-        let given = values.captured;
-        let captured = given.read();
-        let state = self.decoder_state;
-        let at = self.at;
-        let system = self.system_cols;
-        let stack = self.stack_cols;
         let tracer = Self {
-            refusal: self.refusal,
-            row_write_index: self.row_write_index,
-            continuation: StoredContinuation::Is(continuation),
+            continuation: Some(values.continuation),
             is_loop_body: values.is_loop_body,
-            captured,
-            decoder_state: state,
-            at,
-            system_cols: system,
-            stack_cols: stack,
+            captured: values.captured.read(),
+            ..self
         };
         Stored { refusal: 0, tracer }
     }
@@ -136,23 +112,17 @@ impl CoreTraceGenerationTracer {
         ensures { result ≡ final_state self }
     {
         if self.refusal != 0 {
-            let last_system_cols = SystemCols::zeros();
-            let last_stack_cols = StackCols::zeros();
             return TracerFinalState {
                 refusal: self.refusal,
-                last_system_cols,
-                last_stack_cols,
+                last_system_cols: SystemCols::zeros(),
+                last_stack_cols: StackCols::zeros(),
                 num_rows_written: 0,
             };
         }
-        let system = self.last_system();
-        let stack = self.last_stack();
-        let last_system_cols = system.read();
-        let last_stack_cols = stack.read();
         TracerFinalState {
             refusal: 0,
-            last_system_cols,
-            last_stack_cols,
+            last_system_cols: self.last_system().read(),
+            last_stack_cols: self.last_stack().read(),
             num_rows_written: self.row_write_index,
         }
     }
@@ -162,11 +132,7 @@ impl CoreTraceGenerationTracer {
 fn count_for_passes(rows: usize) -> u32
     ensures { result ≡ min 4294967295 rows }
 {
-    if rows < 0x1_0000_0000 {
-        rows as u32
-    } else {
-        0xffff_ffff
-    }
+    u32::try_from(rows).unwrap_or(u32::MAX)
 }
 
 // The 25 cells, those of the system first.
@@ -188,10 +154,9 @@ impl TracerFinalState {
     pub fn for_passes(self) -> FragmentEnd
         ensures { result ≡ for_passes self }
     {
-        let system = self.last_system_cols;
-        let stack = self.last_stack_cols;
-        let count = count_for_passes(self.num_rows_written);
-        let built = built_cells(system, stack);
-        FragmentEnd { count, built }
+        FragmentEnd {
+            count: count_for_passes(self.num_rows_written),
+            built: built_cells(self.last_system_cols, self.last_stack_cols),
+        }
     }
 }

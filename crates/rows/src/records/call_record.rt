@@ -2,119 +2,66 @@
 // Each function here is lent the one record. Cells among its numbers are read modulo p; nothing comes of numbers that a record's kind does
 // not name.
 ghost use Rattle.std.specs.Prelude.{◌≡◌};
-ghost use Rattle.groups.specs.Answer.{refusal};
-ghost use Rattle.rows.specs.records.CallRecords.{ReadAs32, condition_in, callee_in, info_in, told_info, resume_in, respan_in, continuation_on, names_no_kind, continuation_in, told_continuation, names_nothing, stored_in_record, told_stored, system_in, told_system, stack_in, few_cells, many_cells, registers_in, told_registers};
+ghost use Rattle.groups.specs.Constants.{stored_absent};
+ghost use Rattle.groups.specs.Refusals.{told, told_or};
+ghost use Rattle.rows.specs.records.CallRecords.{ReadAs32, condition_in, callee_in, info_in, resume_in, respan_in, continuation_on, names_no_kind, continuation_in, names_nothing, stored_in_record, system_in, stack_in, few_cells, many_cells, registers_in};
 
-use crate::records::continuation::{
-    CalleeWord, Captured, ContextInfo, Continuation, ExecutionContextInfo, LoopCondition,
-    StoredValues,
-};
+use crate::records::continuation::{Captured, Continuation, ExecutionContextInfo, StoredValues};
 use crate::records::ids::{ContextId, MastNodeId, RowIndex};
 use crate::records::state::{StackState, SystemState};
-use field::cell::{cell, number_at};
-use groups::constants::Refusal;
+use field::cell::{cell, item_or};
 use groups::helpers::OperationHelperRegisters;
+use groups::refusal::Refusal;
 use groups::word::{QuadFelt, Word, word_at};
 
-// A number of 32 bits.
-#[derive(Clone, Copy)]
-pub enum Small {
-    Is(u32),
-    Over,
-}
-
-#[derive(Clone, Copy)]
-pub enum InfoFound {
-    Is(ContextInfo),
-    Over,
-}
-
-#[derive(Clone, Copy)]
-pub enum ContinuationFound {
-    Is(Continuation),
-    Refused(u32),
-}
-
-#[derive(Clone, Copy)]
-pub enum StoredFound {
-    Are(StoredValues),
-    Refused(u32),
-}
-
-#[derive(Clone, Copy)]
-pub enum SystemFound {
-    Is(SystemState),
-    Over,
-}
-
-#[derive(Clone, Copy)]
-pub enum RegistersFound {
-    Are(OperationHelperRegisters),
-    Missing,
-}
-
 // The number, where it has 32 bits.
-pub fn narrow(x: u64) -> Small
+pub fn narrow(x: u64) -> Option<u32>
     ensures { ReadAs32 result x }
 {
-    if 4294967296 <= x {
-        return Small::Over;
-    }
-    Small::Is(x as u32)
+    u32::try_from(x).ok()
 }
 
 // Number 6: 0 absent, 1 zero, 2 one.
-fn condition_at(numbers: &[u64]) -> LoopCondition
+fn condition_at(numbers: &[u64]) -> Option<bool>
     ensures { result ≡ condition_in numbers.now }
 {
-    let c = number_at(numbers, 6);
-    if c == 0 {
-        return LoopCondition::Absent;
+    match item_or(numbers, 6, 0) {
+        0 => None,
+        condition => Some(condition == 2),
     }
-    LoopCondition::Is(c == 2)
 }
 
 // Number 7: 1 present; the word is numbers 8 to 11.
-fn callee_at(numbers: &[u64]) -> CalleeWord
+fn callee_at(numbers: &[u64]) -> Option<Word>
     ensures { result ≡ callee_in numbers.now }
 {
-    if number_at(numbers, 7) == 1 {
-        return CalleeWord::Is(word_at(numbers, 8));
+    if item_or(numbers, 7, 0) != 1 {
+        return None;
     }
-    CalleeWord::Absent
+    Some(word_at(numbers, 8))
 }
 
 // Number 12: 1 present; 13 the depth, 14 the next overflow address. A depth over 32 bits: 23.
-fn info_at(numbers: &[u64]) -> InfoFound
-    ensures { told_info result ≡ info_in numbers.now }
+fn info_at(numbers: &[u64]) -> Result<Option<ExecutionContextInfo>, Refusal>
+    ensures { told result ≡ info_in numbers.now }
 {
-    if number_at(numbers, 12) != 1 {
-        return InfoFound::Is(ContextInfo::Absent);
+    if item_or(numbers, 12, 0) != 1 {
+        return Ok(None);
     }
-    let depth = narrow(number_at(numbers, 13));
-    let Small::Is(stack_depth) = depth else {
-        return InfoFound::Over;
-    };
-    let info = ExecutionContextInfo {
+    let stack_depth = narrow(item_or(numbers, 13, 0)).ok_or(Refusal::StoredAbsent)?;
+    Ok(Some(ExecutionContextInfo {
         stack_depth,
         next_overflow_addr: cell(numbers, 14),
-    };
-    InfoFound::Is(ContextInfo::Is(info))
+    }))
 }
 
 // ResumeBasicBlock: number 3 the batch (5), number 4 the operation (6).
-fn resume_at(numbers: &[u64], node_id: MastNodeId) -> ContinuationFound
-    ensures { told_continuation result ≡ resume_in numbers.now node_id }
+fn resume_at(numbers: &[u64], node_id: MastNodeId) -> Result<Continuation, Refusal>
+    ensures { told result ≡ resume_in numbers.now node_id }
 {
-    let batch = narrow(number_at(numbers, 3));
-    let Small::Is(batch_index) = batch else {
-        return ContinuationFound::Refused(Refusal::NO_SUCH_BATCH);
-    };
-    let op = narrow(number_at(numbers, 4));
-    let Small::Is(op_idx_in_batch) = op else {
-        return ContinuationFound::Refused(Refusal::NO_SUCH_OPERATION);
-    };
-    ContinuationFound::Is(Continuation::ResumeBasicBlock {
+    let batch_index = narrow(item_or(numbers, 3, 0)).ok_or(Refusal::NoSuchBatch)?;
+    let op_idx_in_batch = narrow(item_or(numbers, 4, 0)).ok_or(Refusal::NoSuchOperation)?;
+    Ok(Continuation::ResumeBasicBlock {
         node_id,
         batch_index,
         op_idx_in_batch,
@@ -122,34 +69,31 @@ fn resume_at(numbers: &[u64], node_id: MastNodeId) -> ContinuationFound
 }
 
 // Respan: number 3 the batch (5).
-fn respan_at(numbers: &[u64], node_id: MastNodeId) -> ContinuationFound
-    ensures { told_continuation result ≡ respan_in numbers.now node_id }
+fn respan_at(numbers: &[u64], node_id: MastNodeId) -> Result<Continuation, Refusal>
+    ensures { told result ≡ respan_in numbers.now node_id }
 {
-    let batch = narrow(number_at(numbers, 3));
-    let Small::Is(batch_index) = batch else {
-        return ContinuationFound::Refused(Refusal::NO_SUCH_BATCH);
-    };
-    ContinuationFound::Is(Continuation::Respan {
+    let batch_index = narrow(item_or(numbers, 3, 0)).ok_or(Refusal::NoSuchBatch)?;
+    Ok(Continuation::Respan {
         node_id,
         batch_index,
     })
 }
 
 // The continuation of a kind on a node; a number that names no kind: 23.
-fn continuation_on(numbers: &[u64], kind: u64, id: MastNodeId) -> ContinuationFound
-    ensures { told_continuation result ≡ continuation_on numbers.now kind id }
+fn continuation_on(numbers: &[u64], kind: u64, id: MastNodeId) -> Result<Continuation, Refusal>
+    ensures { told result ≡ continuation_on numbers.now kind id }
 {
     match kind {
-        1 => ContinuationFound::Is(Continuation::StartNode(id)),
-        2 => ContinuationFound::Is(Continuation::FinishJoin(id)),
-        3 => ContinuationFound::Is(Continuation::FinishSplit(id)),
-        4 => ContinuationFound::Is(Continuation::FinishLoop(id)),
-        5 => ContinuationFound::Is(Continuation::FinishCall(id)),
-        6 => ContinuationFound::Is(Continuation::FinishDyn(id)),
+        1 => Ok(Continuation::StartNode(id)),
+        2 => Ok(Continuation::FinishJoin(id)),
+        3 => Ok(Continuation::FinishSplit(id)),
+        4 => Ok(Continuation::FinishLoop(id)),
+        5 => Ok(Continuation::FinishCall(id)),
+        6 => Ok(Continuation::FinishDyn(id)),
         7 => resume_at(numbers, id),
         8 => respan_at(numbers, id),
-        9 => ContinuationFound::Is(Continuation::FinishBasicBlock(id)),
-        _ => ContinuationFound::Refused(Refusal::STORED_ABSENT),
+        9 => Ok(Continuation::FinishBasicBlock(id)),
+        _ => Err(Refusal::StoredAbsent),
     }
 }
 
@@ -161,20 +105,17 @@ fn names_no_kind(kind: u64) -> bool
 }
 
 // Number 1 the kind (23), number 2 the node (3), which EnterForest has not.
-fn continuation_at(numbers: &[u64]) -> ContinuationFound
-    ensures { told_continuation result ≡ continuation_in numbers.now }
+fn continuation_at(numbers: &[u64]) -> Result<Continuation, Refusal>
+    ensures { told result ≡ continuation_in numbers.now }
 {
-    let kind = number_at(numbers, 1);
+    let kind = item_or(numbers, 1, 0);
     if names_no_kind(kind) {
-        return ContinuationFound::Refused(Refusal::STORED_ABSENT);
+        return Err(Refusal::StoredAbsent);
     }
     if kind == 10 {
-        return ContinuationFound::Is(Continuation::EnterForest);
+        return Ok(Continuation::EnterForest);
     }
-    let node = narrow(number_at(numbers, 2));
-    let Small::Is(id) = node else {
-        return ContinuationFound::Refused(Refusal::NO_SUCH_NODE);
-    };
+    let id = narrow(item_or(numbers, 2, 0)).ok_or(Refusal::NoSuchNode)?;
     continuation_on(numbers, kind, MastNodeId(id))
 }
 
@@ -182,67 +123,41 @@ fn continuation_at(numbers: &[u64]) -> ContinuationFound
 pub(crate) fn names_nothing(numbers: &[u64]) -> bool
     ensures { result ≡ names_nothing numbers.now }
 {
-    (1 < number_at(numbers, 5))
-        | ((2 < number_at(numbers, 6))
-            | ((1 < number_at(numbers, 7)) | (1 < number_at(numbers, 12))))
-}
-
-// The number that a continuation is refused with, or 0.
-fn continuation_refusal(found: ContinuationFound) -> u32
-    ensures { result ≡ refusal (told_continuation found) }
-{
-    match found {
-        ContinuationFound::Refused(n) => n,
-        ContinuationFound::Is(_) => 0,
-    }
+    (1 < item_or(numbers, 5, 0))
+        | ((2 < item_or(numbers, 6, 0))
+            | ((1 < item_or(numbers, 7, 0)) | (1 < item_or(numbers, 12, 0))))
 }
 
 // What a storing is given, or the lowest number that holds of 3, 5, 6 and 23.
-pub fn stored_at(numbers: &[u64]) -> StoredFound
-    ensures { told_stored result ≡ stored_in_record numbers.now }
+pub fn stored_at(numbers: &[u64]) -> Result<StoredValues, Refusal>
+    ensures { told result ≡ stored_in_record numbers.now }
 {
-    let next = continuation_at(numbers);
-    let ContinuationFound::Is(continuation) = next else {
-        return StoredFound::Refused(continuation_refusal(next));
-    };
-    let found = info_at(numbers);
-    let InfoFound::Is(info) = found else {
-        return StoredFound::Refused(Refusal::STORED_ABSENT);
-    };
+    let continuation = continuation_at(numbers)?;
+    let ctx_info = info_at(numbers)?;
     if names_nothing(numbers) {
-        return StoredFound::Refused(Refusal::STORED_ABSENT);
+        return Err(Refusal::StoredAbsent);
     }
-    let condition = condition_at(numbers);
-    let callee = callee_at(numbers);
-    let captured = Captured {
-        finish_loop_condition: condition,
-        dyn_callee_hash: callee,
-        ctx_info: info,
-    };
-    StoredFound::Are(StoredValues {
+    Ok(StoredValues {
         continuation,
-        is_loop_body: number_at(numbers, 5) == 1,
-        captured,
+        is_loop_body: item_or(numbers, 5, 0) == 1,
+        captured: Captured {
+            finish_loop_condition: condition_at(numbers),
+            dyn_callee_hash: callee_at(numbers),
+            ctx_info,
+        },
     })
 }
 
 // Number 2 the clock row, 3 the context, each of 32 bits (23), 4 to 7 fn_hash.
-pub fn system_at(numbers: &[u64]) -> SystemFound
-    ensures { told_system result ≡ system_in numbers.now }
+pub fn system_at(numbers: &[u64]) -> Option<SystemState>
+    ensures { told_or stored_absent result ≡ system_in numbers.now }
 {
-    let row = narrow(number_at(numbers, 2));
-    let Small::Is(clk) = row else {
-        return SystemFound::Over;
-    };
-    let context = narrow(number_at(numbers, 3));
-    let Small::Is(ctx) = context else {
-        return SystemFound::Over;
-    };
-    let fn_hash = word_at(numbers, 4);
-    SystemFound::Is(SystemState {
+    let clk = narrow(item_or(numbers, 2, 0))?;
+    let ctx = narrow(item_or(numbers, 3, 0))?;
+    Some(SystemState {
         clk: RowIndex(clk),
         ctx: ContextId(ctx),
-        fn_hash,
+        fn_hash: word_at(numbers, 4),
     })
 }
 
@@ -276,59 +191,59 @@ pub fn stack_at(numbers: &[u64], stack_depth: u32) -> StackState
 }
 
 // The cases that have one or two cells.
-fn few_cells(kind: u64, a: u64, b: u64) -> RegistersFound
-    ensures { told_registers result ≡ few_cells kind a b }
+fn few_cells(kind: u64, a: u64, b: u64) -> Option<OperationHelperRegisters>
+    ensures { told_or stored_absent result ≡ few_cells kind a b }
 {
     match kind {
-        1 => RegistersFound::Are(OperationHelperRegisters::Eq {
+        1 => Some(OperationHelperRegisters::Eq {
             stack_second: a,
             stack_first: b,
         }),
-        2 => RegistersFound::Are(OperationHelperRegisters::U32Split { lo: a, hi: b }),
-        3 => RegistersFound::Are(OperationHelperRegisters::Eqz { top: a }),
-        4 => RegistersFound::Are(OperationHelperRegisters::Expacc { acc_update_val: a }),
-        6 => RegistersFound::Are(OperationHelperRegisters::U32Add { sum: a, carry: b }),
-        7 => RegistersFound::Are(OperationHelperRegisters::U32Add3 { sum: a, carry: b }),
-        8 => RegistersFound::Are(OperationHelperRegisters::U32Sub { second_new: a }),
-        9 => RegistersFound::Are(OperationHelperRegisters::U32Mul { lo: a, hi: b }),
-        10 => RegistersFound::Are(OperationHelperRegisters::U32Madd { lo: a, hi: b }),
-        12 => RegistersFound::Are(OperationHelperRegisters::U32Assert2 {
+        2 => Some(OperationHelperRegisters::U32Split { lo: a, hi: b }),
+        3 => Some(OperationHelperRegisters::Eqz { top: a }),
+        4 => Some(OperationHelperRegisters::Expacc { acc_update_val: a }),
+        6 => Some(OperationHelperRegisters::U32Add { sum: a, carry: b }),
+        7 => Some(OperationHelperRegisters::U32Add3 { sum: a, carry: b }),
+        8 => Some(OperationHelperRegisters::U32Sub { second_new: a }),
+        9 => Some(OperationHelperRegisters::U32Mul { lo: a, hi: b }),
+        10 => Some(OperationHelperRegisters::U32Madd { lo: a, hi: b }),
+        12 => Some(OperationHelperRegisters::U32Assert2 {
             first: a,
             second: b,
         }),
-        13 => RegistersFound::Are(OperationHelperRegisters::HPerm { addr: a }),
-        14 => RegistersFound::Are(OperationHelperRegisters::MerklePath { addr: a }),
-        18 => RegistersFound::Are(OperationHelperRegisters::Empty),
-        _ => RegistersFound::Missing,
+        13 => Some(OperationHelperRegisters::HPerm { addr: a }),
+        14 => Some(OperationHelperRegisters::MerklePath { addr: a }),
+        18 => Some(OperationHelperRegisters::Empty),
+        _ => None,
     }
 }
 
 // The cases that have more, then the others; a number that names no case is none.
-fn registers_of(kind: u64, a: Word, b: Word) -> RegistersFound
-    ensures { told_registers result ≡ many_cells kind a b }
+fn registers_of(kind: u64, a: Word, b: Word) -> Option<OperationHelperRegisters>
+    ensures { told_or stored_absent result ≡ many_cells kind a b }
 {
     match kind {
-        5 => RegistersFound::Are(OperationHelperRegisters::FriExt2Fold4 {
+        5 => Some(OperationHelperRegisters::FriExt2Fold4 {
             ev: QuadFelt(a.0, a.1),
             es: QuadFelt(a.2, a.3),
             x: b.0,
             x_inv: b.1,
         }),
-        11 => RegistersFound::Are(OperationHelperRegisters::U32Div {
+        11 => Some(OperationHelperRegisters::U32Div {
             quotient: a.0,
             remainder: a.1,
             remainder_diff: a.2,
         }),
-        15 => RegistersFound::Are(OperationHelperRegisters::HornerEvalBase {
+        15 => Some(OperationHelperRegisters::HornerEvalBase {
             alpha: QuadFelt(a.0, a.1),
             tmp0: QuadFelt(a.2, a.3),
             tmp1: QuadFelt(b.0, b.1),
         }),
-        16 => RegistersFound::Are(OperationHelperRegisters::HornerEvalExt {
+        16 => Some(OperationHelperRegisters::HornerEvalExt {
             alpha: QuadFelt(a.0, a.1),
             acc_tmp: QuadFelt(a.2, a.3),
         }),
-        17 => RegistersFound::Are(OperationHelperRegisters::LogDeferred {
+        17 => Some(OperationHelperRegisters::LogDeferred {
             addr: a.0,
             state_prev: Word(a.1, a.2, a.3, b.0),
         }),
@@ -337,12 +252,12 @@ fn registers_of(kind: u64, a: Word, b: Word) -> RegistersFound
 }
 
 // Number 0 the case, numbers 26 to 31 its cells in the order of its fields.
-pub fn registers_at(numbers: &[u64]) -> RegistersFound
-    ensures { told_registers result ≡ registers_in numbers.now }
+pub fn registers_at(numbers: &[u64]) -> Option<OperationHelperRegisters>
+    ensures { told_or stored_absent result ≡ registers_in numbers.now }
 {
-    let kind = number_at(numbers, 0);
+    let kind = item_or(numbers, 0, 0);
     if kind == 18 {
-        return RegistersFound::Are(OperationHelperRegisters::Empty);
+        return Some(OperationHelperRegisters::Empty);
     }
     let a = word_at(numbers, 26);
     let b = word_at(numbers, 30);

@@ -1,6 +1,6 @@
 // What is stored for a cycle.
 ghost use Rattle.std.specs.Prelude.{◌≡◌};
-ghost use Rattle.rows.specs.records.Captured.{read_callee, read_info, read_captured};
+ghost use Rattle.rows.specs.records.Captured.{read_context, read_captured};
 
 use crate::records::ids::MastNodeId;
 use field::felt::reduce;
@@ -27,20 +27,6 @@ pub enum Continuation {
     EnterForest,
 }
 
-// The condition of a FinishLoop: another pass, or the loop's end.
-#[derive(Clone, Copy)]
-pub enum LoopCondition {
-    Absent,
-    Is(bool),
-}
-
-// The callee word of a DYN or DYNCALL.
-#[derive(Clone, Copy)]
-pub enum CalleeWord {
-    Absent,
-    Is(Word),
-}
-
 // The depth and the next overflow address of a DYNCALL.
 #[derive(Clone, Copy)]
 pub struct ExecutionContextInfo {
@@ -48,41 +34,25 @@ pub struct ExecutionContextInfo {
     pub next_overflow_addr: u64,
 }
 
-#[derive(Clone, Copy)]
-pub enum ContextInfo {
-    Absent,
-    Is(ExecutionContextInfo),
-}
-
-// The word read modulo p.
-fn read_callee(callee: CalleeWord) -> CalleeWord
-    ensures { result ≡ read_callee callee }
-{
-    match callee {
-        CalleeWord::Absent => CalleeWord::Absent,
-        CalleeWord::Is(word) => CalleeWord::Is(read_word(word)),
+impl ExecutionContextInfo {
+    // The next overflow address read modulo p.
+    fn read(self) -> Self
+        ensures { result ≡ read_context self }
+    {
+        Self {
+            stack_depth: self.stack_depth,
+            next_overflow_addr: reduce(self.next_overflow_addr),
+        }
     }
 }
 
-// The next overflow address read modulo p.
-fn read_info(info: ContextInfo) -> ContextInfo
-    ensures { result ≡ read_info info }
-{
-    match info {
-        ContextInfo::Absent => ContextInfo::Absent,
-        ContextInfo::Is(context) => ContextInfo::Is(ExecutionContextInfo {
-            stack_depth: context.stack_depth,
-            next_overflow_addr: reduce(context.next_overflow_addr),
-        }),
-    }
-}
-
-// The captured values that a row uses up.
+// The captured values that a row uses up: the condition of a FinishLoop (another pass, or the loop's end), the callee word of a DYN or
+// DYNCALL, and the context of a DYNCALL.
 #[derive(Clone, Copy)]
 pub struct Captured {
-    pub finish_loop_condition: LoopCondition,
-    pub dyn_callee_hash: CalleeWord,
-    pub ctx_info: ContextInfo,
+    pub finish_loop_condition: Option<bool>,
+    pub dyn_callee_hash: Option<Word>,
+    pub ctx_info: Option<ExecutionContextInfo>,
 }
 
 impl Captured {
@@ -90,15 +60,10 @@ impl Captured {
     pub fn read(self) -> Self
         ensures { result ≡ read_captured self }
     {
-        let condition = self.finish_loop_condition;
-        let word = self.dyn_callee_hash;
-        let callee = read_callee(word);
-        let context = self.ctx_info;
-        let info = read_info(context);
         Self {
-            finish_loop_condition: condition,
-            dyn_callee_hash: callee,
-            ctx_info: info,
+            finish_loop_condition: self.finish_loop_condition,
+            dyn_callee_hash: self.dyn_callee_hash.map(read_word),
+            ctx_info: self.ctx_info.map(ExecutionContextInfo::read),
         }
     }
 }

@@ -1,6 +1,6 @@
 // The decoder part of a row.
 ghost use Rattle.std.specs.Prelude.{◌≡◌};
-ghost use Rattle.rows.specs.records.DecoderRows.{control_flow, basic_block_batch, operation, bit, end_word};
+ghost use Rattle.rows.specs.records.DecoderRows.{control_flow, basic_block_batch, operation, end_word};
 
 use field::felt::Felt;
 use groups::batch::OpBatch;
@@ -34,20 +34,13 @@ pub struct EndBlockFlags {
     pub entry_kind: EndBlockStackEntryKind,
 }
 
-fn one_if(flag: bool) -> u64
-    ensures { result ≡ bit flag }
-{
-    if flag { Felt::ONE } else { Felt::ZERO }
-}
-
 impl EndBlockFlags {
     // h4 to h7 of an END.
     pub fn to_hasher_state_second_word(self) -> Word
         ensures { result ≡ end_word self }
     {
-        let body = one_if(self.is_loop_body);
-        let kind = self.entry_kind;
-        match kind {
+        let body = u64::from(self.is_loop_body);
+        match self.entry_kind {
             EndBlockStackEntryKind::Continuation => Word(body, Felt::ZERO, Felt::ZERO, Felt::ZERO),
             EndBlockStackEntryKind::LoopContinuation => Word(
                 body,
@@ -87,13 +80,11 @@ impl DecoderRow {
     ) -> Self
         ensures { result ≡ basic_block_batch opcode batch addr group_count batch_flags }
     {
-        let first = batch.low;
-        let second = batch.high;
         Self {
             addr,
             opcode,
-            hasher_state_first_word: first,
-            hasher_state_second_word: second,
+            hasher_state_first_word: batch.low,
+            hasher_state_second_word: batch.high,
             in_basic_block: Felt::ZERO,
             group_count,
             op_index: Felt::ZERO,

@@ -12,12 +12,6 @@ use field::felt::{Felt, reduce};
 use groups::constants::{Column, Row};
 use groups::word::read_word;
 
-fn wide(x: u8) -> u64
-    ensures { result ≡ x }
-{
-    x as u64
-}
-
 // Copies all of `src`, read modulo p, into `dst` from index `at` on; where it does not fit, nothing is changed.
 pub fn copy_in(dst: &mut [u64], at: usize, src: &[u64])
     ensures { dst.new ≡ copied_in dst.old at src.now }
@@ -28,10 +22,8 @@ pub fn copy_in(dst: &mut [u64], at: usize, src: &[u64])
     if dst.len() - src.len() < at {
         return;
     }
-    let mut j = 0;
-    while j < src.len() {
+    for j in 0..src.len() {
         dst[at + j] = reduce(src[j]);
-        j += 1;
     }
 }
 
@@ -45,11 +37,8 @@ fn put_in(dst: &mut [u64], at: usize, src: &[u64])
     if dst.len() - src.len() < at {
         return;
     }
-    let mut j = 0;
-    while j < src.len() {
-        dst[at + j] = src[j];
-        j += 1;
-    }
+    let end = at + src.len();
+    dst[at..end].copy_from_slice(src);
 }
 
 fn extra_0(op: u64) -> u64
@@ -68,7 +57,7 @@ fn extra_1(op: u64) -> u64
 pub(crate) fn first_cells(system: SystemCols, d: DecoderRow) -> [u64; 30]
     ensures { result ≡ reduced (system_cells system ++ decoder_cells d) }
 {
-    let op = wide(d.opcode);
+    let op = u64::from(d.opcode);
     let s = system.read();
     let h = read_word(d.hasher_state_first_word);
     let g = read_word(d.hasher_state_second_word);
@@ -139,9 +128,7 @@ pub fn write_row(
 )
     ensures { buffer.new ≡ row_written buffer.old row (row_cells system d stack) }
 {
-    let first = first_cells(system, d);
-    let last = last_cells(stack);
-    put_cells(buffer, row, first, last);
+    put_cells(buffer, row, first_cells(system, d), last_cells(stack));
 }
 
 // Refusal 11 of the fragment.

@@ -52,11 +52,10 @@ impl SystemCols {
     pub fn build(system: SystemState) -> Self
         ensures { result ≡ built_system system }
     {
-        let fn_hash = system.fn_hash;
         Self {
-            clk: system.clk.0 as u64 + 1,
-            ctx: system.ctx.0 as u64,
-            fn_hash: read_word(fn_hash),
+            clk: u64::from(system.clk.0) + 1,
+            ctx: u64::from(system.ctx.0),
+            fn_hash: read_word(system.fn_hash),
         }
     }
 
@@ -64,43 +63,34 @@ impl SystemCols {
     pub fn read(self) -> Self
         ensures { result ≡ read_system self }
     {
-        let hash = self.fn_hash;
         Self {
             clk: reduce(self.clk),
             ctx: reduce(self.ctx),
-            fn_hash: read_word(hash),
+            fn_hash: read_word(self.fn_hash),
         }
     }
 }
 
 // The depth less 16.
-fn overflow_helper(depth: u32) -> u64
+pub(crate) fn overflow_helper(depth: u64) -> u64
     ensures { result ≡ depth - 16 }
 {
-    if depth < 16 { 0 } else { depth as u64 - 16 }
+    depth.saturating_sub(16)
 }
 
 // The last of the stored top comes first.
-fn reversed(t: &[u64; 16]) -> [u64; 16]
-    ensures { result ≡ reversed16 t.now }
+fn reversed(mut top: [u64; 16]) -> [u64; 16]
+    ensures { result ≡ reversed16 top }
 {
-    [
-        t[15], t[14], t[13], t[12], t[11], t[10], t[9], t[8], t[7], t[6], t[5], t[4], t[3], t[2],
-        t[1], t[0],
-    ]
+    top.reverse();
+    top
 }
 
 // 16 cells read modulo p.
 fn read_top(t: [u64; 16]) -> [u64; 16]
     ensures { result ≡ read16 t }
 {
-    let a = word_at(&t, 0);
-    let b = word_at(&t, 4);
-    let c = word_at(&t, 8);
-    let d = word_at(&t, 12);
-    [
-        a.0, a.1, a.2, a.3, b.0, b.1, b.2, b.3, c.0, c.1, c.2, c.3, d.0, d.1, d.2, d.3,
-    ]
+    t.map(reduce)
 }
 
 impl StackCols {
@@ -120,15 +110,12 @@ impl StackCols {
     pub fn build(stack: StackState) -> Self
         ensures { result ≡ built_stack stack }
     {
-        let t = stack.stack_top;
-        let stored = reversed(&t);
-        let top = read_top(stored);
-        let h0 = overflow_helper(stack.stack_depth);
+        let depth = u64::from(stack.stack_depth);
         Self {
-            top,
-            b0: stack.stack_depth as u64,
+            top: read_top(reversed(stack.stack_top)),
+            b0: depth,
             b1: reduce(stack.overflow_addr),
-            h0,
+            h0: overflow_helper(depth),
         }
     }
 
@@ -136,10 +123,8 @@ impl StackCols {
     pub fn read(self) -> Self
         ensures { result ≡ read_stack self }
     {
-        let t = self.top;
-        let top = read_top(t);
         Self {
-            top,
+            top: read_top(self.top),
             b0: reduce(self.b0),
             b1: reduce(self.b1),
             h0: reduce(self.h0),

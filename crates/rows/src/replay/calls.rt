@@ -2,29 +2,30 @@
 // first; where one refuses, its number is answered and nothing is written.
 ghost use Rattle.std.specs.Prelude.{◌≡◌, ◌/◌, ◌<◌, length};
 ghost use Rattle.groups.specs.Answer.{refusal, accepted, pick};
-ghost use Rattle.rows.specs.replay.Calls.{lent_setting, lent_scanned, refusing, call_done, call_written, through, written, ending, next_state, next_positions, told, replayed, replayed_fragment};
-ghost use Rattle.rows.specs.ways.Inner.{storing_done};
+ghost use Rattle.groups.specs.Refusals.{number_of};
+ghost use Rattle.rows.specs.records.Lent.{lent_forest, lent_queues};
+ghost use Rattle.rows.specs.replay.Calls.{scanned, refusing, call_done, call_written, through, written, ending, next_state, next_positions, told, replayed, replayed_fragment};
+ghost use Rattle.rows.specs.ways.Inner.{lent_setting, storing_done};
 ghost use Rattle.rows.specs.ways.Pairs.{Goes};
-ghost use Rattle.rows.specs.records.CallRecords.{stored_in_record, told_stored, finish_in, finishes, call_in};
+ghost use Rattle.rows.specs.records.CallRecords.{stored_in_record, finish_in, finishes, call_in};
 
 use crate::cycles::cycle::{cycle_with, kept};
 use crate::cycles::scan::{Scan, scan_lent};
 use crate::cycles::tracer::CoreTraceGenerationTracer;
-use crate::records::address_state::{DecoderState, Positions};
-use crate::records::call_record::{
-    RegistersFound, Small, StoredFound, SystemFound, narrow, registers_at, stack_at, stored_at,
-    system_at,
-};
+use crate::records::address_state::{Cursor, DecoderState, LentQueues, Positions};
+use crate::records::call_record::{narrow, registers_at, stack_at, stored_at, system_at};
+use crate::records::forest::LentForest;
 use crate::records::profile::Profile;
 use crate::records::state::{StackState, SystemState};
-use crate::replay::directory::{directory_entry, part_of_cells, part_of_numbers, part_of_opcodes};
+use crate::replay::directory::directory_entry;
 use crate::replay::pairs::{Followed, follow};
-use field::cell::number_at;
-use groups::constants::Refusal;
+use field::cell::item_or;
 use groups::helpers::OperationHelperRegisters;
+use groups::refusal::Refusal;
 
 // What a replay answers: 0 or the refusal's number, and on 0 how many rows are written, the cells built last (clk, ctx, fn_hash 4; top
-// 16, b0, b1, helper), and the address state and queue positions for the next fragment. On a refusal all others are 0.
+// 16, b0, b1, helper), and the address state and queue positions for the next fragment. On a refusal all others are 0. A struct with the
+// number, as it is handed to C.
 #[repr(C)]
 #[derive(Clone, Copy)]
 pub struct Replayed {
@@ -35,52 +36,40 @@ pub struct Replayed {
     pub at: Positions,
 }
 
+// What all calls share: what the scan found, the profile, all forests and their directory, and the queues.
+#[derive(Clone, Copy)]
+pub struct LentSetting<'a> {
+    pub scan: Scan,
+    pub profile: Profile,
+    pub forests: LentForest<'a>,
+    pub directory: &'a [u32],
+    pub queues: LentQueues<'a>,
+}
+
 // A record that encodes nothing: its number is kept, unless one is.
-fn refuse(n: u32, tracer: CoreTraceGenerationTracer) -> CoreTraceGenerationTracer
-    ensures { result ≡ refusing n tracer }
+fn refuse(refusal: Refusal, tracer: CoreTraceGenerationTracer) -> CoreTraceGenerationTracer
+    ensures { result ≡ refusing (number_of refusal) tracer }
 {
     if tracer.refusal != 0 {
         return tracer;
     }
-    kept(n, tracer)
-}
-
-// The number that a storing's record is refused with, or 0.
-fn stored_refusal(found: StoredFound) -> u32
-    ensures { result ≡ refusal (told_stored found) }
-{
-    match found {
-        StoredFound::Refused(n) => n,
-        StoredFound::Are(_) => 0,
-    }
+    kept(u32::from(refusal), tracer)
 }
 
 // A storing.
 fn store(numbers: &[u64], tracer: CoreTraceGenerationTracer) -> CoreTraceGenerationTracer
     ensures { result ≡ storing_done tracer (stored_in_record numbers.now) }
 {
-    let found = stored_at(numbers);
-    let StoredFound::Are(values) = found else {
-        return refuse(stored_refusal(found), tracer);
-    };
-    let stored = tracer.start_clock_cycle(values);
-    stored.tracer
+    match stored_at(numbers) {
+        Ok(values) => tracer.start_clock_cycle(values).tracer,
+        Err(refusal) => refuse(refusal, tracer),
+    }
 }
 
 // A finish in the forest of a number. `write` says whether its row is written.
 fn finish_in(
     write: bool,
-    scan: Scan,
-    nodes: &[u32],
-    digests: &[u64],
-    batches: &[u32],
-    groups: &[u64],
-    ops: &[u8],
-    directory: &[u32],
-    addresses: &[u64],
-    parents: &[u64],
-    ends: &[u64],
-    profile: Profile,
+    setting: &LentSetting,
     forest_number: u64,
     system: SystemState,
     stack: StackState,
@@ -88,31 +77,22 @@ fn finish_in(
     tracer: CoreTraceGenerationTracer,
     fragment: &mut [u64],
 ) -> CoreTraceGenerationTracer
-    ensures value { result ≡ call_done (lent_setting scan profile nodes digests batches groups ops directory addresses parents ends fragment) tracer
+    ensures value { result ≡ call_done (lent_setting setting.now (length fragment.old)) tracer
         (accepted (finishes forest_number system stack registers)) }
     ensures fragment_after { fragment.new ≡ pick write
-        (call_written (lent_setting scan profile nodes digests batches groups ops directory addresses parents ends fragment)
+        (call_written (lent_setting setting.now (length fragment.old))
         tracer (accepted (finishes forest_number system stack registers)) fragment.old)
         fragment.old }
 {
-    let parts = directory_entry(directory, forest_number);
-    let own_nodes = part_of_numbers(nodes, 6, parts.first_slot, parts.slots);
-    let own_digests = part_of_cells(digests, 4, parts.first_slot, parts.slots);
-    let own_batches = part_of_numbers(batches, 12, parts.first_batch, parts.batches);
-    let own_groups = part_of_cells(groups, 8, parts.first_batch, parts.batches);
-    let own_ops = part_of_opcodes(ops, parts.first_op, parts.ops);
+    let forest = setting
+        .forests
+        .part(directory_entry(setting.directory, forest_number));
     let finished = cycle_with(
         write,
-        scan,
-        own_nodes,
-        own_digests,
-        own_batches,
-        own_groups,
-        own_ops,
-        addresses,
-        parents,
-        ends,
-        profile,
+        setting.scan,
+        &forest,
+        &setting.queues,
+        setting.profile,
         system,
         stack,
         registers,
@@ -125,57 +105,31 @@ fn finish_in(
 // A cycle of a record.
 fn cycle_call(
     write: bool,
-    scan: Scan,
-    nodes: &[u32],
-    digests: &[u64],
-    batches: &[u32],
-    groups: &[u64],
-    ops: &[u8],
-    directory: &[u32],
-    addresses: &[u64],
-    parents: &[u64],
-    ends: &[u64],
-    profile: Profile,
+    setting: &LentSetting,
     numbers: &[u64],
     tracer: CoreTraceGenerationTracer,
     fragment: &mut [u64],
 ) -> CoreTraceGenerationTracer
-    ensures value { result ≡ call_done (lent_setting scan profile nodes digests batches groups ops directory addresses parents ends fragment) tracer
-        (finish_in numbers.now) }
+    ensures value { result ≡ call_done (lent_setting setting.now (length fragment.old)) tracer (finish_in numbers.now) }
     ensures fragment_after { fragment.new ≡ pick write
-        (call_written (lent_setting scan profile nodes digests batches groups ops directory addresses parents ends fragment)
-        tracer (finish_in numbers.now) fragment.old)
+        (call_written (lent_setting setting.now (length fragment.old)) tracer (finish_in numbers.now) fragment.old)
         fragment.old }
 {
-    let system_found = system_at(numbers);
-    let SystemFound::Is(system) = system_found else {
-        return refuse(Refusal::STORED_ABSENT, tracer);
+    let Some(system) = system_at(numbers) else {
+        return refuse(Refusal::StoredAbsent, tracer);
     };
-    let depth_found = narrow(number_at(numbers, 24));
-    let Small::Is(depth) = depth_found else {
-        return refuse(Refusal::STORED_ABSENT, tracer);
+    let Some(depth) = narrow(item_or(numbers, 24, 0)) else {
+        return refuse(Refusal::StoredAbsent, tracer);
     };
-    let registers_found = registers_at(numbers);
-    let RegistersFound::Are(registers) = registers_found else {
-        return refuse(Refusal::STORED_ABSENT, tracer);
+    let Some(registers) = registers_at(numbers) else {
+        return refuse(Refusal::StoredAbsent, tracer);
     };
-    let stack = stack_at(numbers, depth);
     finish_in(
         write,
-        scan,
-        nodes,
-        digests,
-        batches,
-        groups,
-        ops,
-        directory,
-        addresses,
-        parents,
-        ends,
-        profile,
-        number_at(numbers, 1),
+        setting,
+        item_or(numbers, 1, 0),
         system,
-        stack,
+        stack_at(numbers, depth),
         registers,
         tracer,
         fragment,
@@ -185,137 +139,63 @@ fn cycle_call(
 // One call.
 fn call(
     write: bool,
-    scan: Scan,
-    nodes: &[u32],
-    digests: &[u64],
-    batches: &[u32],
-    groups: &[u64],
-    ops: &[u8],
-    directory: &[u32],
-    addresses: &[u64],
-    parents: &[u64],
-    ends: &[u64],
-    profile: Profile,
+    setting: &LentSetting,
     numbers: &[u64],
     tracer: CoreTraceGenerationTracer,
     fragment: &mut [u64],
 ) -> CoreTraceGenerationTracer
-    ensures value { result ≡ call_done (lent_setting scan profile nodes digests batches groups ops directory addresses parents ends fragment) tracer
-        (call_in numbers.now) }
+    ensures value { result ≡ call_done (lent_setting setting.now (length fragment.old)) tracer (call_in numbers.now) }
     ensures fragment_after { fragment.new ≡ pick write
-        (call_written (lent_setting scan profile nodes digests batches groups ops directory addresses parents ends fragment)
-        tracer (call_in numbers.now) fragment.old)
+        (call_written (lent_setting setting.now (length fragment.old)) tracer (call_in numbers.now) fragment.old)
         fragment.old }
 {
-    if number_at(numbers, 0) == 0 {
+    if item_or(numbers, 0, 0) == 0 {
         return store(numbers, tracer);
     }
-    cycle_call(
-        write, scan, nodes, digests, batches, groups, ops, directory, addresses, parents, ends,
-        profile, numbers, tracer, fragment,
-    )
+    cycle_call(write, setting, numbers, tracer, fragment)
 }
 
 // Record k, and behind a cycle that wrote its row the stretch of pairs that follows.
 fn go_on(
     write: bool,
-    scan: Scan,
-    nodes: &[u32],
-    digests: &[u64],
-    batches: &[u32],
-    groups: &[u64],
-    ops: &[u8],
-    directory: &[u32],
-    addresses: &[u64],
-    parents: &[u64],
-    ends: &[u64],
-    profile: Profile,
+    setting: &LentSetting,
     records: &[u64],
     k: usize,
     tracer: CoreTraceGenerationTracer,
     fragment: &mut [u64],
 ) -> Followed
     requires { k < length records.now / 32 }
-    ensures { Goes (lent_setting scan profile nodes digests batches groups ops directory addresses parents ends fragment)
-        records.now k tracer write fragment.old fragment.new result }
+    ensures { Goes (lent_setting setting.now (length fragment.old)) records.now k tracer write fragment.old fragment.new result }
 {
     let start = 32 * k;
     let end = start + 32;
-    let done = call(
-        write,
-        scan,
-        nodes,
-        digests,
-        batches,
-        groups,
-        ops,
-        directory,
-        addresses,
-        parents,
-        ends,
-        profile,
-        &records[start..end],
-        tracer,
-        fragment,
-    );
+    let done = call(write, setting, &records[start..end], tracer, fragment);
     if done.row_write_index <= tracer.row_write_index {
         return Followed {
             next: k + 1,
             tracer: done,
         };
     }
-    follow(
-        write,
-        scan,
-        nodes,
-        digests,
-        batches,
-        groups,
-        ops,
-        directory,
-        addresses,
-        parents,
-        ends,
-        profile,
-        records,
-        k + 1,
-        done,
-        fragment,
-    )
+    follow(write, setting, records, k + 1, done, fragment)
 }
 
-// All whole records in their order, on a tracer.
+// All whole records in their order, on a tracer. No `for`: a stretch of pairs is behind more than one record.
 fn run(
     write: bool,
-    scan: Scan,
-    nodes: &[u32],
-    digests: &[u64],
-    batches: &[u32],
-    groups: &[u64],
-    ops: &[u8],
-    directory: &[u32],
-    addresses: &[u64],
-    parents: &[u64],
-    ends: &[u64],
-    profile: Profile,
+    setting: &LentSetting,
     records: &[u64],
     first: CoreTraceGenerationTracer,
     fragment: &mut [u64],
 ) -> CoreTraceGenerationTracer
-    ensures value { result ≡ through (lent_setting scan profile nodes digests batches groups ops directory addresses parents ends fragment)
-        records.now first (length records.now / 32) }
+    ensures value { result ≡ through (lent_setting setting.now (length fragment.old)) records.now first (length records.now / 32) }
     ensures fragment_after { fragment.new ≡ pick write
-        (written (lent_setting scan profile nodes digests batches groups ops directory addresses parents ends fragment)
-        records.now first fragment.old (length records.now / 32))
+        (written (lent_setting setting.now (length fragment.old)) records.now first fragment.old (length records.now / 32))
         fragment.old }
 {
     let mut tracer = first;
     let mut k = 0;
     while k < records.len() / 32 {
-        let went = go_on(
-            write, scan, nodes, digests, batches, groups, ops, directory, addresses, parents, ends,
-            profile, records, k, tracer, fragment,
-        );
+        let went = go_on(write, setting, records, k, tracer, fragment);
         tracer = went.tracer;
         k = went.next;
     }
@@ -327,7 +207,7 @@ fn ended(numbers: usize, tracer: CoreTraceGenerationTracer) -> CoreTraceGenerati
     ensures { result ≡ ending numbers tracer }
 {
     if numbers % 32 != 0 {
-        return refuse(Refusal::BAD_LENGTH, tracer);
+        return refuse(Refusal::BadLength, tracer);
     }
     tracer
 }
@@ -365,54 +245,44 @@ fn answer(tracer: CoreTraceGenerationTracer) -> Replayed
 {
     let last = tracer.into_final_state();
     let end = last.for_passes();
-    let built = end.built;
-    let state = next_state(tracer);
-    let at = next_positions(tracer);
     Replayed {
         refusal: last.refusal,
         rows: end.count as usize,
-        built,
-        state,
-        at,
+        built: end.built,
+        state: next_state(tracer),
+        at: next_positions(tracer),
     }
 }
 
 // The calls of all records, in their order, on a fresh tracer over the fragment.
 pub fn replay_calls(
-    nodes: &[u32],
-    digests: &[u64],
-    batches: &[u32],
-    groups: &[u64],
-    ops: &[u8],
+    forests: &LentForest,
     directory: &[u32],
-    addresses: &[u64],
-    parents: &[u64],
-    ends: &[u64],
+    queues: &LentQueues,
     profile: Profile,
-    state: DecoderState,
-    at: Positions,
+    from: Cursor,
     records: &[u64],
     fragment: &mut [u64],
 ) -> Replayed
-    ensures value { result ≡ replayed (lent_scanned profile nodes digests batches groups ops directory addresses parents ends fragment) state at
-        records.now }
+    ensures value { result ≡ replayed (scanned profile (lent_forest forests.now) directory.now (lent_queues queues.now) (length fragment.old))
+        from.state from.at records.now }
     ensures fragment_after { fragment.new ≡ replayed_fragment
-        (lent_scanned profile nodes digests batches groups ops directory addresses parents ends fragment) state at
-        records.now fragment.old }
+        (scanned profile (lent_forest forests.now) directory.now (lent_queues queues.now) (length fragment.old))
+        from.state from.at records.now fragment.old }
 {
-    let scan = scan_lent(profile, nodes, batches, ops);
-    let first = CoreTraceGenerationTracer::new(state, at);
-    let tried = run(
-        false, scan, nodes, digests, batches, groups, ops, directory, addresses, parents, ends,
-        profile, records, first, fragment,
-    );
+    let setting = LentSetting {
+        scan: scan_lent(profile, forests.nodes, forests.batches.records, forests.ops),
+        profile,
+        forests: *forests,
+        directory,
+        queues: *queues,
+    };
+    let first = CoreTraceGenerationTracer::new(from.state, from.at);
+    let tried = run(false, &setting, records, first, fragment);
     let whole = ended(records.len(), tried);
     if whole.refusal != 0 {
         return answer(whole);
     }
-    run(
-        true, scan, nodes, digests, batches, groups, ops, directory, addresses, parents, ends,
-        profile, records, first, fragment,
-    );
+    run(true, &setting, records, first, fragment);
     answer(whole)
 }

@@ -1,10 +1,12 @@
 // Several forests in the lent slices, found through a directory of six numbers a forest: its first slot and how many it has (of `nodes`
 // and `digests`), its first batch record and how many (of `batches` and `groups`), its first opcode and how many (of `ops`).
-ghost use Rattle.std.specs.Prelude.{◌≡◌, ◌+◌, ◌-◌, ◌≤◌};
-ghost use Rattle.rows.specs.replay.Calls.{directory_entry, window};
-ghost use Rattle.rows.specs.ways.Inner.{clipped};
+ghost use Rattle.std.specs.Prelude.{◌≡◌, ◌≤◌};
+ghost use Rattle.rows.specs.records.Lent.{lent_forest};
+ghost use Rattle.rows.specs.replay.Calls.{directory_entry, window, forest_in};
 
-use groups::number::number;
+use crate::records::forest::LentForest;
+use field::cell::item_or;
+use groups::batch::LentBatches;
 
 // Where a forest lies, in slots, batch records and opcodes.
 #[derive(Clone, Copy)]
@@ -33,55 +35,38 @@ pub fn directory_entry(directory: &[u32], forest: u64) -> DirectoryEntry
     }
     let at = 6 * (forest as usize);
     DirectoryEntry {
-        first_slot: number(directory, at),
-        slots: number(directory, at + 1),
-        first_batch: number(directory, at + 2),
-        batches: number(directory, at + 3),
-        first_op: number(directory, at + 4),
-        ops: number(directory, at + 5),
+        first_slot: item_or(directory, at, 0),
+        slots: item_or(directory, at + 1, 0),
+        first_batch: item_or(directory, at + 2, 0),
+        batches: item_or(directory, at + 3, 0),
+        first_op: item_or(directory, at + 4, 0),
+        ops: item_or(directory, at + 5, 0),
     }
 }
 
-// The smaller of the two.
-fn clip(limit: usize, n: usize) -> usize
-    ensures value { result ≡ clipped limit n }
-    ensures upper_bound { result ≤ limit }
-{
-    if limit < n { limit } else { n }
-}
-
-// The end of n numbers from a start on, at most the limit.
-fn clip_from(limit: usize, start: usize, n: usize) -> usize
-    requires { start ≤ limit }
-    ensures value { result ≡ start + clipped (limit - start) n }
-    ensures lower_bound { (start ≤ result) × (result ≤ limit) }
-{
-    start + clip(limit - start, n)
-}
-
-// `count` records of a width from record `first` on, as far as they are in the slice. One function for each type of number.
-pub fn part_of_numbers(s: &[u32], width: usize, first: u32, count: u32) -> &[u32]
+// `count` records of a width from record `first` on, as far as they are in the slice.
+pub fn part_of<T>(s: &[T], width: usize, first: u32, count: u32) -> &[T]
     requires { width ≤ 12 }
     ensures { result.now ≡ window width first count s.now }
 {
-    let start = clip(s.len(), width * (first as usize));
-    let end = clip_from(s.len(), start, width * (count as usize));
+    let start = s.len().min(width * (first as usize));
+    let end = start + (s.len() - start).min(width * (count as usize));
     &s[start..end]
 }
 
-pub fn part_of_cells(s: &[u64], width: usize, first: u32, count: u32) -> &[u64]
-    requires { width ≤ 12 }
-    ensures { result.now ≡ window width first count s.now }
-{
-    let start = clip(s.len(), width * (first as usize));
-    let end = clip_from(s.len(), start, width * (count as usize));
-    &s[start..end]
-}
-
-pub fn part_of_opcodes(s: &[u8], first: u32, count: u32) -> &[u8]
-    ensures { result.now ≡ window 1 first count s.now }
-{
-    let start = clip(s.len(), first as usize);
-    let end = clip_from(s.len(), start, count as usize);
-    &s[start..end]
+impl<'a> LentForest<'a> {
+    // The forest that lies there.
+    pub fn part(&self, entry: DirectoryEntry) -> LentForest<'a>
+        ensures { lent_forest result ≡ forest_in (lent_forest self.now) entry }
+    {
+        LentForest {
+            nodes: part_of(self.nodes, 6, entry.first_slot, entry.slots),
+            digests: part_of(self.digests, 4, entry.first_slot, entry.slots),
+            batches: LentBatches {
+                records: part_of(self.batches.records, 12, entry.first_batch, entry.batches),
+                groups: part_of(self.batches.groups, 8, entry.first_batch, entry.batches),
+            },
+            ops: part_of(self.ops, 1, entry.first_op, entry.ops),
+        }
+    }
 }

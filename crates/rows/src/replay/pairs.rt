@@ -3,42 +3,38 @@
 // the plain code.
 ghost use Rattle.std.specs.Prelude.{◌≡◌, ◌/◌, ◌≤◌, ◌<◌, ◌-◌, length};
 ghost use Rattle.rows.specs.records.Lent.{lent_forest, lent_queues};
-ghost use Rattle.rows.specs.cycles.Made.{cursor};
-ghost use Rattle.rows.specs.replay.Calls.{lent_setting};
+ghost use Rattle.rows.specs.ways.Inner.{lent_setting};
 ghost use Rattle.rows.specs.ways.Pairs.{ClkBehind, SystemBuilt, StackBuilt, StoresOperation, OperationIn, HelpersIn, RowBehind, pair_made, Makes, ArePair, TakesOperation, TakesPair, Walks, BuiltBefore, StandsAt, Follows};
 
 use crate::cycles::cycle::left_after;
-use crate::cycles::made::{Made, make};
-use crate::cycles::scan::Scan;
-use crate::cycles::tracer::{CoreTraceGenerationTracer, StoredContinuation};
-use crate::records::address_state::{DecoderState, Positions};
+use crate::cycles::made::{MadeRow, make};
+use crate::cycles::tracer::CoreTraceGenerationTracer;
+use crate::records::address_state::{Cursor, LentQueues};
 use crate::records::call_record::{
-    RegistersFound, Small, StoredFound, SystemFound, names_nothing, narrow, registers_at, stack_at,
-    stored_at, system_at,
+    names_nothing, narrow, registers_at, stack_at, stored_at, system_at,
 };
 use crate::records::continuation::Used;
 use crate::records::decoder_row::DecoderRow;
-use crate::records::forest::{kind_at, slot_block};
+use crate::records::forest::LentForest;
 use crate::records::ids::MastNodeId;
 use crate::records::profile::Profile;
 use crate::records::row::{first_cells, fragment_wrong, put_cells};
-use crate::records::state::{StackCols, SystemCols};
-use crate::replay::directory::{directory_entry, part_of_cells, part_of_numbers, part_of_opcodes};
-use field::cell::{cell, number_at};
+use crate::records::state::{StackCols, SystemCols, overflow_helper};
+use crate::replay::calls::LentSetting;
+use crate::replay::directory::directory_entry;
+use field::cell::{cell, item_or};
 use groups::constants::Row;
-use groups::context::{BasicBlockContext, OpCells, OpCellsFound};
-use groups::helpers::{HelpersFound, UserOpHelpers};
-use groups::number::number;
+use groups::context::{BasicBlockContext, OpCells};
+use groups::helpers::UserOpHelpers;
 use groups::word::word_at;
 
-// What moves from pair to pair: the record that comes next, the row it is for, the address state, the queue positions, and what the last
+// What moves from pair to pair: the record that comes next, the row it is for, the address state and queue positions, and what the last
 // cycle used up.
 #[derive(Clone, Copy)]
 pub struct Walk {
     pub next: usize,
     pub row: usize,
-    pub state: DecoderState,
-    pub at: Positions,
+    pub here: Cursor,
     pub used: Used,
 }
 
@@ -49,32 +45,27 @@ pub struct Followed {
     pub tracer: CoreTraceGenerationTracer,
 }
 
-// An operation that is stored: its node, batch and index in the batch.
+// A pair's records, and the cycle's record before them.
 #[derive(Clone, Copy)]
-pub enum OpStored {
-    Is(MastNodeId, u32, u32),
-    Not,
+pub struct Pair<'a> {
+    pub before: &'a [u64],
+    pub storing: &'a [u64],
+    pub cycle: &'a [u64],
 }
 
-// The opcode of an operation and what its row shows of its block.
+// An operation that is stored: its node, batch and index in the batch.
 #[derive(Clone, Copy)]
-pub enum OpFound {
-    Is(u8, OpCells),
-    Not,
+pub struct StoredOp {
+    pub id: MastNodeId,
+    pub index: u32,
+    pub op: u32,
 }
 
 // What a pair leaves of a walk.
 #[derive(Clone, Copy)]
 pub struct PairEnd {
-    pub state: DecoderState,
-    pub at: Positions,
+    pub here: Cursor,
     pub used: Used,
-}
-
-#[derive(Clone, Copy)]
-pub enum PairFound {
-    Taken(PairEnd),
-    Not,
 }
 
 // The clock row's cell behind a cycle: one more, where the number is of 32 bits.
@@ -89,24 +80,17 @@ fn system_before(c: &[u64]) -> SystemCols
     ensures { SystemBuilt c.now result }
 {
     SystemCols {
-        clk: clk_behind(number_at(c, 2)),
-        ctx: number_at(c, 3),
+        clk: clk_behind(item_or(c, 2, 0)),
+        ctx: item_or(c, 3, 0),
         fn_hash: word_at(c, 4),
     }
-}
-
-// The depth less 16.
-fn over_16(depth: u64) -> u64
-    ensures { result ≡ depth - 16 }
-{
-    if depth < 16 { 0 } else { depth - 16 }
 }
 
 // The stack cells that a cycle's record builds.
 fn stack_before(c: &[u64]) -> [u64; 19]
     ensures { StackBuilt c.now result }
 {
-    let depth = number_at(c, 24);
+    let depth = item_or(c, 24, 0);
     [
         cell(c, 23),
         cell(c, 22),
@@ -126,7 +110,7 @@ fn stack_before(c: &[u64]) -> [u64; 19]
         cell(c, 8),
         depth,
         cell(c, 25),
-        over_16(depth),
+        overflow_helper(depth),
     ]
 }
 
@@ -140,61 +124,53 @@ fn put_behind(before: &[u64], row: usize, decoder: DecoderRow, fragment: &mut [u
 }
 
 // The operation that a storing's record stores.
-fn operation_of(s: &[u64]) -> OpStored
+fn operation_of(s: &[u64]) -> Option<StoredOp>
     ensures { StoresOperation result s.now }
 {
-    if (number_at(s, 1) != 7) | ((number_at(s, 12) == 1) & (4294967296 <= number_at(s, 13))) {
-        return OpStored::Not;
+    if (item_or(s, 1, 0) != 7) | ((item_or(s, 12, 0) == 1) & (4294967296 <= item_or(s, 13, 0))) {
+        return None;
     }
-    let id = number_at(s, 2);
-    let index = number_at(s, 3);
-    let op = number_at(s, 4);
-    if (4294967296 <= id) | ((4294967296 <= index) | (4294967296 <= op)) {
-        return OpStored::Not;
-    }
+    let id = narrow(item_or(s, 2, 0))?;
+    let index = narrow(item_or(s, 3, 0))?;
+    let op = narrow(item_or(s, 4, 0))?;
     if names_nothing(s) {
-        return OpStored::Not;
+        return None;
     }
-    OpStored::Is(MastNodeId(id as u32), index as u32, op as u32)
+    Some(StoredOp {
+        id: MastNodeId(id),
+        index,
+        op,
+    })
 }
 
-// What the row of an operation shows, where none of 3, 4, 5, 6, 8 and 11 refuses it.
-fn operation_at(
-    nodes: &[u32],
-    digests: &[u64],
-    batches: &[u32],
-    groups: &[u64],
-    ops: &[u8],
-    push: u8,
-    id: MastNodeId,
-    index: u32,
-    op: u32,
-) -> OpFound
-    ensures { OperationIn result (lent_forest nodes digests batches groups ops) push id index op }
+// The opcode of an operation and what its row shows of its block, where none of 3, 4, 5, 6, 8 and 11 refuses it.
+fn operation_at(forest: &LentForest, push: u8, stored: StoredOp) -> Option<(u8, OpCells)>
+    ensures { OperationIn result (lent_forest forest.now) push stored.id stored.index stored.op }
 {
-    if kind_at(nodes, digests, id) != 2 {
-        return OpFound::Not;
+    if forest.kind_at(stored.id) != 2 {
+        return None;
     }
-    let block = slot_block(nodes, id);
-    let OpCellsFound::At(cells) = BasicBlockContext::cells_at_op(
-        push, block, batches, groups, index, op,
-    ) else {
-        return OpFound::Not;
-    };
-    let record = block.first_batch as usize + index as usize;
-    let i = number(batches, 12 * record + 11) as usize + op as usize;
-    if ops.len() <= i {
-        return OpFound::Not;
-    }
-    OpFound::Is(ops[i], cells)
+    let block = forest.slot_block(stored.id);
+    let cells = BasicBlockContext::cells_at_op(
+        push,
+        &forest.batches,
+        block,
+        stored.index,
+        stored.op,
+    )
+    .ok()?;
+    let record = block.first_batch as usize + stored.index as usize;
+    let i = item_or(forest.batches.records, 12 * record + 11, 0) as usize + stored.op as usize;
+    let opcode = forest.ops.get(i).copied()?;
+    Some((opcode, cells))
 }
 
 // The helpers of a cycle's record.
-fn helpers_at(c: &[u64]) -> HelpersFound
+fn helpers_at(c: &[u64]) -> Option<UserOpHelpers>
     ensures { HelpersIn result c.now }
 {
-    if number_at(c, 0) == 18 {
-        return HelpersFound::Are(UserOpHelpers {
+    if item_or(c, 0, 0) == 18 {
+        return Some(UserOpHelpers {
             h2: 0,
             h3: 0,
             h4: 0,
@@ -203,232 +179,152 @@ fn helpers_at(c: &[u64]) -> HelpersFound
             h7: 0,
         });
     }
-    let RegistersFound::Are(registers) = registers_at(c) else {
-        return HelpersFound::Refused(0);
-    };
-    registers.to_user_op_helpers()
+    registers_at(c)?.to_user_op_helpers().ok()
 }
 
 // The pair of an operation that is stored.
 fn operation_pair(
     write: bool,
-    nodes: &[u32],
-    digests: &[u64],
-    batches: &[u32],
-    groups: &[u64],
-    ops: &[u8],
+    forest: &LentForest,
     push: u8,
-    id: MastNodeId,
-    index: u32,
-    op: u32,
-    before: &[u64],
-    c: &[u64],
+    stored: StoredOp,
+    pair: &Pair,
     row: usize,
-    state: DecoderState,
-    at: Positions,
+    here: Cursor,
     fragment: &mut [u64],
-) -> PairFound
-    ensures { TakesOperation result (lent_forest nodes digests batches groups ops) push id index op
-        before.now c.now row (cursor state at) write fragment.old fragment.new }
+) -> Option<PairEnd>
+    ensures { TakesOperation result (lent_forest forest.now) push stored.id stored.index stored.op
+        pair.now.before.now pair.now.cycle.now row here write fragment.old fragment.new }
 {
-    let OpFound::Is(opcode, cells) = operation_at(
-        nodes, digests, batches, groups, ops, push, id, index, op,
-    ) else {
-        return PairFound::Not;
-    };
-    let HelpersFound::Are(helpers) = helpers_at(c) else {
-        return PairFound::Not;
-    };
+    let (opcode, cells) = operation_at(forest, push, stored)?;
+    let helpers = helpers_at(pair.cycle)?;
     if write {
         let decoder = DecoderRow::new_operation(
             opcode,
-            state.current_addr,
-            state.parent_addr,
+            here.state.current_addr,
+            here.state.parent_addr,
             cells.index,
             cells.context.current_op_group,
             cells.context.group_count_in_block,
             helpers,
         );
-        put_behind(before, row, decoder, fragment);
+        put_behind(pair.before, row, decoder, fragment);
     }
-    PairFound::Taken(PairEnd {
-        state,
-        at,
+    Some(PairEnd {
+        here,
         used: Used::Nothing,
     })
 }
 
 // What a pair makes, by the plain code.
 fn made_of(
-    nodes: &[u32],
-    digests: &[u64],
-    batches: &[u32],
-    groups: &[u64],
-    ops: &[u8],
-    addresses: &[u64],
-    parents: &[u64],
-    ends: &[u64],
+    forest: &LentForest,
+    queues: &LentQueues,
     profile: Profile,
-    s: &[u64],
-    c: &[u64],
-    state: DecoderState,
-    at: Positions,
-) -> Made
-    ensures { Makes result (pair_made (lent_forest nodes digests batches groups ops) (lent_queues addresses parents ends) profile
-        s.now c.now (cursor state at)) }
+    pair: &Pair,
+    here: Cursor,
+) -> Option<MadeRow>
+    ensures { Makes result (pair_made (lent_forest forest.now) (lent_queues queues.now) profile
+        pair.now.storing.now pair.now.cycle.now here) }
 {
-    let StoredFound::Are(values) = stored_at(s) else {
-        return Made::Refused(0);
-    };
-    let RegistersFound::Are(registers) = registers_at(c) else {
-        return Made::Refused(0);
-    };
-    let continuation = values.continuation;
-    let given = values.captured;
+    let values = stored_at(pair.storing).ok()?;
+    let registers = registers_at(pair.cycle)?;
     make(
-        nodes,
-        digests,
-        batches,
-        groups,
-        ops,
-        addresses,
-        parents,
-        ends,
+        forest,
+        queues,
         profile,
         registers,
-        continuation,
+        values.continuation,
         values.is_loop_body,
-        given.read(),
-        state,
-        at,
+        values.captured.read(),
+        here,
     )
+    .ok()
 }
 
 // A pair of any kind.
 fn any_pair(
     write: bool,
-    nodes: &[u32],
-    digests: &[u64],
-    batches: &[u32],
-    groups: &[u64],
-    ops: &[u8],
-    addresses: &[u64],
-    parents: &[u64],
-    ends: &[u64],
+    forest: &LentForest,
+    queues: &LentQueues,
     profile: Profile,
-    before: &[u64],
-    s: &[u64],
-    c: &[u64],
+    pair: &Pair,
     row: usize,
-    state: DecoderState,
-    at: Positions,
+    here: Cursor,
     fragment: &mut [u64],
-) -> PairFound
-    ensures { TakesPair result (lent_forest nodes digests batches groups ops) (lent_queues addresses parents ends) profile
-        before.now s.now c.now row (cursor state at) write fragment.old fragment.new }
+) -> Option<PairEnd>
+    ensures { TakesPair result (lent_forest forest.now) (lent_queues queues.now) profile
+        pair.now.before.now pair.now.storing.now pair.now.cycle.now row here write fragment.old fragment.new }
 {
-    let made = made_of(
-        nodes, digests, batches, groups, ops, addresses, parents, ends, profile, s, c, state, at,
-    );
-    let Made::Row(found) = made else {
-        return PairFound::Not;
-    };
-    let decoder = found.row;
-    let next_state = found.state;
-    let next_at = found.at;
-    let used = found.used;
+    let made = made_of(forest, queues, profile, pair, here)?;
     if write {
-        put_behind(before, row, decoder, fragment);
+        put_behind(pair.before, row, made.row, fragment);
     }
-    PairFound::Taken(PairEnd {
-        state: next_state,
-        at: next_at,
-        used,
+    Some(PairEnd {
+        here: Cursor {
+            state: made.state,
+            at: made.at,
+        },
+        used: made.used,
     })
 }
 
 // A pair, an operation's by a way of its own.
-fn pair(
+fn pair_end(
     write: bool,
-    nodes: &[u32],
-    digests: &[u64],
-    batches: &[u32],
-    groups: &[u64],
-    ops: &[u8],
-    addresses: &[u64],
-    parents: &[u64],
-    ends: &[u64],
+    forest: &LentForest,
+    queues: &LentQueues,
     profile: Profile,
-    before: &[u64],
-    s: &[u64],
-    c: &[u64],
+    pair: &Pair,
     row: usize,
-    state: DecoderState,
-    at: Positions,
+    here: Cursor,
     fragment: &mut [u64],
-) -> PairFound
-    ensures { TakesPair result (lent_forest nodes digests batches groups ops) (lent_queues addresses parents ends) profile
-        before.now s.now c.now row (cursor state at) write fragment.old fragment.new }
+) -> Option<PairEnd>
+    ensures { TakesPair result (lent_forest forest.now) (lent_queues queues.now) profile
+        pair.now.before.now pair.now.storing.now pair.now.cycle.now row here write fragment.old fragment.new }
 {
-    let OpStored::Is(id, index, op) = operation_of(s) else {
-        return any_pair(
-            write, nodes, digests, batches, groups, ops, addresses, parents, ends, profile, before,
-            s, c, row, state, at, fragment,
-        );
-    };
-    operation_pair(
-        write,
-        nodes,
-        digests,
-        batches,
-        groups,
-        ops,
-        profile.push,
-        id,
-        index,
-        op,
-        before,
-        c,
-        row,
-        state,
-        at,
-        fragment,
-    )
+    match operation_of(pair.storing) {
+        Some(stored) => operation_pair(
+            write,
+            forest,
+            profile.push,
+            stored,
+            pair,
+            row,
+            here,
+            fragment,
+        ),
+        None => any_pair(write, forest, queues, profile, pair, row, here, fragment),
+    }
 }
 
 // Whether two records are a storing and a cycle in a forest that no check before the continuation's refuses.
 fn is_pair(s: &[u64], c: &[u64], forest: u64) -> bool
     ensures { ArePair result s.now c.now forest }
 {
-    let depth = number_at(c, 24);
+    let depth = item_or(c, 24, 0);
     if (depth < 16) | (4294967296 <= depth) {
         return false;
     }
-    if (4294967296 <= number_at(c, 2)) | (4294967296 <= number_at(c, 3)) {
+    if (4294967296 <= item_or(c, 2, 0)) | (4294967296 <= item_or(c, 3, 0)) {
         return false;
     }
-    (number_at(s, 0) == 0) & ((number_at(c, 0) != 0) & (number_at(c, 1) == forest))
+    (item_or(s, 0, 0) == 0) & ((item_or(c, 0, 0) != 0) & (item_or(c, 1, 0) == forest))
 }
 
 // The pairs from a walk's next record on, as long as they are of one forest, have a row, and are taken.
 fn walk_pairs(
     write: bool,
-    nodes: &[u32],
-    digests: &[u64],
-    batches: &[u32],
-    groups: &[u64],
-    ops: &[u8],
-    addresses: &[u64],
-    parents: &[u64],
-    ends: &[u64],
+    forest: &LentForest,
+    queues: &LentQueues,
     profile: Profile,
-    forest: u64,
+    number: u64,
     records: &[u64],
     from: Walk,
     fragment: &mut [u64],
 ) -> Walk
     requires { 0 < from.next }
-    ensures { Walks (lent_forest nodes digests batches groups ops) (lent_queues addresses parents ends) profile forest
+    ensures { Walks (lent_forest forest.now) (lent_queues queues.now) profile number
         records.now write from fragment.old result fragment.new }
 {
     let rows = fragment.len() / Row::WIDTH;
@@ -443,43 +339,25 @@ fn walk_pairs(
         if records.len() < e {
             return w;
         }
-        if !is_pair(&records[i..j], &records[j..e], forest) {
+        if !is_pair(&records[i..j], &records[j..e], number) {
             return w;
         }
         let b = i - 32;
-        let state = w.state;
-        let at = w.at;
-        let taken = pair(
-            write,
-            nodes,
-            digests,
-            batches,
-            groups,
-            ops,
-            addresses,
-            parents,
-            ends,
-            profile,
-            &records[b..i],
-            &records[i..j],
-            &records[j..e],
-            w.row,
-            state,
-            at,
-            fragment,
-        );
-        let PairFound::Taken(end) = taken else {
+        let pair = Pair {
+            before: &records[b..i],
+            storing: &records[i..j],
+            cycle: &records[j..e],
+        };
+        let Some(end) = pair_end(
+            write, forest, queues, profile, &pair, w.row, w.here, fragment,
+        ) else {
             return w;
         };
-        let next_state = end.state;
-        let next_at = end.at;
-        let used = end.used;
         w = Walk {
             next: w.next + 2,
             row: w.row + 1,
-            state: next_state,
-            at: next_at,
-            used,
+            here: end.here,
+            used: end.used,
         };
     }
     w
@@ -493,52 +371,32 @@ fn tracer_at(records: &[u64], w: Walk, t: CoreTraceGenerationTracer) -> CoreTrac
     let b = 32 * w.next - 32;
     let a = b - 32;
     let c = b + 32;
-    let StoredFound::Are(values) = stored_at(&records[a..b]) else {
+    let Ok(values) = stored_at(&records[a..b]) else {
         return t;
     };
-    let SystemFound::Is(system) = system_at(&records[b..c]) else {
+    let Some(system) = system_at(&records[b..c]) else {
         return t;
     };
-    let depth_found = narrow(number_at(&records[b..c], 24));
-    let Small::Is(depth) = depth_found else {
+    let Some(depth) = narrow(item_or(&records[b..c], 24, 0)) else {
         return t;
     };
-    let stack = stack_at(&records[b..c], depth);
-    let continuation = values.continuation;
-    let given = values.captured;
-    let used = w.used;
-    let captured = left_after(used, given.read());
-    let state = w.state;
-    let at = w.at;
-    let built_system = SystemCols::build(system);
-    let built_stack = StackCols::build(stack);
     CoreTraceGenerationTracer {
         refusal: 0,
         row_write_index: w.row,
-        continuation: StoredContinuation::Is(continuation),
+        continuation: Some(values.continuation),
         is_loop_body: values.is_loop_body,
-        captured,
-        decoder_state: state,
-        at,
-        system_cols: built_system,
-        stack_cols: built_stack,
+        captured: left_after(w.used, values.captured.read()),
+        decoder_state: w.here.state,
+        at: w.here.at,
+        system_cols: SystemCols::build(system),
+        stack_cols: StackCols::build(stack_at(&records[b..c], depth)),
     }
 }
 
 // The stretch of pairs from record k on, in the forest of the first. The record before wrote a row.
 pub(crate) fn follow(
     write: bool,
-    scan: Scan,
-    nodes: &[u32],
-    digests: &[u64],
-    batches: &[u32],
-    groups: &[u64],
-    ops: &[u8],
-    directory: &[u32],
-    addresses: &[u64],
-    parents: &[u64],
-    ends: &[u64],
-    profile: Profile,
+    setting: &LentSetting,
     records: &[u64],
     k: usize,
     tracer: CoreTraceGenerationTracer,
@@ -546,41 +404,32 @@ pub(crate) fn follow(
 ) -> Followed
     requires k_nonzero { (0 < k) × (k ≤ length records.now / 32) }
     requires built_before { BuiltBefore records.now k tracer }
-    ensures { Follows (lent_setting scan profile nodes digests batches groups ops directory addresses parents ends fragment)
-        records.now k tracer write fragment.old fragment.new result }
+    ensures { Follows (lent_setting setting.now (length fragment.old)) records.now k tracer write fragment.old fragment.new result }
 {
+    let scan = setting.scan;
     let wrong = fragment_wrong(fragment.len(), tracer.row_write_index);
     if scan.big | (scan.profile_wrong | (scan.too_large | wrong)) {
         return Followed { next: k, tracer };
     }
-    let forest = number_at(records, 32 * k + 33);
-    let parts = directory_entry(directory, forest);
-    let own_nodes = part_of_numbers(nodes, 6, parts.first_slot, parts.slots);
-    let own_digests = part_of_cells(digests, 4, parts.first_slot, parts.slots);
-    let own_batches = part_of_numbers(batches, 12, parts.first_batch, parts.batches);
-    let own_groups = part_of_cells(groups, 8, parts.first_batch, parts.batches);
-    let own_ops = part_of_opcodes(ops, parts.first_op, parts.ops);
-    let state = tracer.decoder_state;
-    let at = tracer.at;
+    let number = item_or(records, 32 * k + 33, 0);
+    let forest = setting
+        .forests
+        .part(directory_entry(setting.directory, number));
     let from = Walk {
         next: k,
         row: tracer.row_write_index,
-        state,
-        at,
+        here: Cursor {
+            state: tracer.decoder_state,
+            at: tracer.at,
+        },
         used: Used::Nothing,
     };
     let w = walk_pairs(
         write,
-        own_nodes,
-        own_digests,
-        own_batches,
-        own_groups,
-        own_ops,
-        addresses,
-        parents,
-        ends,
-        profile,
-        forest,
+        &forest,
+        &setting.queues,
+        setting.profile,
+        number,
         records,
         from,
         fragment,
@@ -588,9 +437,8 @@ pub(crate) fn follow(
     if w.next == k {
         return Followed { next: k, tracer };
     }
-    let next = w.next;
     Followed {
-        next,
+        next: w.next,
         tracer: tracer_at(records, w, tracer),
     }
 }
