@@ -5,22 +5,23 @@ ghost use Rattle.field.specs.Cells.{cell_at};
 use crate::felt::reduce;
 
 // Cell i of the slice, read modulo p; 0 past its end.
+#[tactic(auto, unfolding(crate::specs::Cells::cell_at))]
 pub fn cell(cells: &[u64], i: usize) -> u64
     ensures { result ≡ cell_at cells.now i }
 {
-    reduce(number_at(cells, i))
+    reduce(item_or(cells, i, 0))
 }
 
 // Number i of the slice as it stands, 0 past its end.
 pub fn number_at(numbers: &[u64], i: usize) -> u64
     ensures { result ≡ get_or numbers.now i 0 }
 {
-    if i < numbers.len() { numbers[i] } else { 0 }
+    item_or(numbers, i, 0)
 }
 
 // Item i of the slice, `other` past its end.
 pub fn item_or<T: Copy>(items: &[T], i: usize, other: T) -> T
     ensures { result ≡ get_or items.now i other }
 {
-    if i < items.len() { items[i] } else { other }
+    items.get(i).copied().unwrap_or(other)
 }

@@ -2,6 +2,7 @@
 use mathlib.Core.Path.{◌≡◌, refl}
 use mathlib.Core.Bool.{Bool, true, false}
 use mathlib.Core.List.{List}
+use Rattle.std.specs.Option.{Option, Some}
 use Prim.Native.Nat.{ℕ, ◌+◌, ◌-◌, ◌*◌, ◌/◌, ◌^◌, ◌≤◌}
 use native.Mathlib.Omega.{arith}
 use lib.Dec.{ltb}
@@ -9,8 +10,9 @@ use Rattle.field.specs.Cells.{cell_at}
 use Rattle.groups.specs.Answer.{Answer, accepted, refused, and_then, pick}
 use Rattle.groups.specs.Batches.{starts_at}
 use Rattle.groups.specs.GroupsLeft.{counts, group_sum, pushes}
-use Rattle.groups.specs.GroupOfOperation.{group_of, told_group}
-use Rattle.groups.specs.Constants.{over_total, bad_length}
+use Rattle.groups.specs.GroupOfOperation.{group_of}
+use Rattle.groups.specs.Constants.{no_such_operation, over_total, bad_length}
+use Rattle.groups.specs.Refusals.{told_or}
 use Rattle.groups.specs.Contexts.{sum_before, group_cell, consumed, context_in_group, op_context, too_large}
 use Rattle.groups.specs.ways.ContextsByCount.{large_by, context_in}
 use Rattle.groups.specs.declared.context.BasicBlockContext.{BasicBlockContext}
@@ -18,7 +20,6 @@ use Rattle.groups.specs.declared.batch.OpBatch.{OpBatch}
 use Rattle.groups.specs.declared.batch.BasicBlockNode.{BasicBlockNode}
 use Rattle.groups.specs.declared.sum.GroupSum.{GroupSum}
 use Rattle.groups.specs.declared.group.OpPlace.{OpPlace}
-use Rattle.groups.specs.declared.group.GroupFound.{GroupFound}
 use Rattle.groups.proofs.OneGroup.{lies}
 
 -- batches 0 to n of a block are its first n
@@ -38,8 +39,8 @@ unfolding consumed
 consumed-is push batches groups block index place sum group count s g e = rw (e, g, s, counts-first)
 
 -- a batch has eight groups, of nine operations at most
-pub in-batch : (batches : List ℕ) (block : BasicBlockNode) (index ops op : ℕ) (starts : List ℕ) (found : GroupFound) (place : OpPlace)
-    → starts ≡ starts_at batches block index → told_group found ≡ group_of starts ops op → found ≡ GroupFound.In place
+pub in-batch : (batches : List ℕ) (block : BasicBlockNode) (index ops op : ℕ) (starts : List ℕ) (found : Option OpPlace) (place : OpPlace)
+    → starts ≡ starts_at batches block index → told_or no_such_operation found ≡ group_of starts ops op → found ≡ Some place
     → (place.group ≤ 7) × (place.index ≤ 8)
 unfolding starts_at
 in-batch batches block index ops op starts found place s t e =

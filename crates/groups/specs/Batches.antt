@@ -6,7 +6,6 @@ use Rattle.groups.specs.Constants.{no_such_batch}
 use Rattle.groups.specs.Words.{word_at}
 use Rattle.groups.specs.declared.batch.BasicBlockNode.{BasicBlockNode}
 use Rattle.groups.specs.declared.batch.OpBatch.{OpBatch}
-use Rattle.groups.specs.declared.batch.BatchFound.{BatchFound}
 
 -- the record of batch `index`
 abbrev pub record_of : BasicBlockNode → ℕ → ℕ
@@ -33,11 +32,6 @@ is_batch batches groups block index =
 unfoldable pub batch_at : (batches groups : List ℕ) → BasicBlockNode → ℕ → Answer OpBatch
 batch_at batches groups block index =
     pick (is_batch batches groups block index) (accepted (batch_of batches groups (record_of block index))) (refused no_such_batch)
-
--- the number and the values of each case
-abbrev pub told_batch : BatchFound → Answer OpBatch
-told_batch (BatchFound.At batch) = accepted batch
-told_batch BatchFound.Missing = refused no_such_batch
 
 -- the nine group starts of record r: "A batch lends nine non-decreasing group starts"
 abbrev pub starts_of : (batches : List ℕ) → (r : ℕ) → List ℕ

@@ -13,11 +13,8 @@ use Rattle.groups.specs.declared.batch.OpBatch.{OpBatch}
 use Rattle.groups.specs.declared.group.OpPlace.{OpPlace}
 use Rattle.groups.specs.declared.sum.GroupSum.{GroupSum}
 use Rattle.groups.specs.declared.context.OpContext.{OpContext}
-use Rattle.groups.specs.declared.context.OpContextFound.{OpContextFound}
 use Rattle.groups.specs.declared.context.OpCells.{OpCells}
-use Rattle.groups.specs.declared.context.OpCellsFound.{OpCellsFound}
 use Rattle.groups.specs.declared.context.BatchContext.{BatchContext}
-use Rattle.groups.specs.declared.context.BatchContextFound.{BatchContextFound}
 
 -- Refusal 11: "a batch's group count above 8, over 4,096 batches", of the batch and of those added up
 unfoldable pub too_large : BasicBlockNode → OpBatch → (above8 : Bool) → Bool
@@ -69,11 +66,6 @@ context_at_op push block batches groups index op =
     and_then (group_of (starts_at batches block index) batch.num_ops op) (λ place.
     context_in_group push block batches groups index batch place))
 
--- the number and the values of each case
-abbrev pub told_op : OpContextFound → Answer OpContext
-told_op (OpContextFound.At context) = accepted context
-told_op (OpContextFound.Refused n) = refused n
-
 -- what an operation's row shows of its context: the index in its group, and the context's two numbers
 abbrev pub op_cells_of : OpContext → OpCells
 op_cells_of found = record { index = found.place.index; context = found.context }
@@ -81,11 +73,6 @@ op_cells_of found = record { index = found.place.index; context = found.context 
 -- that at operation `op` of batch `index`, refused as its context is
 unfoldable pub cells_at_op : (push : ℕ) → BasicBlockNode → (batches groups : List ℕ) → (index op : ℕ) → Answer OpCells
 cells_at_op push block batches groups index op = and_then (context_at_op push block batches groups index op) (λ found. accepted (op_cells_of found))
-
--- the number and the values of each case
-abbrev pub told_cells : OpCellsFound → Answer OpCells
-told_cells (OpCellsFound.At cells) = accepted cells
-told_cells (OpCellsFound.Refused n) = refused n
 
 -- "the plain sum of groups from that batch on"; the first group as it is read
 unfoldable pub context_at_batch_start : BasicBlockNode → (batches groups : List ℕ) → (index : ℕ) → Answer BatchContext
@@ -101,8 +88,3 @@ context_at_batch_start block batches groups index =
       batch = batch;
       flags = flags;
     }))))
-
--- the number and the values of each case
-abbrev pub told_batch_start : BatchContextFound → Answer BatchContext
-told_batch_start (BatchContextFound.At context) = accepted context
-told_batch_start (BatchContextFound.Refused n) = refused n

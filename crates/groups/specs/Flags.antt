@@ -3,7 +3,6 @@ use Rattle.std.specs.Prelude.{ℕ, leb, eqb}
 use Rattle.groups.specs.Answer.{Answer, accepted, refused, pick}
 use Rattle.groups.specs.Constants.{bad_group_count}
 use Rattle.groups.specs.declared.flags.BatchFlags.{BatchFlags}
-use Rattle.groups.specs.declared.flags.FlagsFound.{FlagsFound}
 
 -- the flags of a count up to 8. Refusal 7: "group count"
 unfoldable pub flags_up_to8 : ℕ → Answer BatchFlags
@@ -16,8 +15,3 @@ flags_up_to8 count =
 -- the flags by the count capped at 8
 unfoldable pub batch_flags : ℕ → Answer BatchFlags
 batch_flags count = flags_up_to8 (pick (leb 8 count) 8 count)
-
--- the number and the values of each case
-abbrev pub told_flags : FlagsFound → Answer BatchFlags
-told_flags (FlagsFound.Are flags) = accepted flags
-told_flags FlagsFound.Refused = refused bad_group_count

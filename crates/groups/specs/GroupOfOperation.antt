@@ -6,8 +6,6 @@ use Rattle.groups.specs.Answer.{Answer, accepted, refused, and_then, pick}
 use Rattle.groups.specs.Constants.{no_such_batch, no_such_operation, bad_length}
 use Rattle.groups.specs.Batches.{starts_of}
 use Rattle.groups.specs.declared.group.OpPlace.{OpPlace}
-use Rattle.groups.specs.declared.group.GroupFound.{GroupFound}
-use Rattle.groups.specs.declared.group.PlaceFound.{PlaceFound}
 
 -- "falling starts": one is below that before it
 unfoldable pub falling : List ℕ → Bool
@@ -43,11 +41,6 @@ pub record LiesAt (starts : List ℕ) (ops op : ℕ) (place : OpPlace) : Type 0 
   pub up_to_8 : place.index ≤ 8
   pub followed_by : place.following ≡ following_ops (get_or starts (place.group + 1) 0) ops op
 
--- the number and the values of each case
-abbrev pub told_group : GroupFound → Answer OpPlace
-told_group (GroupFound.In place) = accepted place
-told_group GroupFound.Refused = refused no_such_operation
-
 -- of the batch records alone, the record of a number and an operation: 5 where the record is not whole in the slice, 6, and 11 where its group
 -- count is above 8; "the lowest number is answered"
 unfoldable pub place_of_op : (batches : List ℕ) → (r op : ℕ) → Answer OpPlace
@@ -56,8 +49,3 @@ place_of_op batches r op =
     (and_then (group_of (starts_of batches r) (get_or batches (12 * r + 10) 0) op) (λ place.
     pick (ltb 8 (get_or batches (12 * r) 0)) (refused bad_length) (accepted place)))
     (refused no_such_batch)
-
--- the number and the values of each case
-abbrev pub told_place : PlaceFound → Answer OpPlace
-told_place (PlaceFound.At place) = accepted place
-told_place (PlaceFound.Refused n) = refused n

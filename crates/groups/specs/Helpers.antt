@@ -9,8 +9,6 @@ use Rattle.groups.specs.Constants.{big_helper_value}
 use Rattle.groups.specs.declared.helpers.OperationHelperRegisters.{OperationHelperRegisters}
 use Rattle.groups.specs.declared.helpers.OperationHelperRegisters.TheVariants.{Eq, U32Split, Eqz, Expacc, FriExt2Fold4, U32Add, U32Add3, U32Sub, U32Mul, U32Madd, U32Div, U32Assert2, HPerm, MerklePath, HornerEvalBase, HornerEvalExt, LogDeferred, Empty}
 use Rattle.groups.specs.declared.helpers.UserOpHelpers.{UserOpHelpers}
-use Rattle.groups.specs.declared.helpers.HelpersFound.{HelpersFound}
-use Rattle.groups.specs.declared.helpers.HelpersFound.TheVariants.{Are, Refused}
 
 -- whether every number of the list is below the limit
 unfoldable pub all_below : ℕ → List ℕ → Bool
@@ -106,8 +104,3 @@ helpers_of_cells r = pick (all_below 4294967296 (u32_values r)) (accepted (helpe
 -- the helpers of a register set as it comes in
 unfoldable pub helpers_answer : OperationHelperRegisters → Answer UserOpHelpers
 helpers_answer r = helpers_of_cells (read_registers r)
-
--- the number and the values of each case
-abbrev pub told_helpers : HelpersFound → Answer UserOpHelpers
-told_helpers (Are h) = accepted h
-told_helpers (Refused n) = refused n

@@ -1,10 +1,19 @@
-// The batches of a block, as lent: twelve numbers a batch in `batches` (group count, nine group starts, number of operations,
+// The batches of a block, as lent: twelve numbers a batch in `records` (group count, nine group starts, number of operations,
 // first operation) and eight cells a batch in `groups`. Batch `index` of a block is record first_batch + index of both.
 ghost use Rattle.std.specs.Prelude.{◌≡◌, ◌^◌, ◌<◌};
-ghost use Rattle.groups.specs.Batches.{is_batch, batch_at, told_batch, starts_of, starts_at, lent_batches};
+ghost use Rattle.groups.specs.Batches.{record_of, is_batch, batch_at, starts_of, starts_at, lent_batches};
+ghost use Rattle.groups.specs.Constants.{no_such_batch};
+ghost use Rattle.groups.specs.Refusals.{told_or};
 
-use crate::number::number;
 use crate::word::{Word, word_at};
+use field::cell::item_or;
+
+// The batches that are lent: their records and their groups.
+#[derive(Clone, Copy)]
+pub struct LentBatches<'a> {
+    pub records: &'a [u32],
+    pub groups: &'a [u64],
+}
 
 // A block: its total of groups as `num_op_groups` answers, the record of its first batch, and how many batches it has.
 #[derive(Clone, Copy)]
@@ -25,39 +34,58 @@ pub struct OpBatch {
     pub high: Word,
 }
 
-#[derive(Clone, Copy)]
-pub enum BatchFound {
-    At(OpBatch),
-    Missing,
+impl BasicBlockNode {
+    // The record of batch `index`.
+    pub(crate) fn record_of(self, index: u32) -> usize
+        ensures { result ≡ record_of self index }
+    {
+        self.first_batch as usize + index as usize
+    }
 }
 
-// Whether the block has a batch `index` whose records lie whole in the slices.
-pub(crate) fn is_batch(batches: &[u32], groups: &[u64], block: BasicBlockNode, index: u32) -> bool
-    ensures { result ≡ is_batch batches.now groups.now block index }
-{
-    if block.batches <= index {
-        return false;
+#[tactic(auto, unfolding(crate::specs::Batches::is_batch, crate::specs::Batches::batch_at))]
+impl LentBatches<'_> {
+    // Whether the block has a batch `index` whose records lie whole in the slices.
+    pub(crate) fn is_batch(&self, block: BasicBlockNode, index: u32) -> bool
+        ensures { result ≡ is_batch self.now.records.now self.now.groups.now block index }
+    {
+        let r = block.record_of(index);
+        index < block.batches && 12 * r + 12 <= self.records.len() && 8 * r + 8 <= self.groups.len()
     }
-    let record = block.first_batch as usize + index as usize;
-    (12 * record + 12 <= batches.len()) & (8 * record + 8 <= groups.len())
-}
 
-// Batch `index` of the block, or 5: the block has no such batch, or its records do not lie whole in the slices.
-pub fn batch_at(batches: &[u32], groups: &[u64], block: BasicBlockNode, index: u32) -> BatchFound
-    ensures { told_batch result ≡ batch_at batches.now groups.now block index }
-{
-    if !is_batch(batches, groups, block, index) {
-        return BatchFound::Missing;
+    // Batch `index` of the block. None, refused with 5: the block has no such batch, or its records do not lie whole in the slices.
+    pub fn batch_at(&self, block: BasicBlockNode, index: u32) -> Option<OpBatch>
+        ensures { told_or no_such_batch result ≡ batch_at self.now.records.now self.now.groups.now block index }
+    {
+        if !self.is_batch(block, index) {
+            return None;
+        }
+        let r = block.record_of(index);
+        Some(OpBatch {
+            group_count: item_or(self.records, 12 * r, 0),
+            num_ops: item_or(self.records, 12 * r + 10, 0),
+            first_op: item_or(self.records, 12 * r + 11, 0),
+            record_index: r,
+            low: word_at(self.groups, 8 * r),
+            high: word_at(self.groups, 8 * r + 4),
+        })
     }
-    let record = block.first_batch as usize + index as usize;
-    BatchFound::At(OpBatch {
-        group_count: number(batches, 12 * record),
-        num_ops: number(batches, 12 * record + 10),
-        first_op: number(batches, 12 * record + 11),
-        record_index: record,
-        low: word_at(groups, 8 * record),
-        high: word_at(groups, 8 * record + 4),
-    })
+
+    // The nine group starts of batch `index`.
+    pub fn starts_at(&self, block: BasicBlockNode, index: u32) -> [u32; 9]
+        ensures { result ≡ starts_at self.now.records.now block index }
+    {
+        starts_of(self.records, block.record_of(index))
+    }
+
+    // How many of the block's batches have their twelve numbers in the slice.
+    pub fn lent_batches(&self, block: BasicBlockNode) -> u32
+        ensures { result ≡ lent_batches self.now.records.now block }
+    {
+        let first = block.first_batch as usize;
+        let lent = (self.records.len() / 12).saturating_sub(first);
+        lent.min(block.batches as usize) as u32
+    }
 }
 
 // The nine group starts of a record.
@@ -67,37 +95,14 @@ pub(crate) fn starts_of(batches: &[u32], record: usize) -> [u32; 9]
 {
     let at = 12 * record;
     [
-        number(batches, at + 1),
-        number(batches, at + 2),
-        number(batches, at + 3),
-        number(batches, at + 4),
-        number(batches, at + 5),
-        number(batches, at + 6),
-        number(batches, at + 7),
-        number(batches, at + 8),
-        number(batches, at + 9),
+        item_or(batches, at + 1, 0),
+        item_or(batches, at + 2, 0),
+        item_or(batches, at + 3, 0),
+        item_or(batches, at + 4, 0),
+        item_or(batches, at + 5, 0),
+        item_or(batches, at + 6, 0),
+        item_or(batches, at + 7, 0),
+        item_or(batches, at + 8, 0),
+        item_or(batches, at + 9, 0),
     ]
-}
-
-// The nine group starts of batch `index`.
-pub fn starts_at(batches: &[u32], block: BasicBlockNode, index: u32) -> [u32; 9]
-    ensures { result ≡ starts_at batches.now block index }
-{
-    starts_of(batches, block.first_batch as usize + index as usize)
-}
-
-// How many of the block's batches have their twelve numbers in the slice.
-pub fn lent_batches(batches: &[u32], block: BasicBlockNode) -> u32
-    ensures { result ≡ lent_batches batches.now block }
-{
-    let records = batches.len() / 12;
-    let first = block.first_batch as usize;
-    if first + block.batches as usize <= records {
-        return block.batches;
-    }
-    if records <= first {
-        0
-    } else {
-        (records - first) as u32
-    }
 }

@@ -1,6 +1,8 @@
 // Batch flags.
 ghost use Rattle.std.specs.Prelude.{◌≡◌};
-ghost use Rattle.groups.specs.Flags.{batch_flags, told_flags};
+ghost use Rattle.groups.specs.Constants.{bad_group_count};
+ghost use Rattle.groups.specs.Flags.{batch_flags};
+ghost use Rattle.groups.specs.Refusals.{told_or};
 
 use field::felt::Felt;
 
@@ -8,27 +10,16 @@ use field::felt::Felt;
 #[derive(Clone, Copy)]
 pub struct BatchFlags(pub u64, pub u64, pub u64);
 
-#[derive(Clone, Copy)]
-pub enum FlagsFound {
-    Are(BatchFlags),
-    Refused,
-}
-
-// The flags by the group count capped at 8, or 7: there are none for this count.
-pub fn get_op_batch_flags(count: u64) -> FlagsFound
-    ensures { told_flags result ≡ batch_flags count }
+// The flags by the group count capped at 8. None, refused with 7: there are none for this count.
+#[tactic(auto, unfolding(crate::specs::Flags::batch_flags, crate::specs::Flags::flags_up_to8))]
+pub fn get_op_batch_flags(count: u64) -> Option<BatchFlags>
+    ensures { told_or bad_group_count result ≡ batch_flags count }
 {
-    if 8 <= count {
-        return FlagsFound::Are(BatchFlags(Felt::ONE, Felt::ZERO, Felt::ZERO));
+    match count {
+        8.. => Some(BatchFlags(Felt::ONE, Felt::ZERO, Felt::ZERO)),
+        4 => Some(BatchFlags(Felt::ZERO, Felt::ONE, Felt::ZERO)),
+        2 => Some(BatchFlags(Felt::ZERO, Felt::ZERO, Felt::ONE)),
+        1 => Some(BatchFlags(Felt::ZERO, Felt::ONE, Felt::ONE)),
+        _ => None,
     }
-    if count == 4 {
-        return FlagsFound::Are(BatchFlags(Felt::ZERO, Felt::ONE, Felt::ZERO));
-    }
-    if count == 2 {
-        return FlagsFound::Are(BatchFlags(Felt::ZERO, Felt::ZERO, Felt::ONE));
-    }
-    if count == 1 {
-        return FlagsFound::Are(BatchFlags(Felt::ZERO, Felt::ONE, Felt::ONE));
-    }
-    FlagsFound::Refused
 }

@@ -1,9 +1,10 @@
 // The helper registers of an operation: what a cycle captures of it, and the six cells h2 to h7 that its row shows.
-ghost use Rattle.std.specs.Prelude.{◌≡◌, [], ◌∷◌};
-ghost use Rattle.groups.specs.Helpers.{all_below, six, helpers_answer, told_helpers};
+ghost use Rattle.std.specs.Prelude.{◌≡◌};
+ghost use Rattle.groups.specs.Helpers.{all_below, helpers_answer};
+ghost use Rattle.groups.specs.Refusals.{told};
 ghost use Rattle.groups.specs.ways.Families.{family_of, read_family, found_of};
 
-use crate::constants::Refusal;
+use crate::refusal::Refusal;
 use crate::word::{QuadFelt, Word};
 use field::felt::{Felt, reduce, sub};
 use field::inverse::inverse;
@@ -110,13 +111,6 @@ pub struct UserOpHelpers {
     pub h7: u64,
 }
 
-// The helpers, or the number of the refusal.
-#[derive(Clone, Copy)]
-pub enum HelpersFound {
-    Are(UserOpHelpers),
-    Refused(u32),
-}
-
 // The ways in which helpers are made.
 #[derive(Clone, Copy)]
 enum Family {
@@ -158,60 +152,46 @@ fn addressed(addr: u64, w: Word) -> Family
     Family::Cells(addr, w.0, w.1, w.2, w.3, Felt::ZERO)
 }
 
-// Whether six numbers are all below the limit.
-fn all_below(limit: u64, a: u64, b: u64, c: u64, d: u64, e: u64, f: u64) -> bool
-    ensures { result ≡ all_below limit (a ∷ b ∷ c ∷ d ∷ e ∷ f ∷ []) }
+// Whether the numbers are all below the limit.
+fn all_below(limit: u64, numbers: &[u64]) -> bool
+    ensures { result ≡ all_below limit numbers.now }
 {
-    (a < limit) & ((b < limit) & ((c < limit) & ((d < limit) & ((e < limit) & (f < limit)))))
-}
-
-// The helpers in order.
-fn are(h2: u64, h3: u64, h4: u64, h5: u64, h6: u64, h7: u64) -> HelpersFound
-    ensures { result ≡ HelpersFound.Are (six h2 h3 h4 h5 h6 h7) }
-{
-    HelpersFound::Are(UserOpHelpers {
-        h2,
-        h3,
-        h4,
-        h5,
-        h6,
-        h7,
-    })
+    numbers.iter().all(|x| *x < limit)
 }
 
 // The helpers of three values of 32 bits, or 9.
-fn limbs(a: u64, b: u64, c: u64) -> HelpersFound
-    ensures { told_helpers result ≡ found_of (Family.Limbs a b c) }
+fn limbs(a: u64, b: u64, c: u64) -> Result<UserOpHelpers, Refusal>
+    ensures { told result ≡ found_of (Family.Limbs a b c) }
 {
-    if !all_below(0x1_0000_0000, a, b, c, 0, 0, 0) {
-        return HelpersFound::Refused(Refusal::BIG_HELPER_VALUE);
+    if !all_below(0x1_0000_0000, &[a, b, c]) {
+        return Err(Refusal::BigHelperValue);
     }
-    are(
-        a % 65536,
-        a / 65536,
-        b % 65536,
-        b / 65536,
-        c % 65536,
-        c / 65536,
-    )
+    Ok(UserOpHelpers {
+        h2: a % 65536,
+        h3: a / 65536,
+        h4: b % 65536,
+        h5: b / 65536,
+        h6: c % 65536,
+        h7: c / 65536,
+    })
 }
 
 // The helpers of two values of 32 bits and the inverse, or 9.
-fn limbs_and_inverse(lo: u64, hi: u64) -> HelpersFound
-    ensures { told_helpers result ≡ found_of (Family.LimbsAndInverse lo hi) }
+fn limbs_and_inverse(lo: u64, hi: u64) -> Result<UserOpHelpers, Refusal>
+    ensures { told result ≡ found_of (Family.LimbsAndInverse lo hi) }
 {
-    if !all_below(0x1_0000_0000, lo, hi, 0, 0, 0, 0) {
-        return HelpersFound::Refused(Refusal::BIG_HELPER_VALUE);
+    if !all_below(0x1_0000_0000, &[lo, hi]) {
+        return Err(Refusal::BigHelperValue);
     }
     let flag = inverse(sub(0xffff_ffff, hi));
-    are(
-        lo % 65536,
-        lo / 65536,
-        hi % 65536,
-        hi / 65536,
-        flag,
-        Felt::ZERO,
-    )
+    Ok(UserOpHelpers {
+        h2: lo % 65536,
+        h3: lo / 65536,
+        h4: hi % 65536,
+        h5: hi / 65536,
+        h6: flag,
+        h7: Felt::ZERO,
+    })
 }
 
 impl Family {
@@ -235,19 +215,26 @@ impl Family {
     }
 
     // Its helpers, or 9.
-    fn helpers(self) -> HelpersFound
-        ensures { told_helpers result ≡ found_of self }
+    fn helpers(self) -> Result<UserOpHelpers, Refusal>
+        ensures { told result ≡ found_of self }
     {
         match self {
-            Self::Cells(a, b, c, d, e, f) => are(a, b, c, d, e, f),
-            Self::Inverse(first, second) => are(
-                inverse(sub(first, second)),
-                Felt::ZERO,
-                Felt::ZERO,
-                Felt::ZERO,
-                Felt::ZERO,
-                Felt::ZERO,
-            ),
+            Self::Cells(h2, h3, h4, h5, h6, h7) => Ok(UserOpHelpers {
+                h2,
+                h3,
+                h4,
+                h5,
+                h6,
+                h7,
+            }),
+            Self::Inverse(first, second) => Ok(UserOpHelpers {
+                h2: inverse(sub(first, second)),
+                h3: Felt::ZERO,
+                h4: Felt::ZERO,
+                h5: Felt::ZERO,
+                h6: Felt::ZERO,
+                h7: Felt::ZERO,
+            }),
             Self::Limbs(a, b, c) => limbs(a, b, c),
             Self::LimbsAndInverse(lo, hi) => limbs_and_inverse(lo, hi),
         }
@@ -293,8 +280,8 @@ impl OperationHelperRegisters {
     }
 
     // The cells h2 to h7, its numbers read modulo p, or 9 for a 32-bit value from 2^32 on.
-    pub fn to_user_op_helpers(self) -> HelpersFound
-        ensures { told_helpers result ≡ helpers_answer self }
+    pub fn to_user_op_helpers(self) -> Result<UserOpHelpers, Refusal>
+        ensures { told result ≡ helpers_answer self }
     {
         self.family().read().helpers()
     }

@@ -7,7 +7,6 @@ use Rattle.groups.specs.Contexts.{sum_before, consumed, group_cell}
 use Rattle.groups.specs.declared.batch.BasicBlockNode.{BasicBlockNode}
 use Rattle.groups.specs.declared.group.OpPlace.{OpPlace}
 use Rattle.groups.specs.declared.context.BasicBlockContext.{BasicBlockContext}
-use Rattle.groups.specs.declared.context.ContextFound.{ContextFound}
 
 -- `too_large` by the batch's group count
 abbrev pub large_by : BasicBlockNode → (count : ℕ) → (above8 : Bool) → Bool
@@ -22,7 +21,3 @@ context_in push block batches groups index count place =
       current_op_group = group_cell groups block index place / 2 ^ (7 * (place.index + 1));
       group_count_in_block = block.total - consumed push block batches groups index place;
     })))
-
-abbrev pub told_context : ContextFound → Answer BasicBlockContext
-told_context (ContextFound.Is context) = accepted context
-told_context (ContextFound.Refused n) = refused n
