@@ -1,4 +1,5 @@
 -- Of inputs below p, and numbers of 32 bits, every cell of a made row is below p.
+use Rattle.std.specs.Prelude.{Option, Some, None}
 use mathlib.Core.Path.{◌≡◌, refl, subst}
 use mathlib.Core.Bool.{Bool, true, false}
 use mathlib.Core.List.{◌++◌}
@@ -22,8 +23,6 @@ use Rattle.rows.specs.declared.records.ids.MastNodeId.{MastNodeId}
 use Rattle.rows.specs.declared.records.profile.Profile.{Profile}
 use Rattle.rows.specs.declared.records.decoder_row.EndBlockStackEntryKind.{EndBlockStackEntryKind}
 use Rattle.rows.specs.declared.records.continuation.Continuation.{Continuation}
-use Rattle.rows.specs.declared.records.continuation.CalleeWord.{CalleeWord}
-use Rattle.rows.specs.declared.records.continuation.ContextInfo.{ContextInfo}
 use Rattle.rows.specs.declared.records.continuation.Captured.{Captured}
 use Rattle.rows.specs.declared.records.continuation.ExecutionContextInfo.{ExecutionContextInfo}
 use Rattle.rows.specs.declared.records.continuation.Used.{Used}
@@ -84,9 +83,9 @@ pub below_none : Below (word_cells zero_word)
 unfolding Below
 below_none = omega arith
 
-below-callee : (callee : CalleeWord) (w : Word) → Below (callee_cells callee) → callee_of callee ≡ accepted w → Below (word_cells w)
-below-callee CalleeWord.Absent w h e = never 23 w e
-below-callee (CalleeWord.Is word) w h e = let is : word ≡ w = cc in subst (λ (v : Word). Below (word_cells v)) is h
+below-callee : (callee : Option Word) (w : Word) → Below (callee_cells callee) → callee_of callee ≡ accepted w → Below (word_cells w)
+below-callee None w h e = never 23 w e
+below-callee (Some word) w h e = let is : word ≡ w = cc in subst (λ (v : Word). Below (word_cells v)) is h
 
 below-one-word : Below (word_cells (1, 0, 0, 0))
 unfolding Below
@@ -101,11 +100,11 @@ below-flag false EndBlockStackEntryKind.Continuation = omega arith
 below-flag false EndBlockStackEntryKind.LoopContinuation = omega arith
 below-flag false EndBlockStackEntryKind.CallerFrame = omega arith
 
-below-info : (info : ContextInfo) (x : ExecutionContextInfo)
+below-info : (info : Option ExecutionContextInfo) (x : ExecutionContextInfo)
     → Below (info_cells info) → depth_in info < P → info_of info ≡ accepted x → Below (word_cells (x.stack_depth, x.next_overflow_addr, 0, 0))
 unfolding Below
-below-info ContextInfo.Absent x h d e = never 23 x e
-below-info (ContextInfo.Is info) x h d e =
+below-info None x h d e = never 23 x e
+below-info (Some info) x h d e =
     let is : info ≡ x = cc in
     let a : x.stack_depth < P = subst (λ (v : ExecutionContextInfo). v.stack_depth < P) is d in
     let b : x.next_overflow_addr < P = subst (λ (v : ExecutionContextInfo). v.next_overflow_addr < P) is h.0 in

@@ -1,5 +1,7 @@
 -- "Inputs that were answered get the same cells as before." (N2) Call records: a record that encoded a call whose cells are below p encodes the same
 -- call. What it was refused by may have changed: a clk, ctx or depth over 32 bits is 23 and no longer 1.
+use Rattle.std.specs.Prelude.{Option, Some, None}
+use Rattle.rows.specs.declared.records.continuation.ExecutionContextInfo.{ExecutionContextInfo}
 use mathlib.Core.Path.{◌≡◌, ◌∙◌, refl, sym, ap, subst}
 use mathlib.Core.Bool.{Bool, true, false, ◌||◌}
 use mathlib.Core.List.{List, [], ◌∷◌, ◌++◌}
@@ -19,8 +21,6 @@ use Rattle.groups.proofs.Answers.{never, then-accepted, passed}
 use Rattle.rows.specs.declared.records.ids.MastNodeId.{MastNodeId}
 use Rattle.rows.specs.declared.records.state.SystemState.{SystemState}
 use Rattle.rows.specs.declared.records.continuation.Continuation.{Continuation}
-use Rattle.rows.specs.declared.records.continuation.CalleeWord.{CalleeWord}
-use Rattle.rows.specs.declared.records.continuation.ContextInfo.{ContextInfo}
 use Rattle.rows.specs.declared.records.continuation.StoredValues.{StoredValues}
 use Rattle.rows.specs.declared.records.call_record.InfoFound.{InfoFound}
 use Rattle.rows.specs.declared.records.call_record.SystemFound.{SystemFound}
@@ -46,20 +46,20 @@ same-of32 m n x y e = by (ltb x 4294967296) e
 -- A STORING
 
 -- the captured info
-pub same-info_in : (r : List ℕ) (info : ContextInfo) → info_in_before r ≡ accepted info → Below (info_cells info) → info_in r ≡ accepted info
+pub same-info_in : (r : List ℕ) (info : Option ExecutionContextInfo) → info_in_before r ≡ accepted info → Below (info_cells info) → info_in r ≡ accepted info
 unfolding info_in info_in_before
 same-info_in r info e h = by (eqb (get_or r 12 0) 1) e
   where
-    is : ℕ → ℕ → ContextInfo
-    is address depth = ContextInfo.Is (record { stack_depth = depth; next_overflow_addr = address })
+    is : ℕ → ℕ → Option ExecutionContextInfo
+    is address depth = Some (record { stack_depth = depth; next_overflow_addr = address })
 
     by : (t : Bool)
-        → pick t (and_then (of32 1 (get_or r 13 0)) (λ depth. accepted (is (get_or r 14 0) depth))) (accepted ContextInfo.Absent) ≡ accepted info
-        → pick t (and_then (of32 23 (get_or r 13 0)) (λ depth. accepted (is (cell_at r 14) depth))) (accepted ContextInfo.Absent) ≡ accepted info
+        → pick t (and_then (of32 1 (get_or r 13 0)) (λ depth. accepted (is (get_or r 14 0) depth))) (accepted None) ≡ accepted info
+        → pick t (and_then (of32 23 (get_or r 13 0)) (λ depth. accepted (is (cell_at r 14) depth))) (accepted None) ≡ accepted info
     by true e =
         let c = then-accepted (of32 1 (get_or r 13 0)) (λ depth. accepted (is (get_or r 14 0) depth)) info e in
         let known : is (get_or r 14 0) c.0 ≡ info = cc c.2 in
-        let small : Below (get_or r 14 0 ∷ []) = subst (λ (i : ContextInfo). Below (info_cells i)) (sym known) h in
+        let small : Below (get_or r 14 0 ∷ []) = subst (λ (i : Option ExecutionContextInfo). Below (info_cells i)) (sym known) h in
         rw (same-of32 1 23 (get_or r 13 0) c.0 c.1, same-cell_at r 14 (below_at (get_or r 14 0 ∷ []) 0 small)) c.2
     by false e = e
 
@@ -111,8 +111,8 @@ unfolding callee_in callee_in_before
 same-callee_in r h = by (eqb (get_or r 7 0) 1) h
   where
     by : (t : Bool)
-        → Below (callee_cells (pick t (CalleeWord.Is (word_from r 8)) CalleeWord.Absent))
-        → pick t (CalleeWord.Is (word_at r 8)) CalleeWord.Absent ≡ pick t (CalleeWord.Is (word_from r 8)) CalleeWord.Absent
+        → Below (callee_cells (pick t (Some (word_from r 8)) None))
+        → pick t (Some (word_at r 8)) None ≡ pick t (Some (word_from r 8)) None
     by true h = rw (same-word_at r 8 h)
     by false h = refl
 
@@ -129,7 +129,7 @@ same-stored_in_record r values e h =
     (subst (λ (v : StoredValues). Below (callee_cells v.captured.dyn_callee_hash ++ info_cells v.captured.ctx_info)) (sym is) h) in
     rw (same-continuation_in r b.0 b.1, same-info_in r a.0 a.1 info, same-callee_in r callee) b.2
   where
-    all : Continuation → ContextInfo → StoredValues
+    all : Continuation → Option ExecutionContextInfo → StoredValues
     all c info = record {
       continuation = c;
       is_loop_body = eqb (get_or r 5 0) 1;
@@ -262,7 +262,7 @@ same-call_in r c e h = by (eqb (get_or r 0 0) 0) e
     by false e = same-finish_in r c e h
 
 -- an info that is found
-pub same-told_info : (found : InfoFound) (info : ContextInfo) → told_info_before found ≡ accepted info → told_info found ≡ accepted info
+pub same-told_info : (found : InfoFound) (info : Option ExecutionContextInfo) → told_info_before found ≡ accepted info → told_info found ≡ accepted info
 same-told_info (InfoFound.Is x) info e = e
 same-told_info InfoFound.Over info e = never 1 info e
 

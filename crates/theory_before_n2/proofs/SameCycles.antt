@@ -3,6 +3,9 @@
 -- `made` is N8's, which refuses the start of a SYSCALL node.
 -- A finish that was answered had such cells (`answered-cycle`), so it is answered the same (`answered-the-same`). What a fresh tracer and a storing are
 -- given was tested by the finish that follows, where one did.
+use Rattle.std.specs.Prelude.{Option, Some, None}
+use Rattle.groups.specs.declared.word.Word.{Word}
+use Rattle.rows.specs.declared.records.continuation.ExecutionContextInfo.{ExecutionContextInfo}
 use mathlib.Core.Path.{◌≡◌, ◌∙◌, refl, ap}
 use mathlib.Core.Bool.{false, not, ◌||◌, or-false}
 use mathlib.Core.List.{List, [], ◌∷◌, ◌++◌}
@@ -23,9 +26,6 @@ use Rattle.rows.specs.declared.records.state.SystemState.{SystemState}
 use Rattle.rows.specs.declared.records.state.StackState.{StackState}
 use Rattle.rows.specs.declared.records.state.SystemCols.{SystemCols}
 use Rattle.rows.specs.declared.records.state.StackCols.{StackCols}
-use Rattle.rows.specs.declared.records.continuation.LoopCondition.{LoopCondition}
-use Rattle.rows.specs.declared.records.continuation.CalleeWord.{CalleeWord}
-use Rattle.rows.specs.declared.records.continuation.ContextInfo.{ContextInfo}
 use Rattle.rows.specs.declared.records.continuation.Captured.{Captured}
 use Rattle.rows.specs.declared.records.continuation.StoredValues.{StoredValues}
 use Rattle.rows.specs.records.Forests.{Forest}
@@ -36,7 +36,6 @@ use Rattle.rows.specs.records.CallRecords.{finishes}
 use Rattle.rows.proofs.records.Windows.{all-16}
 use Rattle.rows.specs.declared.cycles.made.MadeRow.{MadeRow}
 use Rattle.rows.specs.declared.cycles.scan.Scan.{Scan}
-use Rattle.rows.specs.declared.cycles.tracer.StoredContinuation.{StoredContinuation}
 use Rattle.rows.specs.declared.cycles.tracer.CoreTraceGenerationTracer.{CoreTraceGenerationTracer}
 use Rattle.rows.specs.cycles.Scans.{any_big_opcode, any_long_block, any_large_batch, forest_too_large, scan_of}
 use Rattle.rows.specs.cycles.Cycles.{fresh, storing_of, continuation_of, cycle_with, cycle, tracer_after, last_system, last_stack, fragment_after, final_state}
@@ -116,9 +115,9 @@ same-scan_of p f q h = rw (big-is f q h)
 pub same-fresh : (state : DecoderState) (at : Positions) → state.current_addr < P → state.parent_addr < P → fresh state at ≡ record {
   refusal = 0;
   row_write_index = 0;
-  continuation = StoredContinuation.Nothing;
+  continuation = None;
   is_loop_body = false;
-  captured = record { finish_loop_condition = LoopCondition.Absent; dyn_callee_hash = CalleeWord.Absent; ctx_info = ContextInfo.Absent };
+  captured = record { finish_loop_condition = None; dyn_callee_hash = None; ctx_info = None };
   decoder_state = state;
   at = at;
   system_cols = no_system;
@@ -128,14 +127,14 @@ unfolding fresh read_state
 same-fresh state at h k = rw (read_small state.current_addr h, read_small state.parent_addr k)
 
 -- a callee word and an info of cells below p are read as themselves
-same-read_callee : (callee : CalleeWord) → Below (callee_cells callee) → read_callee callee ≡ callee
-same-read_callee CalleeWord.Absent h = refl
-same-read_callee (CalleeWord.Is word) h = rw (same-read_word word h)
+same-read_callee : (callee : Option Word) → Below (callee_cells callee) → read_callee callee ≡ callee
+same-read_callee None h = refl
+same-read_callee (Some word) h = rw (same-read_word word h)
 
-same-read_info : (info : ContextInfo) → Below (info_cells info) → read_info info ≡ info
+same-read_info : (info : Option ExecutionContextInfo) → Below (info_cells info) → read_info info ≡ info
 unfolding Below
-same-read_info ContextInfo.Absent h = refl
-same-read_info (ContextInfo.Is info) h = rw (read_small info.next_overflow_addr h.0)
+same-read_info None h = refl
+same-read_info (Some info) h = rw (read_small info.next_overflow_addr h.0)
 
 -- and so are captured values
 pub same-read_captured : (c : Captured) → Below (callee_cells c.dyn_callee_hash ++ info_cells c.ctx_info) → read_captured c ≡ c
@@ -149,7 +148,7 @@ pub same-storing : (t : CoreTraceGenerationTracer) (values : StoredValues)
     → Below (callee_cells values.captured.dyn_callee_hash ++ info_cells values.captured.ctx_info) → storing_of t values ≡ record {
       refusal = t.refusal;
       row_write_index = t.row_write_index;
-      continuation = StoredContinuation.Is values.continuation;
+      continuation = Some values.continuation;
       is_loop_body = values.is_loop_body;
       captured = values.captured;
       decoder_state = t.decoder_state;

@@ -1,5 +1,6 @@
 -- "Inputs that were answered get the same cells as before." (N2) Runs: where the cells are below p, each definition that N2 changed is the one from
 -- before, clause by clause. What it cites is meant as it stands now, since what N2 changed there has a theorem of its own.
+use Rattle.std.specs.Prelude.{Some}
 use mathlib.Core.Path.{◌≡◌}
 use mathlib.Core.Bool.{◌||◌}
 use mathlib.Core.List.{List, [], ◌∷◌, ◌++◌}
@@ -12,7 +13,6 @@ use Rattle.rows.specs.declared.records.profile.Profile.{Profile}
 use Rattle.rows.specs.declared.records.continuation.StoredValues.{StoredValues}
 use Rattle.rows.specs.records.Profiles.{profile_wrong}
 use Rattle.rows.specs.records.Addresses.{Queues}
-use Rattle.rows.specs.declared.cycles.tracer.StoredContinuation.{StoredContinuation}
 use Rattle.rows.specs.cycles.Made.{Cursor}
 use Rattle.rows.specs.records.Buffers.{rows_of, on_rows, buffer_wrong, fewer_rows}
 use Rattle.rows.specs.passes.Passes.{fixed_up, built_of, halted, sum_of, last_built, fragments_wrong, no_fragment, not_full, height_wrong, loop_without_body, unless_refused, refusal1, refusal2, refusal3, refusal4, refusal5, refusal_all, all_passes}
@@ -29,7 +29,7 @@ use Rattle.theory_runs.specs.Finished.{buffer1, buffer2, buffer3, buffer4, FiveA
 -- the values in force after a storing
 pub same-stored : (v : InForce) (values : StoredValues)
     → Below (callee_cells values.captured.dyn_callee_hash ++ info_cells values.captured.ctx_info) → stored v values ≡ record {
-      stored = StoredContinuation.Is values.continuation;
+      stored = Some values.continuation;
       is_loop_body = values.is_loop_body;
       captured = values.captured;
       at = v.at;

@@ -2,6 +2,8 @@
 -- theorems of proofs/ say that what these definitions let pass is as it was. They stand as they stood, under their names; one whose name is taken by what
 -- stands there now ends in `Before`. What a definition here cites is today's: what N2 changed of it has a theorem of its own, and what came later is not
 -- compared (`made` refuses the start of a SYSCALL node since N8). New, for the theorems' premises: `group_cells`, `LentBelow`, `depth_in`, `Narrow32`, `call_cells`.
+use Rattle.std.specs.Prelude.{Option, Some, None}
+use Rattle.rows.specs.declared.records.continuation.ExecutionContextInfo.{ExecutionContextInfo}
 use Rattle.std.specs.Prelude.{Bool, not, ◌||◌, List, [], ◌∷◌, ◌++◌, ℕ, ◌+◌, ◌*◌, ◌/◌, ◌<◌, leb, ltb, eqb, take, get_or}
 use Rattle.field.specs.Modulus.{P}
 use Rattle.field.specs.Bounds.{any_from}
@@ -21,8 +23,6 @@ use Rattle.rows.specs.declared.records.state.StackState.{StackState}
 use Rattle.rows.specs.declared.records.state.SystemCols.{SystemCols}
 use Rattle.rows.specs.declared.records.state.StackCols.{StackCols}
 use Rattle.rows.specs.declared.records.continuation.Continuation.{Continuation}
-use Rattle.rows.specs.declared.records.continuation.CalleeWord.{CalleeWord}
-use Rattle.rows.specs.declared.records.continuation.ContextInfo.{ContextInfo}
 use Rattle.rows.specs.declared.records.continuation.Captured.{Captured}
 use Rattle.rows.specs.declared.records.continuation.StoredValues.{StoredValues}
 use Rattle.rows.specs.declared.records.call_record.InfoFound.{InfoFound}
@@ -120,13 +120,13 @@ pub record LentBelow (f : Forest) (q : Queues) : Type 0 where
   pub ends : Below q.ends
 
 -- the cells of a captured word and address
-abbrev pub callee_cells : CalleeWord → List ℕ
-callee_cells CalleeWord.Absent = []
-callee_cells (CalleeWord.Is word) = word_cells word
+abbrev pub callee_cells : Option Word → List ℕ
+callee_cells None = []
+callee_cells (Some word) = word_cells word
 
-abbrev pub info_cells : ContextInfo → List ℕ
-info_cells ContextInfo.Absent = []
-info_cells (ContextInfo.Is info) = info.next_overflow_addr ∷ []
+abbrev pub info_cells : Option ExecutionContextInfo → List ℕ
+info_cells None = []
+info_cells (Some info) = info.next_overflow_addr ∷ []
 
 -- the cells of a cycle's states, and of its tracer the address state and the cells last built
 unfoldable pub state_cells : SystemState → StackState → List ℕ
@@ -169,9 +169,9 @@ unfoldable pub cycle_before : Profile → Forest → Queues → SystemState → 
 cycle_before p f q system stack registers cells t = cycle_with_before (scan_of_before p f q) p f q system stack registers cells t
 
 -- what the captured info says of the depth, 0 where there is none
-abbrev pub depth_in : ContextInfo → ℕ
-depth_in ContextInfo.Absent = 0
-depth_in (ContextInfo.Is info) = info.stack_depth
+abbrev pub depth_in : Option ExecutionContextInfo → ℕ
+depth_in None = 0
+depth_in (Some info) = info.stack_depth
 
 -- the numbers of 32 bits that are written into rows, and that refusal 1 did not look at: a block's total, which stands among the nodes, and the depth.
 -- They are `u32` in every call. Of a Block with a total of p, SPAN's count was p and is 0
@@ -181,15 +181,15 @@ pub record Narrow32 (f : Forest) (captured : Captured) : Type 0 where
 
 -- CALL RECORDS: a clk, ctx or depth over 32 bits was refused by 1 too, and first
 
-unfoldable pub callee_in_before : List ℕ → CalleeWord
-callee_in_before r = pick (eqb (get_or r 7 0) 1) (CalleeWord.Is (word_from r 8)) CalleeWord.Absent
+unfoldable pub callee_in_before : List ℕ → Option Word
+callee_in_before r = pick (eqb (get_or r 7 0) 1) (Some (word_from r 8)) None
 
-unfoldable pub info_in_before : List ℕ → Answer ContextInfo
+unfoldable pub info_in_before : List ℕ → Answer (Option ExecutionContextInfo)
 info_in_before r =
     pick (eqb (get_or r 12 0) 1)
     (and_then (of32 1 (get_or r 13 0)) (λ depth.
-    accepted (ContextInfo.Is (record { stack_depth = depth; next_overflow_addr = get_or r 14 0 }))))
-    (accepted ContextInfo.Absent)
+    accepted (Some (record { stack_depth = depth; next_overflow_addr = get_or r 14 0 }))))
+    (accepted None)
 
 unfoldable pub continuation_in_before : List ℕ → Answer Continuation
 continuation_in_before r =
@@ -242,7 +242,7 @@ unfoldable pub call_cells : RecordedCall → List ℕ
 call_cells (stores values) = callee_cells values.captured.dyn_callee_hash ++ info_cells values.captured.ctx_info
 call_cells (finishes k system stack registers) = state_cells system stack ++ register_cells registers
 
-abbrev pub told_info_before : InfoFound → Answer ContextInfo
+abbrev pub told_info_before : InfoFound → Answer (Option ExecutionContextInfo)
 told_info_before (InfoFound.Is info) = accepted info
 told_info_before InfoFound.Over = refused big_opcode
 

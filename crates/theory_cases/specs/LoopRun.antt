@@ -1,12 +1,10 @@
 -- Document 01, C10's run: "a loop at address 1 under 0, two passes of a one-group block at 3 and 5 with the operation 5, height 10". It is the
 -- run that the program `core_listing` makes, in one fragment of ten rows, over the definitions that the contracts of its calls cite.
+use Rattle.std.specs.Prelude.{Option, Some, None}
 use Rattle.std.specs.Prelude.{Bool, true, false, List, [], ◌∷◌, ℕ, replicate}
 use Rattle.groups.specs.declared.helpers.OperationHelperRegisters.{OperationHelperRegisters}
 use Rattle.rows.specs.declared.records.profile.Profile.{Profile}
 use Rattle.rows.specs.declared.records.continuation.Continuation.{Continuation}
-use Rattle.rows.specs.declared.records.continuation.LoopCondition.{LoopCondition}
-use Rattle.rows.specs.declared.records.continuation.CalleeWord.{CalleeWord}
-use Rattle.rows.specs.declared.records.continuation.ContextInfo.{ContextInfo}
 use Rattle.rows.specs.records.Forests.{Forest, node_id}
 use Rattle.rows.specs.records.Addresses.{Queues}
 use Rattle.rows.specs.cycles.Made.{Cursor}
@@ -53,12 +51,12 @@ loop_queues = record {
 unfoldable pub begin : Cursor
 begin = record { state = record { current_addr = 0; parent_addr = 0 }; at = record { addresses = 0; parents = 0; ends = 0 } }
 
-unfoldable pub storing : Continuation → (is_loop_body : Bool) → LoopCondition → Call
+unfoldable pub storing : Continuation → (is_loop_body : Bool) → Option Bool → Call
 storing continuation is_loop_body condition =
     store (record {
       continuation = continuation;
       is_loop_body = is_loop_body;
-      captured = record { finish_loop_condition = condition; dyn_callee_hash = CalleeWord.Absent; ctx_info = ContextInfo.Absent };
+      captured = record { finish_loop_condition = condition; dyn_callee_hash = None; ctx_info = None };
     })
 
 -- the cycle of clock row n, with an empty stack
@@ -72,15 +70,15 @@ cycle_at n = finish (record {
 
 unfoldable pub loop_calls : List Call
 loop_calls =
-    storing (Continuation.StartNode (node_id 0)) false LoopCondition.Absent ∷ cycle_at 0
-    ∷ storing (Continuation.StartNode (node_id 1)) false LoopCondition.Absent ∷ cycle_at 1
-    ∷ storing (Continuation.ResumeBasicBlock (node_id 1) 0 0) false LoopCondition.Absent ∷ cycle_at 2
-    ∷ storing (Continuation.FinishBasicBlock (node_id 1)) true LoopCondition.Absent ∷ cycle_at 3
-    ∷ storing (Continuation.FinishLoop (node_id 0)) false (LoopCondition.Is true) ∷ cycle_at 4
-    ∷ storing (Continuation.StartNode (node_id 1)) false LoopCondition.Absent ∷ cycle_at 5
-    ∷ storing (Continuation.ResumeBasicBlock (node_id 1) 0 0) false LoopCondition.Absent ∷ cycle_at 6
-    ∷ storing (Continuation.FinishBasicBlock (node_id 1)) true LoopCondition.Absent ∷ cycle_at 7
-    ∷ storing (Continuation.FinishLoop (node_id 0)) false (LoopCondition.Is false) ∷ cycle_at 8 ∷ []
+    storing (Continuation.StartNode (node_id 0)) false None ∷ cycle_at 0
+    ∷ storing (Continuation.StartNode (node_id 1)) false None ∷ cycle_at 1
+    ∷ storing (Continuation.ResumeBasicBlock (node_id 1) 0 0) false None ∷ cycle_at 2
+    ∷ storing (Continuation.FinishBasicBlock (node_id 1)) true None ∷ cycle_at 3
+    ∷ storing (Continuation.FinishLoop (node_id 0)) false (Some true) ∷ cycle_at 4
+    ∷ storing (Continuation.StartNode (node_id 1)) false None ∷ cycle_at 5
+    ∷ storing (Continuation.ResumeBasicBlock (node_id 1) 0 0) false None ∷ cycle_at 6
+    ∷ storing (Continuation.FinishBasicBlock (node_id 1)) true None ∷ cycle_at 7
+    ∷ storing (Continuation.FinishLoop (node_id 0)) false (Some false) ∷ cycle_at 8 ∷ []
 
 unfoldable pub loop_fragments : List Fragment
 loop_fragments = record { calls = loop_calls; cells = replicate 490 0 } ∷ []

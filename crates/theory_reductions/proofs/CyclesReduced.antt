@@ -1,6 +1,9 @@
 -- "everywhere a cell comes in" (N2), of storing, the cycle and the final state: what comes of inputs as they are lent and handed over is what comes of
 -- them read. Numbers, rows and final states are equal; the tracers are equal once read, since a cycle leaves fields that it does not set as they
 -- were.
+use Rattle.std.specs.Prelude.{Option, Some, None}
+use Rattle.groups.specs.declared.word.Word.{Word}
+use Rattle.rows.specs.declared.records.continuation.ExecutionContextInfo.{ExecutionContextInfo}
 use mathlib.Core.Path.{◌≡◌, ◌∙◌, refl, sym, ap, ap₂}
 use mathlib.Core.Bool.{Bool, true, false, not, ◌||◌}
 use mathlib.Core.List.{List}
@@ -20,8 +23,6 @@ use Rattle.rows.specs.declared.records.state.StackState.{StackState}
 use Rattle.rows.specs.declared.records.state.SystemCols.{SystemCols}
 use Rattle.rows.specs.declared.records.state.StackCols.{StackCols}
 use Rattle.rows.specs.declared.records.decoder_row.DecoderRow.{DecoderRow}
-use Rattle.rows.specs.declared.records.continuation.CalleeWord.{CalleeWord}
-use Rattle.rows.specs.declared.records.continuation.ContextInfo.{ContextInfo}
 use Rattle.rows.specs.declared.records.continuation.Captured.{Captured}
 use Rattle.rows.specs.declared.records.continuation.StoredValues.{StoredValues}
 use Rattle.rows.specs.declared.records.continuation.Used.{Used}
@@ -45,13 +46,13 @@ use Rattle.theory_reductions.proofs.MadeReduced.{made-lent, made-given, Same, th
 
 -- READING TWICE
 
-callee_twice : (c : CalleeWord) → read_callee (read_callee c) ≡ read_callee c
-callee_twice CalleeWord.Absent = refl
-callee_twice (CalleeWord.Is word) = rw (word-twice word)
+callee_twice : (c : Option Word) → read_callee (read_callee c) ≡ read_callee c
+callee_twice None = refl
+callee_twice (Some word) = rw (word-twice word)
 
-info-twice : (i : ContextInfo) → read_info (read_info i) ≡ read_info i
-info-twice ContextInfo.Absent = refl
-info-twice (ContextInfo.Is context) = rw (read_twice context.next_overflow_addr)
+info-twice : (i : Option ExecutionContextInfo) → read_info (read_info i) ≡ read_info i
+info-twice None = refl
+info-twice (Some context) = rw (read_twice context.next_overflow_addr)
 
 pub captured-twice : (c : Captured) → read_captured (read_captured c) ≡ read_captured c
 unfolding read_captured

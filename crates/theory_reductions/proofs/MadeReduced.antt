@@ -1,5 +1,8 @@
 -- What a continuation makes of forest, queues, helper registers, captured values and address state as they come in is, once read, what it makes of
 -- them read: the same number, and rows that differ in no reduced cell.
+use Rattle.std.specs.Prelude.{Option, Some, None}
+use Rattle.groups.specs.declared.word.Word.{Word}
+use Rattle.rows.specs.declared.records.continuation.ExecutionContextInfo.{ExecutionContextInfo}
 use mathlib.Core.Path.{◌≡◌, refl, ap₂}
 use mathlib.Core.Bool.{Bool, true, false}
 use mathlib.Core.List.{List}
@@ -15,8 +18,6 @@ use Rattle.rows.specs.declared.records.ids.MastNodeId.{MastNodeId}
 use Rattle.rows.specs.declared.records.profile.Profile.{Profile}
 use Rattle.rows.specs.declared.records.forest.MastNode.{MastNode}
 use Rattle.rows.specs.declared.records.continuation.Continuation.{Continuation}
-use Rattle.rows.specs.declared.records.continuation.CalleeWord.{CalleeWord}
-use Rattle.rows.specs.declared.records.continuation.ContextInfo.{ContextInfo}
 use Rattle.rows.specs.declared.records.continuation.Captured.{Captured}
 use Rattle.rows.specs.declared.records.continuation.Used.{Used}
 use Rattle.rows.specs.declared.cycles.made.MadeRow.{MadeRow}
@@ -115,17 +116,17 @@ pick-alike : (t : Bool) (a b c d : Answer MadeRow) → Same a c → Same b d →
 pick-alike true a b c d h k = h
 pick-alike false a b c d h k = k
 
-dyn-alike : (opcode : ℕ) (callee : CalleeWord) (here : Cursor) → Same (start_dyn opcode (read_callee callee) here) (start_dyn opcode callee here)
+dyn-alike : (opcode : ℕ) (callee : Option Word) (here : Cursor) → Same (start_dyn opcode (read_callee callee) here) (start_dyn opcode callee here)
 unfolding start_dyn read_made read_row control_flow
-dyn-alike opcode CalleeWord.Absent here = refl
-dyn-alike opcode (CalleeWord.Is word) here = rw (word-twice word)
+dyn-alike opcode None here = refl
+dyn-alike opcode (Some word) here = rw (word-twice word)
 
-dyncall-alike : (opcode : ℕ) (callee : CalleeWord) (info : ContextInfo) (here : Cursor) →
+dyncall-alike : (opcode : ℕ) (callee : Option Word) (info : Option ExecutionContextInfo) (here : Cursor) →
     Same (start_dyncall opcode (read_callee callee) (read_info info) here) (start_dyncall opcode callee info here)
 unfolding start_dyncall read_made read_row control_flow
-dyncall-alike opcode CalleeWord.Absent info here = refl
-dyncall-alike opcode (CalleeWord.Is word) ContextInfo.Absent here = refl
-dyncall-alike opcode (CalleeWord.Is word) (ContextInfo.Is context) here = rw (word-twice word, read_twice context.next_overflow_addr)
+dyncall-alike opcode None info here = refl
+dyncall-alike opcode (Some word) None here = refl
+dyncall-alike opcode (Some word) (Some context) here = rw (word-twice word, read_twice context.next_overflow_addr)
 
 kind-alike : (nodes digests batches groups : List ℕ) (p : Profile) (node : MastNode) (captured : Captured) (here : Cursor) →
     Same (start_kind nodes digests batches groups p node (read_captured captured) here) (start_kind nodes digests batches groups p node captured here)

@@ -1,4 +1,6 @@
 -- What an answer that is accepted comes from, and that no cycle refuses with the number 0.
+use Rattle.std.specs.Prelude.{Option, Some, None}
+use Rattle.rows.specs.declared.records.continuation.ExecutionContextInfo.{ExecutionContextInfo}
 use mathlib.Core.Path.{◌≡◌, refl}
 use mathlib.Core.Bool.{Bool, true, false, not, ◌&&◌, ◌||◌}
 use mathlib.Core.List.{List, [], ◌∷◌}
@@ -22,9 +24,6 @@ use Rattle.rows.specs.declared.records.ids.MastNodeId.{MastNodeId}
 use Rattle.rows.specs.declared.records.profile.Profile.{Profile}
 use Rattle.rows.specs.declared.records.forest.MastNode.{MastNode}
 use Rattle.rows.specs.declared.records.address_state.Positions.{Positions}
-use Rattle.rows.specs.declared.records.continuation.LoopCondition.{LoopCondition}
-use Rattle.rows.specs.declared.records.continuation.CalleeWord.{CalleeWord}
-use Rattle.rows.specs.declared.records.continuation.ContextInfo.{ContextInfo}
 use Rattle.rows.specs.declared.records.continuation.Continuation.{Continuation}
 use Rattle.rows.specs.declared.records.continuation.Captured.{Captured}
 use Rattle.rows.specs.declared.records.continuation.Used.{Used}
@@ -32,7 +31,6 @@ use Rattle.rows.specs.declared.cycles.made.MadeRow.{MadeRow}
 use Rattle.rows.specs.declared.cycles.made.Finish.{Finish}
 use Rattle.rows.specs.declared.cycles.scan.Scan.{Scan}
 use Rattle.rows.specs.declared.records.state.StackState.{StackState}
-use Rattle.rows.specs.declared.cycles.tracer.StoredContinuation.{StoredContinuation}
 use Rattle.rows.specs.declared.cycles.tracer.CoreTraceGenerationTracer.{CoreTraceGenerationTracer}
 use Rattle.rows.specs.records.Forests.{Forest, is_slot, node_of, node_at, digest_at, opcode_at, block_of}
 use Rattle.rows.specs.records.Addresses.{Queues, entry_at, started_at, after_start, end_at}
@@ -126,20 +124,20 @@ kind-numbered Finish.Call node = (asked-numbered node).2
 kind-numbered Finish.Dyn node = (asked-numbered node).3
 kind-numbered Finish.Block node = then-numbered (block_of node) _ (asked-numbered node).0 (λ x. tt)
 
-callee-numbered : (word : CalleeWord) → Numbered (callee_of word)
+callee-numbered : (word : Option Word) → Numbered (callee_of word)
 unfolding Numbered
-callee-numbered (CalleeWord.Is word) = tt
-callee-numbered CalleeWord.Absent = tt
+callee-numbered (Some word) = tt
+callee-numbered None = tt
 
-info-numbered : (info : ContextInfo) → Numbered (info_of info)
+info-numbered : (info : Option ExecutionContextInfo) → Numbered (info_of info)
 unfolding Numbered
-info-numbered (ContextInfo.Is info) = tt
-info-numbered ContextInfo.Absent = tt
+info-numbered (Some info) = tt
+info-numbered None = tt
 
-condition-numbered : (condition : LoopCondition) → Numbered (condition_of condition)
+condition-numbered : (condition : Option Bool) → Numbered (condition_of condition)
 unfolding Numbered
-condition-numbered (LoopCondition.Is again) = tt
-condition-numbered LoopCondition.Absent = tt
+condition-numbered (Some again) = tt
+condition-numbered None = tt
 
 -- groups and helpers
 batch-numbered : (batches groups : List ℕ) (block : BasicBlockNode) (index : ℕ) → Numbered (batch_at batches groups block index)
@@ -256,10 +254,10 @@ kept-numbered true n a e h = h
 kept-numbered false zero a e h = absurd (eqb-false 0 0 e refl)
 kept-numbered false (suc n) a e h = tt
 
-continuation-numbered : (stored : StoredContinuation) → Numbered (continuation_of stored)
+continuation-numbered : (stored : Option Continuation) → Numbered (continuation_of stored)
 unfolding Numbered
-continuation-numbered (StoredContinuation.Is continuation) = tt
-continuation-numbered StoredContinuation.Nothing = tt
+continuation-numbered (Some continuation) = tt
+continuation-numbered None = tt
 
 module _ (p : Profile) (f : Forest) (q : Queues) (stack : StackState) (registers : OperationHelperRegisters) (cells : ℕ) (t : CoreTraceGenerationTracer) where
   pub cycle-with-numbered : (scan : Scan) → Numbered (cycle_with scan p f q stack registers cells t)
@@ -282,7 +280,7 @@ module _ (p : Profile) (f : Forest) (q : Queues) (stack : StackState) (registers
     pub answer : cycle p f q stack registers cells t ≡ accepted m
     pub continuation : Continuation
     pub kept : t.refusal ≡ 0
-    pub stored_is : t.continuation ≡ StoredContinuation.Is continuation
+    pub stored_is : t.continuation ≡ Some continuation
     pub small : any_big_opcode f.ops ≡ false
     pub profile_right : profile_wrong p ≡ false
     pub lengths_right : (forest_too_large f.nodes f.batches || fragment_wrong cells t.row_write_index) ≡ false
@@ -290,9 +288,9 @@ module _ (p : Profile) (f : Forest) (q : Queues) (stack : StackState) (registers
     pub made_is : made f q p registers continuation t.is_loop_body t.captured (cursor t.decoder_state t.at) ≡ accepted m
     pub room : leb (cells / 49) t.row_write_index ≡ false
 
-  stored_of : (stored : StoredContinuation) (continuation : Continuation) → continuation_of stored ≡ accepted continuation → stored ≡ StoredContinuation.Is continuation
-  stored_of (StoredContinuation.Is x) continuation e = cc
-  stored_of StoredContinuation.Nothing continuation e = let z : ◌≡◌ {A = ℕ} 0 1 = cc in absurd (omega arith)
+  stored_of : (stored : Option Continuation) (continuation : Continuation) → continuation_of stored ≡ accepted continuation → stored ≡ Some continuation
+  stored_of (Some x) continuation e = cc
+  stored_of None continuation e = let z : ◌≡◌ {A = ℕ} 0 1 = cc in absurd (omega arith)
 
   pub accepted-came : (m : MadeRow) → cycle p f q stack registers cells t ≡ accepted m → Came m
   unfolding cycle cycle_with scan_of

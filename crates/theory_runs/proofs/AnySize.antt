@@ -1,5 +1,6 @@
 -- Change request N11: one run, cut by two sizes and finished to the same height, gives the same cells in the first height rows. The run need not
 -- be proper. A cut before a cycle that reuses what is stored is refused.
+use Rattle.std.specs.Prelude.{None}
 use mathlib.Core.Path.{◌≡◌, ◌∙◌, refl, sym, ap, ap₂, subst}
 use mathlib.Core.Bool.{false}
 use mathlib.Core.List.{List, [], ◌∷◌, ◌++◌}
@@ -8,7 +9,6 @@ use native.Mathlib.Omega.{arith}
 use lib.ListN.{length}
 use Rattle.field.specs.Cells.{reduced}
 use Rattle.rows.specs.declared.records.profile.Profile.{Profile}
-use Rattle.rows.specs.declared.cycles.tracer.StoredContinuation.{StoredContinuation}
 use Rattle.rows.specs.records.Addresses.{Queues}
 use Rattle.rows.specs.records.Buffers.{flat}
 use Rattle.rows.specs.records.Built.{no_system, no_stack}
@@ -46,7 +46,7 @@ module _ (p : Profile) (q : Queues) where
   cycles-in-app (finish i ∷ l) m v = ap (λ y. (i.forest, did q i.forest v) ∷ y) (cycles-in-app l m (left_by v (did q i.forest v)))
 
   -- what was stored before a fragment matters to none of its cycles: the first of them would be refused
-  first-stored : (l : List Call) (z : Held) (v : InForce) → z.tracer.continuation ≡ StoredContinuation.Nothing → Accepted p q l z → v.at ≡ z.tracer.at →
+  first-stored : (l : List Call) (z : Held) (v : InForce) → z.tracer.continuation ≡ None → Accepted p q l z → v.at ≡ z.tracer.at →
       (cycles_in q l v ≡ cycles_in q l (nothing_stored z.tracer.at)) × ((in_force_after_all q l v).at ≡ (in_force_after_all q l (nothing_stored z.tracer.at)).at)
   unfolding Accepted call_refusal cycles_in in_force_after_all in_force_after nothing_stored
   first-stored [] z v none a e = (refl, e)

@@ -1,5 +1,6 @@
 -- The decoder part of a row, the address state and the positions after it do not depend on system and stack states: neither on those that
 -- the cycle is handed nor on those built before.
+use Rattle.std.specs.Prelude.{Some}
 use mathlib.Core.Path.{◌≡◌, ◌∙◌, refl, sym, ap, ap₂, subst₂}
 use mathlib.Core.List.{List, [], ◌∷◌, ◌++◌}
 use Prim.Native.Nat.{ℕ}
@@ -11,7 +12,6 @@ use Rattle.rows.specs.declared.records.profile.Profile.{Profile}
 use Rattle.rows.specs.declared.records.state.StackState.{StackState}
 use Rattle.rows.specs.declared.records.continuation.Continuation.{Continuation}
 use Rattle.rows.specs.declared.cycles.made.MadeRow.{MadeRow}
-use Rattle.rows.specs.declared.cycles.tracer.StoredContinuation.{StoredContinuation}
 use Rattle.rows.specs.declared.cycles.tracer.CoreTraceGenerationTracer.{CoreTraceGenerationTracer}
 use Rattle.rows.specs.records.Forests.{Forest}
 use Rattle.rows.specs.records.Addresses.{Queues}
@@ -28,7 +28,7 @@ use Rattle.theory_runs.proofs.Answers.{accepted-came}
 use Rattle.theory_runs.proofs.Folded.{in_force, stepped, after-state, row_made_lem, after-force, force-stored, state-stored}
 
 same-made : (f : Forest) (q : Queues) (p : Profile) (registers : OperationHelperRegisters) (t u : CoreTraceGenerationTracer) (c c' : Continuation) (m m' : MadeRow) →
-    in_force t ≡ in_force u → t.decoder_state ≡ u.decoder_state → t.continuation ≡ StoredContinuation.Is c → u.continuation ≡ StoredContinuation.Is c' →
+    in_force t ≡ in_force u → t.decoder_state ≡ u.decoder_state → t.continuation ≡ Some c → u.continuation ≡ Some c' →
     made f q p registers c t.is_loop_body t.captured (cursor t.decoder_state t.at) ≡ accepted m → made f q p registers c' u.is_loop_body u.captured (cursor u.decoder_state u.at) ≡ accepted m' → m ≡ m'
 unfolding in_force
 same-made f q p registers t u c c' m m' e s h h' k k' =

@@ -1,5 +1,7 @@
 -- One proper run, cut by two sizes: the premises of N11 can be met. And where a cut stands before a cycle that reuses what is stored, that cycle
 -- is refused with 23, since each fragment has a fresh tracer: such a cut is outside N11.
+use Rattle.std.specs.Prelude.{Option, Some, None}
+use Rattle.groups.specs.declared.word.Word.{Word}
 use mathlib.Core.Path.{◌≡◌, refl}
 use mathlib.Core.Bool.{false}
 use mathlib.Core.List.{List, [], ◌∷◌, ◌++◌, map}
@@ -14,9 +16,6 @@ use Rattle.groups.specs.Batches.{is_batch, batch_at}
 use Rattle.groups.specs.Flags.{flags_up_to8, batch_flags}
 use Rattle.groups.specs.declared.helpers.OperationHelperRegisters.{OperationHelperRegisters}
 use Rattle.rows.specs.declared.records.continuation.Continuation.{Continuation}
-use Rattle.rows.specs.declared.records.continuation.LoopCondition.{LoopCondition}
-use Rattle.rows.specs.declared.records.continuation.CalleeWord.{CalleeWord}
-use Rattle.rows.specs.declared.records.continuation.ContextInfo.{ContextInfo}
 use Rattle.rows.specs.records.Profiles.{opcodes, is_one_of, two_equal, lacks_bits, profile_wrong}
 use Rattle.rows.specs.records.Forests.{Forest, is_slot, node_id, node_of, node_at, digest_at, block_of}
 use Rattle.rows.specs.records.Addresses.{Queues, entry_at, started_at, end_at, read_state}
@@ -64,9 +63,9 @@ unfoldable begin : Cursor
 begin = record { state = record { current_addr = 0; parent_addr = 0 }; at = record { addresses = 0; parents = 0; ends = 0 } }
 
 -- a storing, and the cycle with clock row n
-unfoldable store_of : Continuation → CalleeWord → Call
+unfoldable store_of : Continuation → Option Word → Call
 store_of continuation callee =
-    store (record { continuation = continuation; is_loop_body = false; captured = record { finish_loop_condition = LoopCondition.Absent; dyn_callee_hash = callee; ctx_info = ContextInfo.Absent } })
+    store (record { continuation = continuation; is_loop_body = false; captured = record { finish_loop_condition = None; dyn_callee_hash = callee; ctx_info = None } })
 
 unfoldable cycle_of : Forest → (n : ℕ) → Call
 cycle_of forest n = finish (record {
@@ -79,15 +78,15 @@ cycle_of forest n = finish (record {
 -- the Dyn's start; the block's start, without a storing of its own: StartNode of slot 0 is still stored, and this cycle is handed the other
 -- forest; both ends. No proper run of fewer cycles, and no list of fewer calls than its first three, reuses what is stored
 unfoldable opening : List Call
-opening = store_of (Continuation.StartNode (node_id 0)) (CalleeWord.Is (20, 21, 22, 23)) ∷ cycle_of outer 0 ∷ []
+opening = store_of (Continuation.StartNode (node_id 0)) (Some (20, 21, 22, 23)) ∷ cycle_of outer 0 ∷ []
 
 unfoldable reusing : List Call
 reusing = cycle_of inner 1 ∷ []
 
 unfoldable closing : List Call
 closing =
-    store_of (Continuation.FinishBasicBlock (node_id 0)) CalleeWord.Absent ∷ cycle_of inner 2
-    ∷ store_of (Continuation.FinishDyn (node_id 0)) CalleeWord.Absent ∷ cycle_of outer 3 ∷ []
+    store_of (Continuation.FinishBasicBlock (node_id 0)) None ∷ cycle_of inner 2
+    ∷ store_of (Continuation.FinishDyn (node_id 0)) None ∷ cycle_of outer 3 ∷ []
 
 -- in one fragment, and in fragments of two rows, which held other numbers before
 unfoldable uncut : List Fragment

@@ -1,5 +1,6 @@
 -- That no two LOOP starts get the same block address is needed: two loops of one pass each at one address, in a run that meets all other
 -- premises, get the count 2, and what is written is no trace. So do LOOP starts that are queued as 1 and p + 1 (N2).
+use Rattle.std.specs.Prelude.{Option, Some, None}
 use mathlib.Core.Path.{◌≡◌, refl}
 use mathlib.Core.Bool.{Bool, true, false}
 use mathlib.Core.List.{List, [], ◌∷◌}
@@ -17,9 +18,6 @@ use Rattle.groups.specs.Contexts.{too_large, consumed, op_context, context_in_gr
 use Rattle.groups.specs.Helpers.{all_below, read_registers, u32_values, helpers_of, helpers_of_cells, helpers_answer}
 use Rattle.groups.specs.declared.helpers.OperationHelperRegisters.{OperationHelperRegisters}
 use Rattle.rows.specs.declared.records.continuation.Continuation.{Continuation}
-use Rattle.rows.specs.declared.records.continuation.LoopCondition.{LoopCondition}
-use Rattle.rows.specs.declared.records.continuation.CalleeWord.{CalleeWord}
-use Rattle.rows.specs.declared.records.continuation.ContextInfo.{ContextInfo}
 use Rattle.field.specs.Bounds.{any_from}
 use Rattle.rows.specs.records.Profiles.{opcodes, is_one_of, two_equal, lacks_bits, profile_wrong}
 use Rattle.rows.specs.records.Forests.{Forest, is_slot, node_id, node_of, node_at, digest_at, opcode_at, block_of}
@@ -73,9 +71,9 @@ unfoldable begin : Cursor
 begin = record { state = record { current_addr = 0; parent_addr = 0 }; at = record { addresses = 0; parents = 0; ends = 0 } }
 
 -- a storing, and the cycle with clock row n
-unfoldable store_of : Continuation → Bool → LoopCondition → Call
+unfoldable store_of : Continuation → Bool → Option Bool → Call
 store_of continuation flag condition =
-    store (record { continuation = continuation; is_loop_body = flag; captured = record { finish_loop_condition = condition; dyn_callee_hash = CalleeWord.Absent; ctx_info = ContextInfo.Absent } })
+    store (record { continuation = continuation; is_loop_body = flag; captured = record { finish_loop_condition = condition; dyn_callee_hash = None; ctx_info = None } })
 
 unfoldable cycle_of : (n : ℕ) → Call
 cycle_of n = finish (record {
@@ -87,18 +85,18 @@ cycle_of n = finish (record {
 
 unfoldable calls : List Call
 calls =
-    store_of (Continuation.StartNode (node_id 0)) false LoopCondition.Absent ∷ cycle_of 0
-    ∷ store_of (Continuation.StartNode (node_id 1)) false LoopCondition.Absent ∷ cycle_of 1
-    ∷ store_of (Continuation.StartNode (node_id 2)) false LoopCondition.Absent ∷ cycle_of 2
-    ∷ store_of (Continuation.ResumeBasicBlock (node_id 2) 0 0) false LoopCondition.Absent ∷ cycle_of 3
-    ∷ store_of (Continuation.FinishBasicBlock (node_id 2)) true LoopCondition.Absent ∷ cycle_of 4
-    ∷ store_of (Continuation.FinishLoop (node_id 1)) false (LoopCondition.Is false) ∷ cycle_of 5
-    ∷ store_of (Continuation.StartNode (node_id 1)) false LoopCondition.Absent ∷ cycle_of 6
-    ∷ store_of (Continuation.StartNode (node_id 2)) false LoopCondition.Absent ∷ cycle_of 7
-    ∷ store_of (Continuation.ResumeBasicBlock (node_id 2) 0 0) false LoopCondition.Absent ∷ cycle_of 8
-    ∷ store_of (Continuation.FinishBasicBlock (node_id 2)) true LoopCondition.Absent ∷ cycle_of 9
-    ∷ store_of (Continuation.FinishLoop (node_id 1)) false (LoopCondition.Is false) ∷ cycle_of 10
-    ∷ store_of (Continuation.FinishJoin (node_id 0)) false LoopCondition.Absent ∷ cycle_of 11 ∷ []
+    store_of (Continuation.StartNode (node_id 0)) false None ∷ cycle_of 0
+    ∷ store_of (Continuation.StartNode (node_id 1)) false None ∷ cycle_of 1
+    ∷ store_of (Continuation.StartNode (node_id 2)) false None ∷ cycle_of 2
+    ∷ store_of (Continuation.ResumeBasicBlock (node_id 2) 0 0) false None ∷ cycle_of 3
+    ∷ store_of (Continuation.FinishBasicBlock (node_id 2)) true None ∷ cycle_of 4
+    ∷ store_of (Continuation.FinishLoop (node_id 1)) false (Some false) ∷ cycle_of 5
+    ∷ store_of (Continuation.StartNode (node_id 1)) false None ∷ cycle_of 6
+    ∷ store_of (Continuation.StartNode (node_id 2)) false None ∷ cycle_of 7
+    ∷ store_of (Continuation.ResumeBasicBlock (node_id 2) 0 0) false None ∷ cycle_of 8
+    ∷ store_of (Continuation.FinishBasicBlock (node_id 2)) true None ∷ cycle_of 9
+    ∷ store_of (Continuation.FinishLoop (node_id 1)) false (Some false) ∷ cycle_of 10
+    ∷ store_of (Continuation.FinishJoin (node_id 0)) false None ∷ cycle_of 11 ∷ []
 
 unfoldable fragments : List Fragment
 fragments = record { calls = calls; cells = replicate 637 9 } ∷ []

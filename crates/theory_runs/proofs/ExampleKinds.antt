@@ -1,5 +1,8 @@
 -- A run with every kind of node that is started, a RESPAN and a DYN into another forest, in fragments of 5: the premises can be met, and its
 -- rows, reading and counts computed over the definitions.
+use Rattle.std.specs.Prelude.{Option, Some, None}
+use Rattle.groups.specs.declared.word.Word.{Word}
+use Rattle.rows.specs.declared.records.continuation.ExecutionContextInfo.{ExecutionContextInfo}
 use mathlib.Core.Path.{◌≡◌, refl}
 use mathlib.Core.Logic.{inl}
 use mathlib.Core.Bool.{Bool, true, false}
@@ -18,9 +21,6 @@ use Rattle.groups.specs.Contexts.{too_large, consumed, op_context, context_in_gr
 use Rattle.groups.specs.Helpers.{all_below, read_registers, u32_values, helpers_of, helpers_of_cells, helpers_answer}
 use Rattle.groups.specs.declared.helpers.OperationHelperRegisters.{OperationHelperRegisters}
 use Rattle.rows.specs.declared.records.continuation.Continuation.{Continuation}
-use Rattle.rows.specs.declared.records.continuation.LoopCondition.{LoopCondition}
-use Rattle.rows.specs.declared.records.continuation.CalleeWord.{CalleeWord}
-use Rattle.rows.specs.declared.records.continuation.ContextInfo.{ContextInfo}
 use Rattle.field.specs.Bounds.{any_from}
 use Rattle.rows.specs.records.Profiles.{opcodes, is_one_of, two_equal, lacks_bits, profile_wrong}
 use Rattle.rows.specs.records.Forests.{Forest, is_slot, node_id, slot_block, node_of, node_at, digest_at, opcode_at, block_of}
@@ -102,7 +102,7 @@ unfoldable begin : Cursor
 begin = record { state = record { current_addr = 0; parent_addr = 0 }; at = record { addresses = 0; parents = 0; ends = 0 } }
 
 -- a storing, and a cycle over a forest with clock row n and depth 18
-unfoldable store_of : Continuation → Bool → LoopCondition → CalleeWord → ContextInfo → Call
+unfoldable store_of : Continuation → Bool → Option Bool → Option Word → Option ExecutionContextInfo → Call
 store_of continuation flag condition callee info =
     store (record { continuation = continuation; is_loop_body = flag; captured = record { finish_loop_condition = condition; dyn_callee_hash = callee; ctx_info = info } })
 
@@ -114,64 +114,64 @@ cycle_of f n = finish (record {
   registers = OperationHelperRegisters.Empty;
 })
 
-abbrev word : CalleeWord
-word = CalleeWord.Is (1, 2, 3, 4)
+abbrev word : Option Word
+word = Some (1, 2, 3, 4)
 
-abbrev info : ContextInfo
-info = ContextInfo.Is (record { stack_depth = 20; next_overflow_addr = 7 })
+abbrev info : Option ExecutionContextInfo
+info = Some (record { stack_depth = 20; next_overflow_addr = 7 })
 
 unfoldable part1 : List Call
 part1 =
-    store_of (Continuation.StartNode (node_id 0)) false LoopCondition.Absent CalleeWord.Absent ContextInfo.Absent ∷ cycle_of forest_a 0
-    ∷ store_of (Continuation.StartNode (node_id 1)) false LoopCondition.Absent CalleeWord.Absent ContextInfo.Absent ∷ cycle_of forest_a 1
-    ∷ store_of (Continuation.StartNode (node_id 3)) false LoopCondition.Absent CalleeWord.Absent ContextInfo.Absent ∷ cycle_of forest_a 2
-    ∷ store_of (Continuation.StartNode (node_id 4)) false LoopCondition.Absent CalleeWord.Absent ContextInfo.Absent ∷ cycle_of forest_a 3
-    ∷ store_of (Continuation.ResumeBasicBlock (node_id 4) 0 0) false LoopCondition.Absent CalleeWord.Absent ContextInfo.Absent ∷ cycle_of forest_a 4 ∷ []
+    store_of (Continuation.StartNode (node_id 0)) false None None None ∷ cycle_of forest_a 0
+    ∷ store_of (Continuation.StartNode (node_id 1)) false None None None ∷ cycle_of forest_a 1
+    ∷ store_of (Continuation.StartNode (node_id 3)) false None None None ∷ cycle_of forest_a 2
+    ∷ store_of (Continuation.StartNode (node_id 4)) false None None None ∷ cycle_of forest_a 3
+    ∷ store_of (Continuation.ResumeBasicBlock (node_id 4) 0 0) false None None None ∷ cycle_of forest_a 4 ∷ []
 
 unfoldable part2 : List Call
 part2 =
-    store_of (Continuation.Respan (node_id 4) 1) false LoopCondition.Absent CalleeWord.Absent ContextInfo.Absent ∷ cycle_of forest_a 5
-    ∷ store_of (Continuation.ResumeBasicBlock (node_id 4) 1 0) false LoopCondition.Absent CalleeWord.Absent ContextInfo.Absent ∷ cycle_of forest_a 6
-    ∷ store_of (Continuation.FinishBasicBlock (node_id 4)) false LoopCondition.Absent CalleeWord.Absent ContextInfo.Absent ∷ cycle_of forest_a 7
-    ∷ store_of (Continuation.FinishCall (node_id 3)) false LoopCondition.Absent CalleeWord.Absent ContextInfo.Absent ∷ cycle_of forest_a 8
-    ∷ store_of (Continuation.FinishSplit (node_id 1)) false LoopCondition.Absent CalleeWord.Absent ContextInfo.Absent ∷ cycle_of forest_a 9 ∷ []
+    store_of (Continuation.Respan (node_id 4) 1) false None None None ∷ cycle_of forest_a 5
+    ∷ store_of (Continuation.ResumeBasicBlock (node_id 4) 1 0) false None None None ∷ cycle_of forest_a 6
+    ∷ store_of (Continuation.FinishBasicBlock (node_id 4)) false None None None ∷ cycle_of forest_a 7
+    ∷ store_of (Continuation.FinishCall (node_id 3)) false None None None ∷ cycle_of forest_a 8
+    ∷ store_of (Continuation.FinishSplit (node_id 1)) false None None None ∷ cycle_of forest_a 9 ∷ []
 
 unfoldable part3 : List Call
 part3 =
-    store_of (Continuation.StartNode (node_id 2)) false LoopCondition.Absent CalleeWord.Absent ContextInfo.Absent ∷ cycle_of forest_a 10
-    ∷ store_of (Continuation.StartNode (node_id 5)) false LoopCondition.Absent CalleeWord.Absent ContextInfo.Absent ∷ cycle_of forest_a 11
-    ∷ store_of (Continuation.StartNode (node_id 6)) false LoopCondition.Absent word ContextInfo.Absent ∷ cycle_of forest_a 12
-    ∷ store_of (Continuation.StartNode (node_id 0)) false LoopCondition.Absent word info ∷ cycle_of forest_b 13
-    ∷ store_of (Continuation.StartNode (node_id 1)) false LoopCondition.Absent CalleeWord.Absent ContextInfo.Absent ∷ cycle_of forest_b 14 ∷ []
+    store_of (Continuation.StartNode (node_id 2)) false None None None ∷ cycle_of forest_a 10
+    ∷ store_of (Continuation.StartNode (node_id 5)) false None None None ∷ cycle_of forest_a 11
+    ∷ store_of (Continuation.StartNode (node_id 6)) false None word None ∷ cycle_of forest_a 12
+    ∷ store_of (Continuation.StartNode (node_id 0)) false None word info ∷ cycle_of forest_b 13
+    ∷ store_of (Continuation.StartNode (node_id 1)) false None None None ∷ cycle_of forest_b 14 ∷ []
 
 unfoldable part4 : List Call
 part4 =
-    store_of (Continuation.ResumeBasicBlock (node_id 1) 0 0) false LoopCondition.Absent CalleeWord.Absent ContextInfo.Absent ∷ cycle_of forest_b 15
-    ∷ store_of (Continuation.FinishBasicBlock (node_id 1)) false LoopCondition.Absent CalleeWord.Absent ContextInfo.Absent ∷ cycle_of forest_b 16
-    ∷ store_of (Continuation.FinishDyn (node_id 0)) false LoopCondition.Absent CalleeWord.Absent ContextInfo.Absent ∷ cycle_of forest_b 17
-    ∷ store_of (Continuation.FinishDyn (node_id 6)) false LoopCondition.Absent CalleeWord.Absent ContextInfo.Absent ∷ cycle_of forest_a 18
-    ∷ store_of (Continuation.FinishCall (node_id 5)) true LoopCondition.Absent CalleeWord.Absent ContextInfo.Absent ∷ cycle_of forest_a 19 ∷ []
+    store_of (Continuation.ResumeBasicBlock (node_id 1) 0 0) false None None None ∷ cycle_of forest_b 15
+    ∷ store_of (Continuation.FinishBasicBlock (node_id 1)) false None None None ∷ cycle_of forest_b 16
+    ∷ store_of (Continuation.FinishDyn (node_id 0)) false None None None ∷ cycle_of forest_b 17
+    ∷ store_of (Continuation.FinishDyn (node_id 6)) false None None None ∷ cycle_of forest_a 18
+    ∷ store_of (Continuation.FinishCall (node_id 5)) true None None None ∷ cycle_of forest_a 19 ∷ []
 
 unfoldable part5 : List Call
 part5 =
-    store_of (Continuation.FinishLoop (node_id 2)) false (LoopCondition.Is true) CalleeWord.Absent ContextInfo.Absent ∷ cycle_of forest_a 20
-    ∷ store_of (Continuation.StartNode (node_id 5)) false LoopCondition.Absent CalleeWord.Absent ContextInfo.Absent ∷ cycle_of forest_a 21
-    ∷ store_of (Continuation.StartNode (node_id 6)) false LoopCondition.Absent word ContextInfo.Absent ∷ cycle_of forest_a 22
-    ∷ store_of (Continuation.StartNode (node_id 0)) false LoopCondition.Absent word info ∷ cycle_of forest_b 23
-    ∷ store_of (Continuation.StartNode (node_id 1)) false LoopCondition.Absent CalleeWord.Absent ContextInfo.Absent ∷ cycle_of forest_b 24 ∷ []
+    store_of (Continuation.FinishLoop (node_id 2)) false (Some true) None None ∷ cycle_of forest_a 20
+    ∷ store_of (Continuation.StartNode (node_id 5)) false None None None ∷ cycle_of forest_a 21
+    ∷ store_of (Continuation.StartNode (node_id 6)) false None word None ∷ cycle_of forest_a 22
+    ∷ store_of (Continuation.StartNode (node_id 0)) false None word info ∷ cycle_of forest_b 23
+    ∷ store_of (Continuation.StartNode (node_id 1)) false None None None ∷ cycle_of forest_b 24 ∷ []
 
 unfoldable part6 : List Call
 part6 =
-    store_of (Continuation.ResumeBasicBlock (node_id 1) 0 0) false LoopCondition.Absent CalleeWord.Absent ContextInfo.Absent ∷ cycle_of forest_b 25
-    ∷ store_of (Continuation.FinishBasicBlock (node_id 1)) false LoopCondition.Absent CalleeWord.Absent ContextInfo.Absent ∷ cycle_of forest_b 26
-    ∷ store_of (Continuation.FinishDyn (node_id 0)) false LoopCondition.Absent CalleeWord.Absent ContextInfo.Absent ∷ cycle_of forest_b 27
-    ∷ store_of (Continuation.FinishDyn (node_id 6)) false LoopCondition.Absent CalleeWord.Absent ContextInfo.Absent ∷ cycle_of forest_a 28
-    ∷ store_of (Continuation.FinishCall (node_id 5)) true LoopCondition.Absent CalleeWord.Absent ContextInfo.Absent ∷ cycle_of forest_a 29 ∷ []
+    store_of (Continuation.ResumeBasicBlock (node_id 1) 0 0) false None None None ∷ cycle_of forest_b 25
+    ∷ store_of (Continuation.FinishBasicBlock (node_id 1)) false None None None ∷ cycle_of forest_b 26
+    ∷ store_of (Continuation.FinishDyn (node_id 0)) false None None None ∷ cycle_of forest_b 27
+    ∷ store_of (Continuation.FinishDyn (node_id 6)) false None None None ∷ cycle_of forest_a 28
+    ∷ store_of (Continuation.FinishCall (node_id 5)) true None None None ∷ cycle_of forest_a 29 ∷ []
 
 unfoldable part7 : List Call
 part7 =
-    store_of (Continuation.FinishLoop (node_id 2)) false (LoopCondition.Is false) CalleeWord.Absent ContextInfo.Absent ∷ cycle_of forest_a 30
-    ∷ store_of (Continuation.FinishJoin (node_id 0)) false LoopCondition.Absent CalleeWord.Absent ContextInfo.Absent ∷ cycle_of forest_a 31 ∷ []
+    store_of (Continuation.FinishLoop (node_id 2)) false (Some false) None None ∷ cycle_of forest_a 30
+    ∷ store_of (Continuation.FinishJoin (node_id 0)) false None None None ∷ cycle_of forest_a 31 ∷ []
 
 unfoldable fragments : List Fragment
 fragments =

@@ -1,4 +1,5 @@
 -- C10's run in fragments of 4: the premises can be met, and its rows, reading and counts computed over the definitions.
+use Rattle.std.specs.Prelude.{Option, Some, None}
 use mathlib.Core.Path.{◌≡◌, refl}
 use mathlib.Core.Bool.{Bool, true, false}
 use mathlib.Core.List.{List, [], ◌∷◌, ◌++◌, map}
@@ -16,9 +17,6 @@ use Rattle.groups.specs.Contexts.{too_large, consumed, op_context, context_in_gr
 use Rattle.groups.specs.Helpers.{all_below, read_registers, u32_values, helpers_of, helpers_of_cells, helpers_answer}
 use Rattle.groups.specs.declared.helpers.OperationHelperRegisters.{OperationHelperRegisters}
 use Rattle.rows.specs.declared.records.continuation.Continuation.{Continuation}
-use Rattle.rows.specs.declared.records.continuation.LoopCondition.{LoopCondition}
-use Rattle.rows.specs.declared.records.continuation.CalleeWord.{CalleeWord}
-use Rattle.rows.specs.declared.records.continuation.ContextInfo.{ContextInfo}
 use Rattle.field.specs.Bounds.{any_from}
 use Rattle.rows.specs.records.Profiles.{opcodes, is_one_of, two_equal, lacks_bits, profile_wrong}
 use Rattle.rows.specs.records.Forests.{Forest, is_slot, node_id, node_of, node_at, digest_at, opcode_at, block_of}
@@ -68,9 +66,9 @@ unfoldable begin : Cursor
 begin = record { state = record { current_addr = 9; parent_addr = 9 }; at = record { addresses = 0; parents = 0; ends = 0 } }
 
 -- a storing, and the cycle with clock row n
-unfoldable store_of : Continuation → Bool → LoopCondition → Call
+unfoldable store_of : Continuation → Bool → Option Bool → Call
 store_of continuation flag condition =
-    store (record { continuation = continuation; is_loop_body = flag; captured = record { finish_loop_condition = condition; dyn_callee_hash = CalleeWord.Absent; ctx_info = ContextInfo.Absent } })
+    store (record { continuation = continuation; is_loop_body = flag; captured = record { finish_loop_condition = condition; dyn_callee_hash = None; ctx_info = None } })
 
 unfoldable cycle_of : (n : ℕ) → Call
 cycle_of n = finish (record {
@@ -82,20 +80,20 @@ cycle_of n = finish (record {
 
 unfoldable calls1 : List Call
 calls1 =
-    store_of (Continuation.StartNode (node_id 0)) false LoopCondition.Absent ∷ cycle_of 0
-    ∷ store_of (Continuation.StartNode (node_id 1)) true LoopCondition.Absent ∷ cycle_of 1
-    ∷ store_of (Continuation.ResumeBasicBlock (node_id 1) 0 0) false LoopCondition.Absent ∷ cycle_of 2
-    ∷ store_of (Continuation.FinishBasicBlock (node_id 1)) true LoopCondition.Absent ∷ cycle_of 3 ∷ []
+    store_of (Continuation.StartNode (node_id 0)) false None ∷ cycle_of 0
+    ∷ store_of (Continuation.StartNode (node_id 1)) true None ∷ cycle_of 1
+    ∷ store_of (Continuation.ResumeBasicBlock (node_id 1) 0 0) false None ∷ cycle_of 2
+    ∷ store_of (Continuation.FinishBasicBlock (node_id 1)) true None ∷ cycle_of 3 ∷ []
 
 unfoldable calls2 : List Call
 calls2 =
-    store_of (Continuation.FinishLoop (node_id 0)) false (LoopCondition.Is true) ∷ cycle_of 4
-    ∷ store_of (Continuation.StartNode (node_id 1)) true LoopCondition.Absent ∷ cycle_of 5
-    ∷ store_of (Continuation.ResumeBasicBlock (node_id 1) 0 0) false LoopCondition.Absent ∷ cycle_of 6
-    ∷ store_of (Continuation.FinishBasicBlock (node_id 1)) true LoopCondition.Absent ∷ cycle_of 7 ∷ []
+    store_of (Continuation.FinishLoop (node_id 0)) false (Some true) ∷ cycle_of 4
+    ∷ store_of (Continuation.StartNode (node_id 1)) true None ∷ cycle_of 5
+    ∷ store_of (Continuation.ResumeBasicBlock (node_id 1) 0 0) false None ∷ cycle_of 6
+    ∷ store_of (Continuation.FinishBasicBlock (node_id 1)) true None ∷ cycle_of 7 ∷ []
 
 unfoldable calls3 : List Call
-calls3 = store_of (Continuation.FinishLoop (node_id 0)) false (LoopCondition.Is false) ∷ cycle_of 8 ∷ []
+calls3 = store_of (Continuation.FinishLoop (node_id 0)) false (Some false) ∷ cycle_of 8 ∷ []
 
 -- the fragments held other numbers before
 unfoldable fragments : List Fragment

@@ -1,4 +1,5 @@
 -- The calls of a run as a fold: the fragments hold the rows that the cycles write, and these show what the cycles did.
+use Rattle.std.specs.Prelude.{Some}
 use mathlib.Core.Path.{◌≡◌, ◌∙◌, refl, sym, ap, ap₂}
 use mathlib.Core.Bool.{Bool, true, false, ◌&&◌}
 use mathlib.Core.List.{List, [], ◌∷◌, ◌++◌, append_assoc, append-nil}
@@ -17,7 +18,6 @@ use Rattle.rows.specs.declared.records.address_state.DecoderState.{DecoderState}
 use Rattle.rows.specs.declared.records.continuation.Continuation.{Continuation}
 use Rattle.rows.specs.declared.records.continuation.StoredValues.{StoredValues}
 use Rattle.rows.specs.declared.cycles.made.MadeRow.{MadeRow}
-use Rattle.rows.specs.declared.cycles.tracer.StoredContinuation.{StoredContinuation}
 use Rattle.rows.specs.declared.cycles.tracer.CoreTraceGenerationTracer.{CoreTraceGenerationTracer}
 use Rattle.rows.specs.records.Forests.{Forest, node_at, opcode_at, block_of}
 use Rattle.rows.specs.records.Addresses.{Queues, started_at, end_at, read_state}
@@ -123,7 +123,7 @@ module _ (p : Profile) (q : Queues) where
     pub small : Small (did q i.forest (in_force z.tracer))
     pub came_from : Came p i.forest q i.stack i.registers (length z.cells) z.tracer m
 
-  did-is : (f : Forest) (v : InForce) (continuation : Continuation) → v.stored ≡ StoredContinuation.Is continuation → did q f v ≡ did_by q f v continuation
+  did-is : (f : Forest) (v : InForce) (continuation : Continuation) → v.stored ≡ Some continuation → did q f v ≡ did_by q f v continuation
   unfolding did_stored
   did-is f v continuation e = rw e
 

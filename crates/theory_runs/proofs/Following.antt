@@ -1,4 +1,5 @@
 -- Change request N7 at a cycle: what its answer says of the operations that follow, by its continuation.
+use Rattle.std.specs.Prelude.{Some}
 use mathlib.Core.Path.{◌≡◌, ◌∙◌, refl, sym, ap}
 use mathlib.Core.Bool.{Bool, true, false}
 use mathlib.Core.List.{List}
@@ -28,7 +29,6 @@ use Rattle.rows.specs.declared.records.continuation.Captured.{Captured}
 use Rattle.rows.specs.declared.records.continuation.Used.{Used}
 use Rattle.rows.specs.declared.cycles.made.MadeRow.{MadeRow}
 use Rattle.rows.specs.declared.cycles.made.Finish.{Finish}
-use Rattle.rows.specs.declared.cycles.tracer.StoredContinuation.{StoredContinuation}
 use Rattle.rows.specs.declared.cycles.tracer.CoreTraceGenerationTracer.{CoreTraceGenerationTracer}
 use Rattle.rows.specs.records.Forests.{Forest, node_at, digest_at, opcode_at, block_of}
 use Rattle.rows.specs.records.Addresses.{Queues, started_at, end_at}
@@ -168,7 +168,7 @@ module _ (f : Forest) (q : Queues) (p : Profile) (registers : OperationHelperReg
 
 module _ (p : Profile) (f : Forest) (q : Queues) (stack : StackState) (registers : OperationHelperRegisters) (cells : ℕ) (t : CoreTraceGenerationTracer) where
   -- of a cycle that is not refused
-  pub following-by : (continuation : Continuation) (m : MadeRow) → t.continuation ≡ StoredContinuation.Is continuation → cycle p f q stack registers cells t ≡ accepted m →
+  pub following-by : (continuation : Continuation) (m : MadeRow) → t.continuation ≡ Some continuation → cycle p f q stack registers cells t ≡ accepted m →
       FollowingBy f continuation (following_of (cycle p f q stack registers cells t))
   following-by continuation m s e =
       let c = accepted-came p f q stack registers cells t m e in

@@ -1,4 +1,5 @@
 -- Where no call of a run in fragments is refused, none is when the same calls are made in one fragment that has room for all rows.
+use Rattle.std.specs.Prelude.{Option, Some}
 use mathlib.Core.Path.{◌≡◌, ◌∙◌, refl, sym, ap, ap₂}
 use mathlib.Core.Bool.{Bool, false, not, ◌||◌}
 use mathlib.Core.List.{List, [], ◌∷◌, ◌++◌}
@@ -15,7 +16,6 @@ use Rattle.rows.specs.declared.records.state.StackState.{StackState}
 use Rattle.rows.specs.declared.records.continuation.Continuation.{Continuation}
 use Rattle.rows.specs.declared.records.continuation.StoredValues.{StoredValues}
 use Rattle.rows.specs.declared.cycles.made.MadeRow.{MadeRow}
-use Rattle.rows.specs.declared.cycles.tracer.StoredContinuation.{StoredContinuation}
 use Rattle.rows.specs.declared.cycles.tracer.CoreTraceGenerationTracer.{CoreTraceGenerationTracer}
 use Rattle.rows.specs.records.Forests.{Forest}
 use Rattle.rows.specs.records.Addresses.{Queues, read_state}
@@ -41,12 +41,12 @@ if-not t n x e = rw e
 then_is : {A B : Type 0} (a : Answer A) (x : A) (f : A → Answer B) → a ≡ accepted x → and_then a f ≡ f x
 then_is a x f e = rw e
 
-continuation-is : (stored : StoredContinuation) (c : Continuation) → stored ≡ StoredContinuation.Is c → continuation_of stored ≡ accepted c
+continuation-is : (stored : Option Continuation) (c : Continuation) → stored ≡ Some c → continuation_of stored ≡ accepted c
 continuation-is stored c e = rw e
 
 -- the checks of a cycle, none of which holds
 module _ (p : Profile) (f : Forest) (q : Queues) (stack : StackState) (registers : OperationHelperRegisters) (cells : ℕ) (t : CoreTraceGenerationTracer) where
-  pub accepted-by : (m : MadeRow) (c : Continuation) → t.refusal ≡ 0 → t.continuation ≡ StoredContinuation.Is c → any_big_opcode f.ops ≡ false → profile_wrong p ≡ false →
+  pub accepted-by : (m : MadeRow) (c : Continuation) → t.refusal ≡ 0 → t.continuation ≡ Some c → any_big_opcode f.ops ≡ false → profile_wrong p ≡ false →
       (forest_too_large f.nodes f.batches || fragment_wrong cells t.row_write_index) ≡ false → ltb stack.stack_depth 16 ≡ false →
       made f q p registers c t.is_loop_body t.captured (cursor t.decoder_state t.at) ≡ accepted m → leb (cells / 49) t.row_write_index ≡ false → cycle p f q stack registers cells t ≡ accepted m
   unfolding cycle cycle_with scan_of
@@ -73,9 +73,9 @@ right-lengths cells n rows e few h =
     let c : rows ≤ cells / 49 = omega arith in
     rw (le-ltb 0 (cells % 49) a, le-ltb 16777216 (cells / 49) b, le-ltb (cells / 49) rows c)
 
-same-makes : (f : Forest) (q : Queues) (p : Profile) (registers : OperationHelperRegisters) (t u : CoreTraceGenerationTracer) (c : Continuation) (m : MadeRow) → in_force t ≡ in_force u → t.decoder_state ≡ u.decoder_state → t.continuation ≡ StoredContinuation.Is c →
+same-makes : (f : Forest) (q : Queues) (p : Profile) (registers : OperationHelperRegisters) (t u : CoreTraceGenerationTracer) (c : Continuation) (m : MadeRow) → in_force t ≡ in_force u → t.decoder_state ≡ u.decoder_state → t.continuation ≡ Some c →
     made f q p registers c t.is_loop_body t.captured (cursor t.decoder_state t.at) ≡ accepted m →
-    (u.continuation ≡ StoredContinuation.Is c) × (u.captured ≡ t.captured) × (made f q p registers c u.is_loop_body u.captured (cursor u.decoder_state u.at) ≡ accepted m)
+    (u.continuation ≡ Some c) × (u.captured ≡ t.captured) × (made f q p registers c u.is_loop_body u.captured (cursor u.decoder_state u.at) ≡ accepted m)
 unfolding in_force
 same-makes f q p registers t u c m e s h k =
     let e1 : t.continuation ≡ u.continuation = ap (λ (v : InForce). v.stored) e in

@@ -1,4 +1,5 @@
 -- The addresses of a run's LOOP starts come from a queue, and so they are cells: "Queue entries count by their reduced numbers too".
+use Rattle.std.specs.Prelude.{Option, Some, None}
 use mathlib.Core.Path.{◌≡◌, refl, ap, subst}
 use mathlib.Core.Bool.{Bool, true, false}
 use mathlib.Core.List.{List, [], ◌∷◌, ◌++◌}
@@ -10,7 +11,6 @@ use Rattle.rows.specs.declared.records.forest.MastNode.{MastNode}
 use Rattle.rows.specs.declared.records.address_state.DecoderState.{DecoderState}
 use Rattle.rows.specs.declared.records.address_state.Positions.{Positions}
 use Rattle.rows.specs.declared.records.continuation.Continuation.{Continuation}
-use Rattle.rows.specs.declared.cycles.tracer.StoredContinuation.{StoredContinuation}
 use Rattle.rows.specs.records.Forests.{Forest, node_at}
 use Rattle.rows.specs.records.Addresses.{Queues, started_at, end_at}
 use Rattle.rows.specs.cycles.Made.{condition_of}
@@ -73,10 +73,10 @@ did-low q f v (Continuation.Respan id index) = λ l e. e
 did-low q f v (Continuation.FinishBasicBlock id) = finish-low q v _ id.0
 did-low q f v Continuation.EnterForest = λ l e. e
 
-stored_low : (q : Queues) (f : Forest) (v : InForce) (s : StoredContinuation) → Low (did_stored q f v s)
+stored_low : (q : Queues) (f : Forest) (v : InForce) (s : Option Continuation) → Low (did_stored q f v s)
 unfolding did_stored
-stored_low q f v StoredContinuation.Nothing = nothing-low
-stored_low q f v (StoredContinuation.Is continuation) = did-low q f v continuation
+stored_low q f v None = nothing-low
+stored_low q f v (Some continuation) = did-low q f v continuation
 
 unfoldable AllLow : List Cycle → Type 0
 AllLow [] = Unit {0}
@@ -127,10 +127,10 @@ did_read q f v (Continuation.Respan id index) = refl
 did_read q f v (Continuation.FinishBasicBlock id) = finish-read q v _ id.0
 did_read q f v Continuation.EnterForest = refl
 
-stored-read : (q : Queues) (f : Forest) (v : InForce) (s : StoredContinuation) → did_stored (read_queues q) f v s ≡ did_stored q f v s
+stored-read : (q : Queues) (f : Forest) (v : InForce) (s : Option Continuation) → did_stored (read_queues q) f v s ≡ did_stored q f v s
 unfolding did_stored
-stored-read q f v StoredContinuation.Nothing = refl
-stored-read q f v (StoredContinuation.Is continuation) = did_read q f v continuation
+stored-read q f v None = refl
+stored-read q f v (Some continuation) = did_read q f v continuation
 
 calls-read : (q : Queues) (calls : List Call) (v : InForce) → cycles_in (read_queues q) calls v ≡ cycles_in q calls v
 unfolding cycles_in

@@ -1,4 +1,5 @@
 -- After the first pass the rows of a run are those of the same calls in one fragment.
+use Rattle.std.specs.Prelude.{Some, None}
 use mathlib.Core.Path.{◌≡◌, ◌∙◌, refl, sym, ap, ap₂}
 use mathlib.Core.Bool.{false}
 use mathlib.Core.List.{List, [], ◌∷◌, ◌++◌, append_assoc, append-nil}
@@ -19,7 +20,6 @@ use Rattle.rows.specs.declared.records.state.StackCols.{StackCols}
 use Rattle.rows.specs.declared.records.continuation.Continuation.{Continuation}
 use Rattle.rows.specs.declared.records.continuation.StoredValues.{StoredValues}
 use Rattle.rows.specs.declared.cycles.made.MadeRow.{MadeRow}
-use Rattle.rows.specs.declared.cycles.tracer.StoredContinuation.{StoredContinuation}
 use Rattle.rows.specs.declared.cycles.tracer.CoreTraceGenerationTracer.{CoreTraceGenerationTracer}
 use Rattle.rows.specs.declared.cycles.tracer.TracerFinalState.{TracerFinalState}
 use Rattle.rows.specs.records.Addresses.{Queues, read_state}
@@ -166,9 +166,9 @@ last-behind (x ∷ l) m s s' k k' some = last-behind l m (built_system x.0.syste
 pub record Same (t u : CoreTraceGenerationTracer) : Type 0 where
   pub state_same : t.decoder_state ≡ u.decoder_state
   pub at_same : t.at ≡ u.at
-  pub force_same : (in_force t ≡ in_force u) ⊎ (t.continuation ≡ StoredContinuation.Nothing)
+  pub force_same : (in_force t ≡ in_force u) ⊎ (t.continuation ≡ None)
 
-pub not-nothing : (c : Continuation) → StoredContinuation.Is c ≡ StoredContinuation.Nothing → ⊥
+pub not-nothing : (c : Continuation) → Some c ≡ None → ⊥
 not-nothing c e = let z : ◌≡◌ {A = ℕ} 0 1 = cc in omega arith
 
 at_of : (t u : CoreTraceGenerationTracer) → in_force t ≡ in_force u → t.at ≡ u.at

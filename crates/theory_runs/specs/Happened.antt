@@ -1,5 +1,6 @@
 -- What the cycles of a run did, taken from the calls alone: the stored values in force are a fold over the calls, and so are the queue
 -- positions. No row is looked at.
+use Rattle.std.specs.Prelude.{Option, Some, None}
 use Rattle.std.specs.Prelude.{Bool, false, List, [], ◌∷◌, ◌++◌, ℕ}
 use Rattle.groups.specs.Answer.{Answer, accepted, refused, and_then, pick}
 use Rattle.groups.specs.Batches.{batch_at}
@@ -7,12 +8,8 @@ use Rattle.rows.specs.declared.records.forest.MastNode.{MastNode}
 use Rattle.rows.specs.declared.records.address_state.Positions.{Positions}
 use Rattle.rows.specs.declared.records.continuation.Continuation.{Continuation}
 use Rattle.rows.specs.declared.records.continuation.Captured.{Captured}
-use Rattle.rows.specs.declared.records.continuation.LoopCondition.{LoopCondition}
-use Rattle.rows.specs.declared.records.continuation.CalleeWord.{CalleeWord}
-use Rattle.rows.specs.declared.records.continuation.ContextInfo.{ContextInfo}
 use Rattle.rows.specs.declared.records.continuation.StoredValues.{StoredValues}
 use Rattle.rows.specs.declared.records.continuation.Used.{Used}
-use Rattle.rows.specs.declared.cycles.tracer.StoredContinuation.{StoredContinuation}
 use Rattle.rows.specs.records.Forests.{Forest, node_at, opcode_at, block_of}
 use Rattle.rows.specs.records.Addresses.{Queues, started_at, after_start, end_at, after_end}
 use Rattle.rows.specs.records.Captured.{read_captured}
@@ -46,7 +43,7 @@ Cycle = Forest × Did
 
 -- what is in force at a cycle: the stored values, without those that are used up, and the queue positions
 pub record InForce : Type 0 where
-  pub stored : StoredContinuation
+  pub stored : Option Continuation
   pub is_loop_body : Bool
   pub captured : Captured
   pub at : Positions
@@ -54,9 +51,9 @@ pub record InForce : Type 0 where
 -- nothing stored
 unfoldable pub nothing_stored : Positions → InForce
 nothing_stored at = record {
-  stored = StoredContinuation.Nothing;
+  stored = None;
   is_loop_body = false;
-  captured = record { finish_loop_condition = LoopCondition.Absent; dyn_callee_hash = CalleeWord.Absent; ctx_info = ContextInfo.Absent };
+  captured = record { finish_loop_condition = None; dyn_callee_hash = None; ctx_info = None };
   at = at;
 }
 
@@ -109,9 +106,9 @@ did_by q f v (Continuation.Respan id index) = respanned id.0 index
 did_by q f v (Continuation.FinishBasicBlock id) = finish_of q v Ending.FinishBasicBlock id.0
 did_by q f v Continuation.EnterForest = nothing
 
-unfoldable pub did_stored : Queues → Forest → InForce → StoredContinuation → Did
-did_stored q f v StoredContinuation.Nothing = nothing
-did_stored q f v (StoredContinuation.Is continuation) = did_by q f v continuation
+unfoldable pub did_stored : Queues → Forest → InForce → Option Continuation → Did
+did_stored q f v None = nothing
+did_stored q f v (Some continuation) = did_by q f v continuation
 
 abbrev pub did : Queues → Forest → InForce → Did
 did q f v = did_stored q f v v.stored
@@ -149,7 +146,7 @@ positions_after nothing at = at
 -- "Storing replaces all of them"; the cells among them are read (N2)
 unfoldable pub stored : InForce → StoredValues → InForce
 stored v values = record {
-  stored = StoredContinuation.Is values.continuation;
+  stored = Some values.continuation;
   is_loop_body = values.is_loop_body;
   captured = read_captured values.captured;
   at = v.at;

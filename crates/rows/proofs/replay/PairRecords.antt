@@ -1,4 +1,6 @@
 -- What the records of a storing and of its cycle hold, where no check refuses them.
+use Rattle.std.specs.Prelude.{Option, Some, None}
+use Rattle.rows.specs.declared.records.continuation.ExecutionContextInfo.{ExecutionContextInfo}
 use mathlib.Core.Path.{◌≡◌, refl, sym}
 use mathlib.Core.Bool.{Bool, true, false, not, ◌&&◌, ◌||◌}
 use mathlib.Core.List.{List, [], ◌∷◌}
@@ -29,7 +31,6 @@ use Rattle.groups.proofs.OneGroup.{both, neither}
 use Rattle.rows.specs.declared.records.ids.MastNodeId.{MastNodeId}
 use Rattle.rows.specs.declared.records.forest.MastNode.{MastNode}
 use Rattle.rows.specs.declared.records.continuation.Continuation.{Continuation}
-use Rattle.rows.specs.declared.records.continuation.ContextInfo.{ContextInfo}
 use Rattle.rows.specs.declared.records.state.SystemState.{SystemState}
 use Rattle.rows.specs.declared.replay.pairs.OpStored.{OpStored}
 use Rattle.rows.specs.declared.replay.pairs.OpFound.{OpFound}
@@ -131,11 +132,11 @@ three-of-32 x y z e =
     (leb-false _ _ a, leb-false _ _ b, leb-false _ _ c)
 
 -- context info that has its depth, or is absent
-abbrev info_by : (s : List ℕ) → (present : Bool) → ContextInfo
-info_by s present = pick present (ContextInfo.Is (record { stack_depth = get_or s 13 0; next_overflow_addr = cell_at s 14 })) ContextInfo.Absent
+abbrev info_by : (s : List ℕ) → (present : Bool) → Option ExecutionContextInfo
+info_by s present = pick present (Some (record { stack_depth = get_or s 13 0; next_overflow_addr = cell_at s 14 })) None
 
 info-by : (s : List ℕ) (present : Bool) → (present && leb 4294967296 (get_or s 13 0)) ≡ false
-    → pick present (and_then (of32 23 (get_or s 13 0)) (λ depth. accepted (ContextInfo.Is (record { stack_depth = depth; next_overflow_addr = cell_at s 14 })))) (accepted ContextInfo.Absent) ≡ accepted (info_by s present)
+    → pick present (and_then (of32 23 (get_or s 13 0)) (λ depth. accepted (Some (record { stack_depth = depth; next_overflow_addr = cell_at s 14 })))) (accepted None) ≡ accepted (info_by s present)
 info-by s true e = rw (of-32 23 (get_or s 13 0) (leb-false _ _ e))
 info-by s false e = refl
 
