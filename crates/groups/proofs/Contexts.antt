@@ -2,7 +2,7 @@
 use mathlib.Core.Path.{◌≡◌, refl}
 use mathlib.Core.Bool.{Bool, true, false}
 use mathlib.Core.List.{List}
-use Rattle.std.specs.Option.{Option, Some}
+use Rattle.std.proofs.Common.{Option, Some}
 use Prim.Native.Nat.{ℕ, ◌+◌, ◌-◌, ◌*◌, ◌/◌, ◌^◌, ◌≤◌}
 use native.Mathlib.Omega.{arith}
 use lib.Dec.{ltb}
@@ -39,12 +39,11 @@ unfolding consumed
 consumed-is push batches groups block index place sum group count s g e = rw (e, g, s, counts-first)
 
 -- a batch has eight groups, of nine operations at most
-pub in-batch : (batches : List ℕ) (block : BasicBlockNode) (index ops op : ℕ) (starts : List ℕ) (found : Option OpPlace) (place : OpPlace)
-    → starts ≡ starts_at batches block index → told_or no_such_operation found ≡ group_of starts ops op → found ≡ Some place
-    → (place.group ≤ 7) × (place.index ≤ 8)
+pub in-batch : (batches : List ℕ) (block : BasicBlockNode) (index ops op : ℕ) (starts : List ℕ) (place : OpPlace)
+    → starts ≡ starts_at batches block index → accepted place ≡ group_of starts ops op → (place.group ≤ 7) × (place.index ≤ 8)
 unfolding starts_at
-in-batch batches block index ops op starts found place s t e =
-    let h = lies (starts_at batches block index) ops op place (rw (e, s) at t) in
+in-batch batches block index ops op starts place s e =
+    let h = lies (starts_at batches block index) ops op place (rw s at e) in
     let g = h.a_group in
     (omega arith, h.up_to_8)
 
@@ -55,11 +54,11 @@ two-picks false true m n x f = refl
 two-picks false false m n x f = refl
 
 -- the context at an operation, by what its row shows
-pub in-group-is : (push : ℕ) (block : BasicBlockNode) (batches groups : List ℕ) (index : ℕ) (batch : OpBatch) (place : OpPlace) →
+pub in_group_is : (push : ℕ) (block : BasicBlockNode) (batches groups : List ℕ) (index : ℕ) (batch : OpBatch) (place : OpPlace) →
     context_in_group push block batches groups index batch place
     ≡ and_then (context_in push block batches groups index batch.group_count place) (λ context. accepted (record { context = context; batch = batch; place = place }))
 unfolding context_in_group context_in op_context too_large
-in-group-is push block batches groups index batch place =
+in_group_is push block batches groups index batch place =
     two-picks {A = BasicBlockContext}
     (ltb block.total (consumed push block batches groups index place))
     (large_by block batch.group_count (sum_before batches block index).above8)

@@ -1,11 +1,13 @@
 -- `round_up` is the least power of two that is not below its argument.
 use mathlib.Core.Path.{◌≡◌, refl}
 use mathlib.Core.Bool.{Bool, true, false}
-use Prim.Native.Nat.{ℕ, zero, suc, ◌+◌, ◌^◌, ◌≤◌, ◌<◌}
+use Prim.Native.Nat.{ℕ, zero, suc, ◌+◌, ◌/◌, ◌^◌, ◌≤◌, ◌<◌}
 use native.Mathlib.Nat.{two-pow-succ, pow-le-pow_right}
 use native.Mathlib.Omega.{arith}
 use borrow.Author.Tests.{leb-true, leb-false}
 use lib.Dec.{leb}
+use Rattle.std.specs.Int.{IsNextPowerOfTwo}
+use Rattle.std.proofs.Common.{max}
 use Rattle.groups.specs.Answer.{pick}
 use Rattle.groups.specs.GroupsLeft.{doubled, round_up, IsRoundUp}
 
@@ -35,3 +37,21 @@ round-from (suc j) e n h l =
 pub round-up : (n : ℕ) → IsRoundUp n (round_up n)
 unfolding round_up
 round-up n = round-from n 0 n (omega arith) (λ k m. one-le-power k)
+
+-- 2 ^ e is the least where half of it is below the number, or is 0
+least-power : (e k n : ℕ) (b : Bool) → leb e k ≡ b → 2 ^ e / 2 < max 1 n → n ≤ 2 ^ k → 2 ^ e ≤ 2 ^ k
+least-power e k n true t h l = pow-le-pow_right {n = 2} (omega arith) {i = e} {j = k} (leb-true e k t)
+least-power e k n false t h l =
+    let p = pow-le-pow_right {n = 2} (omega arith) {i = suc k} {j = e} (omega (arith, leb-false e k t)) in
+    omega (arith, p, two-pow-succ k, one-le-power k)
+
+-- two that are least are one
+same-round : (n r s : ℕ) → IsRoundUp n r → IsRoundUp n s → r ≤ s
+same-round n r s u v = rw v.power (u.least v.exponent (rw v.power at v.enough))
+
+-- the library's word for the least power of two says the same
+pub next-power : (n r : ℕ) → IsNextPowerOfTwo n r → r ≡ round_up n
+next-power n r (power, above, below) =
+    let u : IsRoundUp n r = record { exponent = power.0; power = power.1; enough = above; least = λ k l. rw power.1 (least-power power.0 k n (leb power.0 k) refl (rw power.1 at below) l) } in
+    let v = round-up n in
+    omega (arith, same-round n r (round_up n) u v, same-round n (round_up n) r v u)

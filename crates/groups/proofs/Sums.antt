@@ -1,38 +1,14 @@
 -- The steps of the loops that round up, add up and count.
 use mathlib.Core.Path.{◌≡◌, refl}
-use mathlib.Core.Bool.{Bool, true, false, ◌||◌}
+use mathlib.Core.Bool.{Bool, true, false, ◌||◌, or_assoc, or-false}
 use mathlib.Core.List.{List, [], ◌∷◌}
 use Prim.Native.Nat.{ℕ, zero, suc, ◌+◌, ◌-◌, ◌*◌, ◌/◌, ◌%◌, ◌≤◌, ◌<◌}
 use native.Mathlib.Omega.{arith}
 use borrow.Author.Tests.{le-leb, lt-leb, le-ltb, lt-ltb, eq-eqb, ne_eqb}
-use lib.Dec.{leb}
+use lib.Dec.{leb, ltb}
 use lib.ListN.{get_or}
 use Rattle.groups.specs.Answer.{pick}
 use Rattle.groups.specs.GroupsLeft.{counts, doubled, round_up, groups_of, sum_groups, any_above8, pushes}
-
--- the steps do not matter where they are enough
-enough : (j i p n : ℕ) → 1 ≤ p → n ≤ p + j → n ≤ p + i → doubled j p n ≡ doubled i p n
-unfolding doubled
-enough zero zero p n h a b = refl
-enough zero (suc i) p n h a b = rw (le-leb n p (omega arith))
-enough (suc j) zero p n h a b = rw (le-leb n p (omega arith))
-enough (suc j) (suc i) p n h a b = rw (enough j i (p + p) n (omega arith) (omega arith) (omega arith))
-
-pub round-start : (n : ℕ) → round_up n ≡ doubled (n - 1) 1 n
-unfolding round_up
-round-start n = enough n (n - 1) 1 n (omega arith) (omega arith) (omega arith)
-
-pub round-turn : (p n : ℕ) → 1 ≤ p → p < n → doubled (n - p) p n ≡ doubled (n - (p + p)) (p + p) n
-unfolding doubled
-round-turn p n h l =
-    let e : n - p ≡ suc (n - p - 1) = omega arith in
-    rw (e, lt-leb n p l) (enough (n - p - 1) (n - (p + p)) (p + p) n (omega arith) (omega arith) (omega arith))
-
-pub round-last : (p n : ℕ) → n ≤ p → doubled (n - p) p n ≡ p
-unfolding doubled
-round-last p n l =
-    let e : n - p ≡ 0 = omega arith in
-    rw e
 
 -- p doubled k times
 abbrev times : ℕ → ℕ → ℕ
@@ -92,33 +68,20 @@ pushes-last push n k g h =
     let e : n - k ≡ 0 = omega arith in
     rw e
 
-pub sum-turn : (rounded : Bool) (batches : List ℕ) (first k to : ℕ) → k < to
-    → sum_groups rounded (counts batches (first + k) (to - k)) ≡ groups_of rounded (get_or batches (12 * (first + k)) 0) + sum_groups rounded (counts batches (first + (k + 1)) (to - (k + 1)))
+pub sum-turn : (rounded : Bool) (batches : List ℕ) (first k to count groups : ℕ) → k < to → count ≡ get_or batches (12 * (first + k)) 0 → groups ≡ groups_of rounded count
+    → sum_groups rounded (counts batches (first + k) (to - k)) ≡ groups + sum_groups rounded (counts batches (first + (k + 1)) (to - (k + 1)))
 unfolding sum_groups
-sum-turn rounded batches first k to h = rw (counts-turn batches first k to h)
+sum-turn rounded batches first k to count groups h e g = rw (counts-turn batches first k to h, g, e)
 
 pub sum-last : (rounded : Bool) (batches : List ℕ) (r k to : ℕ) → to ≤ k → sum_groups rounded (counts batches r (to - k)) ≡ 0
 unfolding sum_groups
 sum-last rounded batches r k to h = rw (counts-last batches r k to h)
 
-or-true : (b : Bool) → (b || true) ≡ true
-or-true true = refl
-or-true false = refl
-
-or-false : (b : Bool) → (b || false) ≡ b
-or-false true = refl
-or-false false = refl
-
--- one more count is above 8, or is not
-pub above-turn : (b : Bool) (batches : List ℕ) (first k to : ℕ) → k < to → 8 < get_or batches (12 * (first + k)) 0
-    → (b || any_above8 (counts batches (first + k) (to - k))) ≡ true
+-- one more count
+pub above-turn : (b : Bool) (batches : List ℕ) (first k to count : ℕ) → k < to → count ≡ get_or batches (12 * (first + k)) 0
+    → (b || any_above8 (counts batches (first + k) (to - k))) ≡ ((b || ltb 8 count) || any_above8 (counts batches (first + (k + 1)) (to - (k + 1))))
 unfolding any_above8
-above-turn b batches first k to h t = rw (counts-turn batches first k to h, lt-ltb _ _ t) (or-true b)
-
-pub below-turn : (b : Bool) (batches : List ℕ) (first k to : ℕ) → k < to → get_or batches (12 * (first + k)) 0 ≤ 8
-    → (b || any_above8 (counts batches (first + k) (to - k))) ≡ (b || any_above8 (counts batches (first + (k + 1)) (to - (k + 1))))
-unfolding any_above8
-below-turn b batches first k to h t = rw (counts-turn batches first k to h, le-ltb _ _ t)
+above-turn b batches first k to count h e = rw (counts-turn batches first k to h, e, or_assoc)
 
 pub above-last : (b : Bool) (batches : List ℕ) (r k to : ℕ) → to ≤ k → (b || any_above8 (counts batches r (to - k))) ≡ b
 unfolding any_above8

@@ -43,7 +43,7 @@ impl BasicBlockNode {
     }
 }
 
-#[tactic(auto, unfolding(crate::specs::Batches::is_batch, crate::specs::Batches::batch_at))]
+#[tactic(auto, unfolding(crate::specs::Batches::is_batch, crate::specs::Batches::batch_at, crate::specs::Batches::starts_at, crate::specs::Batches::lent_batches))]
 impl LentBatches<'_> {
     // Whether the block has a batch `index` whose records lie whole in the slices.
     pub(crate) fn is_batch(&self, block: BasicBlockNode, index: u32) -> bool

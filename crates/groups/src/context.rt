@@ -57,6 +57,7 @@ fn is_too_large(block: BasicBlockNode, group_count: u32, above8: bool) -> bool
 }
 
 // The context at an operation whose place in the batch is known, or 8 or 11.
+#[tactic(auto, unfolding(crate::specs::ways::ContextsByCount::context_in, crate::specs::Contexts::consumed))]
 fn in_group(
     push: u8,
     batches: &LentBatches,
@@ -87,6 +88,7 @@ fn in_group(
 
 impl BasicBlockContext {
     // The context at operation `op` of batch `index`, or the lowest number of 5, 6, 8 and 11 that holds.
+    #[tactic(auto, using(crate::proofs::Contexts::in_group_is), unfolding(crate::specs::Contexts::context_at_op))]
     pub fn new_at_op(
         push: u8,
         batches: &LentBatches,
@@ -112,6 +114,7 @@ impl BasicBlockContext {
     }
 
     // What the row of operation `op` of batch `index` shows, refused as `new_at_op` refuses. Of the batch it reads two numbers alone.
+    #[tactic(auto, using(crate::proofs::Contexts::in_group_is), unfolding(crate::specs::Batches::batch_at, crate::specs::Contexts::cells_at_op, crate::specs::Contexts::context_at_op))]
     pub fn cells_at_op(
         push: u8,
         batches: &LentBatches,
@@ -139,6 +142,7 @@ impl BasicBlockContext {
     }
 
     // The context at the start of batch `index`, or the lowest number of 5, 7 and 11 that holds.
+    #[tactic(auto, unfolding(crate::specs::Contexts::context_at_batch_start, crate::specs::Contexts::too_large))]
     pub fn new_at_batch_start(
         batches: &LentBatches,
         block: BasicBlockNode,

@@ -41,6 +41,7 @@ fn place_in(group: usize, index: u32, following: u32) -> Option<OpPlace>
 
 // The group with start ≤ op < next start, the index in it, and how many operations follow it there. None, refused with 6: the operation
 // is past the batch's, a start falls, no group holds the operation, or its index is above 8.
+#[tactic(auto, unfolding(crate::specs::GroupOfOperation::group_of))]
 pub fn op_idx_in_batch_to_group(starts: [u32; 9], num_ops: u32, op: u32) -> Option<OpPlace>
     ensures { told_or no_such_operation result ≡ group_of starts num_ops op }
 {
@@ -58,6 +59,7 @@ pub fn op_idx_in_batch_to_group(starts: [u32; 9], num_ops: u32, op: u32) -> Opti
 }
 
 // The place of an operation of the batch in a record, by the batch records alone, or the lowest number of 5, 6 and 11 that holds.
+#[tactic(auto, unfolding(crate::specs::GroupOfOperation::place_of_op))]
 pub fn op_place(batches: &[u32], record: usize, op: u32) -> Result<OpPlace, Refusal>
     ensures { told result ≡ place_of_op batches.now «record» op }
 {

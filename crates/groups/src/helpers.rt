@@ -160,6 +160,7 @@ fn all_below(limit: u64, numbers: &[u64]) -> bool
 }
 
 // The helpers of three values of 32 bits, or 9.
+#[tactic(auto, unfolding(crate::specs::Helpers::all_below, crate::specs::ways::Families::found_of))]
 fn limbs(a: u64, b: u64, c: u64) -> Result<UserOpHelpers, Refusal>
     ensures { told result ≡ found_of (Family.Limbs a b c) }
 {
@@ -177,6 +178,7 @@ fn limbs(a: u64, b: u64, c: u64) -> Result<UserOpHelpers, Refusal>
 }
 
 // The helpers of two values of 32 bits and the inverse, or 9.
+#[tactic(auto, unfolding(crate::specs::Helpers::all_below, crate::specs::ways::Families::found_of))]
 fn limbs_and_inverse(lo: u64, hi: u64) -> Result<UserOpHelpers, Refusal>
     ensures { told result ≡ found_of (Family.LimbsAndInverse lo hi) }
 {
@@ -215,6 +217,7 @@ impl Family {
     }
 
     // Its helpers, or 9.
+    #[tactic(auto, unfolding(crate::specs::ways::Families::found_of))]
     fn helpers(self) -> Result<UserOpHelpers, Refusal>
         ensures { told result ≡ found_of self }
     {
@@ -280,6 +283,7 @@ impl OperationHelperRegisters {
     }
 
     // The cells h2 to h7, its numbers read modulo p, or 9 for a 32-bit value from 2^32 on.
+    #[tactic(auto, using(crate::proofs::FamilyLaws::helpers_law))]
     pub fn to_user_op_helpers(self) -> Result<UserOpHelpers, Refusal>
         ensures { told result ≡ helpers_answer self }
     {
