@@ -4,3 +4,4 @@ pub mod Occurrences
 pub mod Rooms
 pub mod Slots
 pub mod Windows
+pub mod Scanned

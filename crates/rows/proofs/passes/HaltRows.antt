@@ -22,9 +22,9 @@ use Rattle.rows.proofs.records.Windows.{window}
 use Rattle.rows.proofs.passes.RowLists.{Wide, wide-app, length-rows, wide_rows, as_rows, last-rows, last-cell, length_last, put-behind}
 
 -- h0 to h3 of the last row stand 35 cells before its end
-pub last-half : (n : ℕ) (b : List ℕ) → 0 < n → first_half (last_row (rows_of n b)) ≡ word_from b (49 * n - 35)
-last-half zero b h = absurd (omega arith)
-last-half (suc n) b h =
+pub last_half : (n : ℕ) (b : List ℕ) → 0 < n → first_half (last_row (rows_of n b)) ≡ word_from b (49 * n - 35)
+last_half zero b h = absurd (omega arith)
+last_half (suc n) b h =
     let a : 49 * suc n - 35 ≡ 49 * n + 14 = omega arith in
     let a1 : 49 * n + 14 + 1 ≡ 49 * n + 15 = omega arith in
     let a2 : 49 * n + 14 + 2 ≡ 49 * n + 16 = omega arith in

@@ -15,9 +15,9 @@ use Rattle.rows.specs.records.Buffers.{buffer_wrong, fewer_rows}
 use Rattle.rows.proofs.passes.Finishing.{enough, held}
 
 -- fewer than one row more
-pub fewer-more : (cells n : ℕ) → fewer_rows cells (n + 1) ≡ leb (cells / 49) n
+pub fewer_more : (cells n : ℕ) → fewer_rows cells (n + 1) ≡ leb (cells / 49) n
 unfolding fewer_rows
-fewer-more cells n = go (dec_lt n (cells / 49))
+fewer_more cells n = go (dec_lt n (cells / 49))
   where
     go : Dec (n < cells / 49) → ltb (cells / 49) (n + 1) ≡ leb (cells / 49) n
     go (yes h) = le-ltb (cells / 49) (n + 1) (omega arith) ∙ sym (lt-leb (cells / 49) n h)

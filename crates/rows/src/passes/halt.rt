@@ -1,6 +1,8 @@
 // The last two finishing passes: the HALT row behind the program's rows, and HALT rows up to the height.
 ghost use Rattle.std.specs.Prelude.{◌≡◌, [], ◌∷◌, ◌+◌, ◌*◌, ◌≤◌, ◌<◌, length, take};
+ghost use Rattle.groups.specs.Answer.{refusal};
 ghost use Rattle.groups.specs.Constants.{row_width};
+ghost use Rattle.groups.specs.Refusals.{told};
 ghost use Rattle.rows.specs.records.DecoderRows.{zero_word, control_flow};
 ghost use Rattle.rows.specs.records.Built.{system_cells, stack_cells};
 ghost use Rattle.rows.specs.records.Buffers.{rows_of, on_rows, last_row};
@@ -11,10 +13,10 @@ use crate::records::decoder_row::DecoderRow;
 use crate::records::profile::{Profile, is_wrong};
 use crate::records::row::write_row;
 use crate::records::state::{StackCols, SystemCols};
-use field::cell::number_at;
 use field::felt::Felt;
 use field::inverse::inverse;
-use groups::constants::{Refusal, Row};
+use groups::constants::Row;
+use groups::refusal::Refusal;
 use groups::word::Word;
 
 // The four numbers from `at` on, as they stand.
@@ -26,13 +28,14 @@ fn word_in(cells: &[u64], at: usize) -> Word
 }
 
 // The first six cells as a row's system cells.
+#[tactic(auto, using(crate::proofs::records::Windows::read_take), unfolding(crate::specs::records::Built::system_cells))]
 fn system_of(cells: &[u64]) -> SystemCols
     requires { 6 ≤ length cells.now }
     ensures { system_cells result ≡ take 6 cells.now }
 {
     SystemCols {
-        clk: number_at(cells, 0),
-        ctx: number_at(cells, 1),
+        clk: cells[0],
+        ctx: cells[1],
         fn_hash: word_in(cells, 2),
     }
 }
@@ -42,29 +45,13 @@ fn stack_of(cells: &[u64]) -> StackCols
     requires { 19 ≤ length cells.now }
     ensures { stack_cells result ≡ take 19 cells.now }
 {
-    let top = [
-        number_at(cells, 0),
-        number_at(cells, 1),
-        number_at(cells, 2),
-        number_at(cells, 3),
-        number_at(cells, 4),
-        number_at(cells, 5),
-        number_at(cells, 6),
-        number_at(cells, 7),
-        number_at(cells, 8),
-        number_at(cells, 9),
-        number_at(cells, 10),
-        number_at(cells, 11),
-        number_at(cells, 12),
-        number_at(cells, 13),
-        number_at(cells, 14),
-        number_at(cells, 15),
-    ];
+    let mut top = [0; 16];
+    top.copy_from_slice(&cells[..16]);
     StackCols {
         top,
-        b0: number_at(cells, 16),
-        b1: number_at(cells, 17),
-        h0: number_at(cells, 18),
+        b0: cells[16],
+        b1: cells[17],
+        h0: cells[18],
     }
 }
 
@@ -74,17 +61,14 @@ fn halt_stack(built: &[u64]) -> StackCols
     ensures { stack_cells result ≡ halt_stack built.now }
 {
     let stack = stack_of(&built[6..]);
-    let top = stack.top;
-    let h0 = inverse(stack.h0);
     StackCols {
-        top,
-        b0: stack.b0,
-        b1: stack.b1,
-        h0,
+        h0: inverse(stack.h0),
+        ..stack
     }
 }
 
 // h0 to h3 of the last of the first `rows` rows, 0 where there is none.
+#[tactic(auto, using(crate::proofs::passes::HaltRows::last_half), unfolding(crate::specs::records::Buffers::last_row, crate::specs::records::Buffers::rows_of))]
 fn last_half(buffer: &[u64], rows: usize) -> Word
     requires { row_width * rows ≤ length buffer.now }
     ensures { result ≡ first_half (last_row (rows_of rows buffer.now)) }
@@ -105,17 +89,18 @@ fn halt_decoder(profile: Profile, buffer: &[u64], rows: usize) -> DecoderRow
     DecoderRow::new_control_flow(profile.halt, first, second, Felt::ZERO)
 }
 
-// What pass 4 refuses, 0 where it does not.
-fn halt_refusal(profile: Profile, buffer: &[u64], rows: usize) -> u32
-    ensures { result ≡ refusal4 profile buffer.now rows }
+// What pass 4 refuses.
+#[tactic(auto, using(crate::proofs::passes::Refusals::fewer_more), unfolding(crate::specs::passes::Passes::refusal4, groups::specs::Answer::first_of))]
+fn check_halt(profile: Profile, buffer: &[u64], rows: usize) -> Result<(), Refusal>
+    ensures { refusal (told result) ≡ refusal4 profile buffer.now rows }
 {
     if is_wrong(profile) {
-        return Refusal::BAD_PROFILE;
+        return Err(Refusal::BadProfile);
     }
     if buffer_wrong(buffer.len()) | (buffer.len() / Row::WIDTH <= rows) {
-        return Refusal::BAD_LENGTH;
+        return Err(Refusal::BadLength);
     }
-    0
+    Ok(())
 }
 
 // Pass 4 where nothing is refused.
@@ -129,41 +114,46 @@ pub(crate) fn push_halt(profile: Profile, buffer: &mut [u64], rows: usize, built
     write_row(buffer, rows, system, decoder, stack);
 }
 
-// Writes the HALT row behind the first `rows` rows, or answers the refusal's number and changes nothing.
+// Writes the HALT row behind the first `rows` rows, or refuses and changes nothing.
+#[tactic(auto, using(crate::proofs::passes::Refusals::fits4))]
 pub fn push_halt_opcode_row(
     profile: Profile,
     buffer: &mut [u64],
     rows: usize,
     built: [u64; 25],
-) -> u32
-    ensures value { result ≡ refusal4 profile buffer.old rows }
+) -> Result<(), Refusal>
+    ensures value { refusal (told result) ≡ refusal4 profile buffer.old rows }
     ensures buffer_after { buffer.new ≡ unless_refused (refusal4 profile buffer.old rows) buffer.old
         (on_rows rows (halted profile built) buffer.old) }
 {
-    let refusal = halt_refusal(profile, buffer, rows);
-    if refusal != 0 {
-        return refusal;
-    }
+    check_halt(profile, buffer, rows)?;
     push_halt(profile, buffer, rows, &built);
-    0
+    Ok(())
 }
 
-// What pass 5 refuses, 0 where it does not.
-fn padding_refusal(profile: Profile, buffer: &[u64], rows: usize, height: usize) -> u32
-    ensures { result ≡ refusal5 profile buffer.now rows height }
+// What pass 5 refuses.
+#[tactic(auto, unfolding(crate::specs::passes::Passes::refusal5, groups::specs::Answer::first_of))]
+fn check_padding(
+    profile: Profile,
+    buffer: &[u64],
+    rows: usize,
+    height: usize,
+) -> Result<(), Refusal>
+    ensures { refusal (told result) ≡ refusal5 profile buffer.now rows height }
 {
     if is_wrong(profile) {
-        return Refusal::BAD_PROFILE;
+        return Err(Refusal::BadProfile);
     }
     if buffer_wrong(buffer.len())
         | ((rows == 0) | ((height < rows) | fewer_rows(buffer.len(), height)))
     {
-        return Refusal::BAD_LENGTH;
+        return Err(Refusal::BadLength);
     }
-    0
+    Ok(())
 }
 
 // The system cells of a padding row: clk is its number.
+#[tactic(auto, unfolding(crate::specs::records::Built::system_cells))]
 fn padding_system(row: usize) -> SystemCols
     ensures { system_cells result ≡ row ∷ 0 ∷ 0 ∷ 0 ∷ 0 ∷ 0 ∷ [] }
 {
@@ -182,23 +172,24 @@ pub(crate) fn pad(profile: Profile, buffer: &mut [u64], rows: usize, height: usi
     let decoder = halt_decoder(profile, buffer, rows);
     let at = Row::WIDTH * rows - 19;
     let stack = stack_of(&buffer[at..]);
-    let mut row = rows;
-    while row < height {
+    for row in rows..height {
         write_row(buffer, row, padding_system(row), decoder, stack);
-        row += 1;
     }
 }
 
-// Writes HALT rows from row `rows` to the height, or answers the refusal's number and changes nothing.
-pub fn pad_core_row_major(profile: Profile, buffer: &mut [u64], rows: usize, height: usize) -> u32
-    ensures value { result ≡ refusal5 profile buffer.old rows height }
+// Writes HALT rows from row `rows` to the height, or refuses and changes nothing.
+#[tactic(auto, using(crate::proofs::passes::Refusals::fits5))]
+pub fn pad_core_row_major(
+    profile: Profile,
+    buffer: &mut [u64],
+    rows: usize,
+    height: usize,
+) -> Result<(), Refusal>
+    ensures value { refusal (told result) ≡ refusal5 profile buffer.old rows height }
     ensures buffer_after { buffer.new ≡ unless_refused (refusal5 profile buffer.old rows height) buffer.old
         (on_rows rows (padded profile height) buffer.old) }
 {
-    let refusal = padding_refusal(profile, buffer, rows, height);
-    if refusal != 0 {
-        return refusal;
-    }
+    check_padding(profile, buffer, rows, height)?;
     pad(profile, buffer, rows, height);
-    0
+    Ok(())
 }

@@ -7,6 +7,7 @@ use field::cell::cell;
 use groups::constants::Row;
 
 // Refusal 11: the buffer has a part of a row, or over 2^24 rows.
+#[tactic(auto, unfolding(crate::specs::records::Buffers::buffer_wrong))]
 pub fn buffer_wrong(cells: usize) -> bool
     ensures { result ≡ buffer_wrong cells }
 {
@@ -14,6 +15,7 @@ pub fn buffer_wrong(cells: usize) -> bool
 }
 
 // Refusal 11: fewer rows than said.
+#[tactic(auto, unfolding(crate::specs::records::Buffers::fewer_rows))]
 pub fn fewer_rows(cells: usize, rows: usize) -> bool
     ensures { result ≡ fewer_rows cells rows }
 {

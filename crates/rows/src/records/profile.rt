@@ -25,6 +25,7 @@ pub struct Profile {
 }
 
 // The thirteen opcodes in document 01's order.
+#[tactic(auto, unfolding(crate::specs::records::Profiles::opcodes))]
 pub fn opcodes_of(profile: Profile) -> [u8; 13]
     ensures { result ≡ opcodes profile }
 {
@@ -45,65 +46,39 @@ pub fn opcodes_of(profile: Profile) -> [u8; 13]
     ]
 }
 
-// Whether one of the opcodes is 128 or above.
+// Whether one of the opcodes is 128 or above. All are looked at, several at a time; `any`, which stops at the first, is far slower over the
+// opcodes of a forest.
 pub fn any_big_opcode(opcodes: &[u8]) -> bool
     ensures { result ≡ any_from 128 opcodes.now }
 {
-    let mut found = false;
-    let mut i = 0;
-    while i < opcodes.len() {
-        found = found | (128 <= opcodes[i]);
-        i += 1;
-    }
-    found
-}
-
-// Whether x stands among the opcodes from index i on.
-fn is_one_of(opcodes: &[u8], i: usize, x: u8) -> bool
-    ensures { result ≡ is_one_of x (drop i opcodes.now) }
-{
-    let mut found = false;
-    let mut j = i;
-    while j < opcodes.len() {
-        found = found | (x == opcodes[j]);
-        j += 1;
-    }
-    found
+    opcodes
+        .iter()
+        .fold(false, |found, opcode| found | (128 <= *opcode))
 }
 
 // Whether two of the opcodes are equal.
 fn two_equal(opcodes: &[u8]) -> bool
     ensures { result ≡ two_equal opcodes.now }
 {
-    let mut found = false;
-    let mut j = 0;
-    while j < opcodes.len() {
-        found = found | is_one_of(opcodes, j + 1, opcodes[j]);
-        j += 1;
+    for (i, opcode) in opcodes.iter().enumerate() {
+        if opcodes[i + 1..].iter().any(|other| *opcode == *other) {
+            return true;
+        }
     }
-    found
+    false
 }
 
 // Refusal 2.
+#[tactic(auto, unfolding(crate::specs::records::Profiles::profile_wrong, crate::specs::records::Profiles::lacks_bits))]
 pub fn is_wrong(profile: Profile) -> bool
     ensures { result ≡ profile_wrong profile }
 {
     let opcodes = opcodes_of(profile);
-    if any_big_opcode(&opcodes) {
-        return true;
-    }
-    if two_equal(&opcodes) {
-        return true;
-    }
     let halt = profile.halt;
-    if halt / 32 % 2 != 1 {
-        return true;
-    }
-    if halt / 64 % 2 != 1 {
-        return true;
-    }
-    if profile.step == 0 {
-        return true;
-    }
-    Felt::MODULUS <= profile.step
+    any_big_opcode(&opcodes)
+        || two_equal(&opcodes)
+        || halt / 32 % 2 != 1
+        || halt / 64 % 2 != 1
+        || profile.step == 0
+        || Felt::MODULUS <= profile.step
 }

@@ -12,6 +12,3 @@ abbrev pub invariant-loop-row : goal.invariant-loop-row
 invariant-loop-row l =
     (l.rows ≤ l.row) × (l.row ≤ l.height) × (length l.buffer ≡ length l.initial.buffer)
     × ((p : Profile) → l.decoder ≡ control_flow p.halt (first_half (last_row (rows_of l.rows l.initial.buffer))) zero_word 0 → l.buffer ≡ on_rows l.rows (padded p l.row) l.initial.buffer)
-
-abbrev pub decreases-loop-row : goal.decreases-loop-row
-decreases-loop-row l = l.height - l.row

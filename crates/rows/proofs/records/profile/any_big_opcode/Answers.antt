@@ -1,16 +1,13 @@
 -- `profile::any_big_opcode` meets its contract.
-use mathlib.Core.Path.{refl}
-use borrow.Author.Rules.{rules}
+use mathlib.Core.Path.{sym, ◌∙◌}
+use mathlib.Core.Bool.{false, ◌||◌}
 use lib.Dec.{leb}
-use lib.ListN.{get_or}
-use Rattle.field.specs.Bounds.{any_from}
-use Rattle.field.proofs.AnyFrom.{gather-turn, gather-last}
+use Rattle.std.proofs.Common.{rules, tests}
+use Rattle.std.proofs.lemmas.Iterator.{YieldsList-from_slice}
+use Rattle.std.proofs.lemmas.Iterator.Consumers.{fold_from_yields_List}
+use Rattle.rows.proofs.records.Scanned.{scanned, any_from-list_any}
 use Rattle.rows.proofs.records.profile.any_big_opcode.Goals as goal
 
-pub loop-i-preserved : goal.loop-i-preserved
-unfolding any_from
-loop-i-preserved c = gather-turn (any_from 128) c.loop-i.found (leb 128 (get_or c.args.opcodes.now c.loop-i.i 0)) c.args.opcodes.now c.loop-i.i (search rules) refl c.loop-i.invariant
-
 pub returns : goal.returns
-unfolding any_from
-returns c = gather-last (any_from 128) c.args.opcodes.now c.loop-i.i (search rules) refl c.loop-i.invariant
+returns c = fold_from_yields_List _ (λ found x. found || leb 128 x) _ _ c.fold.ensures.ran (YieldsList-from_slice c.args.opcodes.now cc) (λ a x b q k. search (rules, tests))
+    ∙ scanned (leb 128) false c.args.opcodes.now ∙ sym (any_from-list_any 128 c.args.opcodes.now)

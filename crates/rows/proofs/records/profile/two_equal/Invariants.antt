@@ -1,13 +1,8 @@
--- `profile::two_equal` meets its contract.
+-- `profile::two_equal` meets its contract. The loop's invariant: what is in the rest is in the whole.
 use mathlib.Core.Path.{◌≡◌}
-use mathlib.Core.Bool.{◌||◌}
-use Prim.Native.Nat.{◌-◌}
-use lib.ListN.{length, drop}
+use lib.ListN.{drop}
 use Rattle.rows.specs.records.Profiles.{two_equal}
 use Rattle.rows.proofs.records.profile.two_equal.Given as goal
 
-abbrev pub invariant-loop-j : goal.invariant-loop-j
-invariant-loop-j l = (l.found || two_equal (drop l.j l.opcodes)) ≡ two_equal l.opcodes
-
-abbrev pub decreases-loop-j : goal.decreases-loop-j
-decreases-loop-j l = length l.opcodes - l.j
+abbrev pub invariant-loop-i : goal.invariant-loop-i
+invariant-loop-i l = two_equal (drop l.i l.opcodes) ≡ two_equal l.opcodes
