@@ -2,20 +2,25 @@
 use mathlib.Core.Path.{◌≡◌, refl}
 use mathlib.Core.Bool.{true, false}
 use mathlib.Core.List.{List}
-use Prim.Native.Nat.{ℕ, zero, suc, ◌-◌, ◌<◌}
+use Prim.Native.Nat.{ℕ, zero, suc, ◌-◌, ◌<◌, ◌≤◌}
 use native.Mathlib.Omega.{arith}
-use borrow.Author.Tests.{lt-ltb, ltb-false, leb-false}
+use borrow.Author.Tests.{lt-ltb, ltb-false, leb-false, ne_eqb}
 use lib.Dec.{leb}
+use lib.ListN.{length}
+use Rattle.groups.specs.declared.helpers.OperationHelperRegisters.{OperationHelperRegisters}
+use Rattle.rows.specs.declared.records.state.StackState.{StackState}
+use Rattle.rows.specs.declared.cycles.tracer.CoreTraceGenerationTracer.{CoreTraceGenerationTracer}
+use Rattle.rows.specs.records.Forests.{Forest}
+use Rattle.rows.specs.records.Addresses.{Queues}
+use Rattle.rows.specs.cycles.Scans.{scan_of}
+use Rattle.rows.specs.cycles.Cycles.{cycle_with}
 use Rattle.groups.specs.Answer.{Answer, accepted, refused}
 use Rattle.rows.specs.declared.records.profile.Profile.{Profile}
-use Rattle.rows.specs.declared.cycles.made.Made.{Made}
 use Rattle.rows.specs.declared.cycles.made.MadeRow.{MadeRow}
 use Rattle.rows.specs.declared.cycles.scan.Scan.{Scan}
 use Rattle.rows.specs.records.Buffers.{buffer_row}
 use Rattle.rows.specs.passes.Passes.{flagged_end}
-use Rattle.rows.specs.cycles.Made.{told_made}
-use Rattle.rows.specs.cycles.LentTally.{count_in, is_free, is_of, first, place_for, counted_at, cannot_count, counts_next, row_addr, with_tally, unless_full, tally_after}
-use Rattle.rows.specs.ways.Inner.{HasRoom, InLimits, Countable}
+use Rattle.rows.specs.cycles.LentTally.{count_in, is_free, is_of, first, place_for, counted_at, cannot_count, counts_next, row_addr, with_tally, unless_full, tally_after, tallied_cycle}
 use Rattle.rows.proofs.passes.Checks.{neither}
 
 -- THE PLACE
@@ -70,14 +75,17 @@ module _ (p : Profile) (tally fragment : List ℕ) (rows : ℕ) where
     unfolding unless_full tally_after
     counted-there e n = record { answers = rw (e, n); leaves = rw (e, n, e) }
 
-  -- a row that is left had room
-  pub room-kept : (made counted : Made) (cells n : ℕ) → told_made counted ≡ unless_full p tally fragment rows (told_made made) → HasRoom made cells n → HasRoom counted cells n
-  unfolding unless_full
-  room-kept (Made.Row m) (Made.Row k) cells n e room = room
-  room-kept (Made.Refused a) (Made.Row k) cells n e room = let z : ◌≡◌ {A = ℕ} 0 1 = cc in absurd (omega arith)
-  room-kept made (Made.Refused b) cells n e room = tt
+-- a tally that is not too short has all its places
+pub all_places : (numbers : ℕ) (scan : Scan) → (with_tally numbers scan).too_large ≡ false → 512 ≤ numbers
+all_places numbers scan e = ltb-false numbers 512 (neither scan.too_large _ e).1
 
--- a row that is made can be counted
-pub countable : (made : Made) (numbers : ℕ) (scan : Scan) (rows : ℕ) → InLimits made (with_tally numbers scan).too_large rows → Countable made numbers rows
-countable (Made.Row m) numbers scan rows e = (e.1, ltb-false numbers 512 (neither scan.too_large _ e.0).1)
-countable (Made.Refused n) numbers scan rows e = tt
+-- a tracer that keeps a refusal answers it
+pub kept_cycle : (p : Profile) (f : Forest) (q : Queues) (stack : StackState) (registers : OperationHelperRegisters) (scan : Scan) (cells : ℕ) (t : CoreTraceGenerationTracer)
+    → (t.refusal ≡ 0 → ⊥) → cycle_with scan p f q stack registers cells t ≡ refused t.refusal
+unfolding cycle_with
+kept_cycle p f q stack registers scan cells t h = rw (ne_eqb t.refusal 0 h)
+
+pub kept_tallied : (p : Profile) (f : Forest) (q : Queues) (stack : StackState) (registers : OperationHelperRegisters) (tally fragment : List ℕ) (t : CoreTraceGenerationTracer)
+    → (t.refusal ≡ 0 → ⊥) → tallied_cycle p f q stack registers tally fragment t ≡ refused t.refusal
+unfolding tallied_cycle unless_full
+kept_tallied p f q stack registers tally fragment t h = rw (kept_cycle p f q stack registers (with_tally (length tally) (scan_of p f.nodes f.batches f.ops)) (length fragment) t h)

@@ -5,7 +5,9 @@ use Prim.Native.Nat.{ℕ, zero, suc, ◌+◌, ◌≤◌}
 use native.Mathlib.Omega.{arith}
 use lib.ListN.{length, get_or, take, drop}
 use lib.Seq.{drop-cons, take-take, take-add, take_all, length-take-le}
-use Rattle.rows.specs.records.Built.{cells16}
+use Rattle.std.specs.Prelude.{map, reverse}
+use Rattle.field.specs.Cells.{read, cell_at}
+use Rattle.rows.specs.records.Built.{cells16, reversed16, read16}
 
 -- n cells from cell i on, 0 past the end
 abbrev pub read_from : List ℕ → (i n : ℕ) → List ℕ
@@ -33,3 +35,12 @@ first-19 s h =
     ap (λ (l : List ℕ). l ++ (get_or s 16 0 ∷ get_or s 17 0 ∷ get_or s 18 0 ∷ [])) (all-16 (take 16 s) (length-take-le 16 s (omega arith)))
     ∙ ap (λ (l : List ℕ). take 16 s ++ l) (read_take s 16 3 h)
     ∙ sym (take-add 16 3 s)
+
+-- the last of 16 comes first
+pub reversed_16 : (t : List ℕ) → length t ≡ 16 → reversed16 t ≡ reverse t
+reversed_16 t h = ap (λ (l : List ℕ). reverse l) (all-16 t h)
+
+-- 16 cells, each read
+pub read_16 : (t : List ℕ) → length t ≡ 16 → map (λ x. read x) t ≡ read16 t
+unfolding cell_at
+read_16 t h = sym (ap (λ (l : List ℕ). map (λ x. read x) l) (all-16 t h))

@@ -18,14 +18,14 @@ use Rattle.groups.specs.Words.{word_at, read_word}
 use Rattle.groups.specs.Batches.{record_of, batch_of, is_batch, batch_at, starts_at}
 use Rattle.groups.specs.Contexts.{context_at_op, op_cells_of, cells_at_op}
 use Rattle.groups.specs.GroupOfOperation.{falling, group_from, group_of}
-use Rattle.groups.specs.Helpers.{all_below, read_registers, u32_values, six, helpers_of, helpers_of_cells, helpers_answer, told_helpers}
+use Rattle.groups.specs.Helpers.{all_below, read_registers, u32_values, six, helpers_of, helpers_of_cells, helpers_answer}
 use Rattle.groups.specs.declared.batch.BasicBlockNode.{BasicBlockNode}
 use Rattle.groups.specs.declared.batch.OpBatch.{OpBatch}
 use Rattle.groups.specs.declared.group.OpPlace.{OpPlace}
 use Rattle.groups.specs.declared.context.OpContext.{OpContext}
 use Rattle.groups.specs.declared.context.OpCells.{OpCells}
 use Rattle.groups.specs.declared.helpers.OperationHelperRegisters.{OperationHelperRegisters}
-use Rattle.groups.specs.declared.helpers.HelpersFound.{HelpersFound}
+use Rattle.groups.specs.declared.helpers.UserOpHelpers.{UserOpHelpers}
 use Rattle.groups.proofs.Answers.{then-accepted, held, passed}
 use Rattle.groups.proofs.OneGroup.{both, neither}
 use Rattle.rows.specs.declared.records.ids.MastNodeId.{MastNodeId}
@@ -93,13 +93,12 @@ stack_built r depth e =
 -- THE HELPERS
 
 -- number 18 names the case that has none
-pub no-helpers : (r : List ℕ) → get_or r 0 0 ≡ 18 → HelpersIn (HelpersFound.Are (six 0 0 0 0 0 0)) r
+pub no-helpers : (r : List ℕ) → get_or r 0 0 ≡ 18 → HelpersIn (Some (six 0 0 0 0 0 0)) r
 unfolding registers_in many_cells few_cells helpers_answer helpers_of_cells read_registers u32_values all_below helpers_of
 no-helpers r e = (OperationHelperRegisters.Empty, rw e, refl)
 
-pub helpers-of : (r : List ℕ) (registers : OperationHelperRegisters) (found : HelpersFound) → accepted registers ≡ registers_in r → told_helpers found ≡ helpers_answer registers → HelpersIn found r
-helpers-of r registers (HelpersFound.Are helpers) e h = (registers, sym e, sym h)
-helpers-of r registers (HelpersFound.Refused n) e h = tt
+pub helpers-of : (r : List ℕ) (registers : OperationHelperRegisters) (helpers : UserOpHelpers) → accepted registers ≡ registers_in r → accepted helpers ≡ helpers_answer registers → HelpersIn (Some helpers) r
+helpers-of r registers helpers e h = (registers, sym e, sym h)
 
 -- A PAIR
 

@@ -1,6 +1,7 @@
 -- One pair of a stretch: what its parts come to.
 use mathlib.Core.Path.{◌≡◌, refl, sym, ◌∙◌, ap}
 use mathlib.Core.Bool.{Bool, true, false}
+use Rattle.std.specs.Prelude.{Option, Some, None}
 use mathlib.Core.List.{List, ◌++◌}
 use Prim.Native.Nat.{ℕ, ◌+◌, ◌-◌, ◌*◌, ◌/◌, ◌<◌, ◌≤◌}
 use native.Mathlib.Omega.{arith}
@@ -9,7 +10,6 @@ use Rattle.field.specs.Cells.{reduced}
 use Rattle.groups.specs.Answer.{Answer, accepted, refused}
 use Rattle.groups.specs.Constants.{row_width}
 use Rattle.groups.specs.declared.helpers.UserOpHelpers.{UserOpHelpers}
-use Rattle.groups.specs.declared.helpers.HelpersFound.{HelpersFound}
 use Rattle.groups.specs.declared.context.OpCells.{OpCells}
 use Rattle.groups.proofs.Answers.{never}
 use Rattle.rows.specs.declared.records.ids.MastNodeId.{MastNodeId}
@@ -22,12 +22,9 @@ use Rattle.rows.specs.declared.records.decoder_row.DecoderRow.{DecoderRow}
 use Rattle.rows.specs.declared.records.continuation.Used.{Used}
 use Rattle.rows.specs.declared.records.continuation.StoredValues.{StoredValues}
 use Rattle.rows.specs.declared.cycles.tracer.CoreTraceGenerationTracer.{CoreTraceGenerationTracer}
-use Rattle.rows.specs.declared.cycles.made.Made.{Made}
 use Rattle.rows.specs.declared.cycles.made.MadeRow.{MadeRow}
-use Rattle.rows.specs.declared.replay.pairs.OpFound.{OpFound}
-use Rattle.rows.specs.declared.replay.pairs.OpStored.{OpStored}
+use Rattle.rows.specs.declared.replay.pairs.StoredOp.{StoredOp}
 use Rattle.rows.specs.declared.replay.pairs.PairEnd.{PairEnd}
-use Rattle.rows.specs.declared.replay.pairs.PairFound.{PairFound}
 use Rattle.rows.specs.declared.replay.pairs.Walk.{Walk}
 use Rattle.rows.specs.records.Forests.{Forest}
 use Rattle.rows.specs.records.Addresses.{Queues}
@@ -35,13 +32,9 @@ use Rattle.rows.specs.records.Built.{built_system, built_stack, system_cells}
 use Rattle.rows.specs.records.Cells.{row_written}
 use Rattle.rows.specs.records.DecoderRows.{operation, decoder_cells}
 use Rattle.rows.specs.records.CallRecords.{of32, stored_in_record, system_in, stack_in, record_at}
-use Rattle.rows.specs.cycles.Made.{Cursor, cursor, told_made, made}
+use Rattle.rows.specs.cycles.Made.{Cursor, cursor, made}
 use Rattle.rows.specs.ways.Pairs.{SystemBuilt, StackBuilt, RowBehind, StoresOperation, OperationIn, HelpersIn, pair_made, Makes, ArePair, PutBehind, TakesOperation, TakesPair, Onward, tracer_behind, StandsAt}
 use Rattle.rows.proofs.records.Rooms.{cells-in-two}
-
-pub makes-told : (r : Made) (answer : Answer MadeRow) → told_made r ≡ answer → Makes r answer
-makes-told (Made.Row m) answer e = sym e
-makes-told (Made.Refused n) answer e = tt
 
 -- the row that is written, and none where nothing is
 pub row-behind : (before : List ℕ) (row : ℕ) (decoder : DecoderRow) (entry exit first last : List ℕ) (system : SystemCols) →
@@ -58,13 +51,11 @@ put-none write before row m fragment w state depth es ed = rw w
 
 module _ (f : Forest) (push : ℕ) (id : MastNodeId) (index op : ℕ) (before c : List ℕ) (row : ℕ) (here : Cursor) (write : Bool) (entry exit : List ℕ) where
   -- an operation that is found, with its helpers
-  pub operation-taken : (found : OpFound) (opcode : ℕ) (cells : OpCells) (helped : HelpersFound) (helpers : UserOpHelpers) →
-      OperationIn found f push id index op → found ≡ OpFound.Is opcode cells → HelpersIn helped c → helped ≡ HelpersFound.Are helpers →
+  pub operation-taken : (opcode : ℕ) (cells : OpCells) (helpers : UserOpHelpers) →
+      OperationIn (Some (opcode, cells)) f push id index op → HelpersIn (Some helpers) c →
       ((m : MadeRow) → m.row ≡ operation opcode here.state.current_addr here.state.parent_addr cells.index cells.context.current_op_group cells.context.group_count_in_block helpers → PutBehind write before row m entry exit) →
-      TakesOperation (PairFound.Taken (record { state = here.state; at = here.at; used = Used.Nothing })) f push id index op before c row here write entry exit
-  operation-taken found opcode cells helped helpers o e h g put =
-      let is = rw e at o in
-      let (registers, are, told) = rw g at h in
+      TakesOperation (Some (record { here = here; used = Used.Nothing })) f push id index op before c row here write entry exit
+  operation-taken opcode cells helpers is (registers, are, told) put =
       let (following, makes) = is registers helpers here told in
       let m : MadeRow = record {
         row = operation opcode here.state.current_addr here.state.parent_addr cells.index cells.context.current_op_group cells.context.group_count_in_block helpers;
@@ -77,13 +68,12 @@ module _ (f : Forest) (push : ℕ) (id : MastNodeId) (index op : ℕ) (before c 
 
 module _ (f : Forest) (q : Queues) (p : Profile) (before s c : List ℕ) (row : ℕ) (here : Cursor) (write : Bool) (entry exit : List ℕ) where
   -- the pair of an operation that is stored
-  pub stored-taken : (stored : OpStored) (id : MastNodeId) (index op : ℕ) (found : PairFound) → StoresOperation stored s → stored ≡ OpStored.Is id index op →
-      TakesOperation found f p.push id index op before c row here write entry exit → TakesPair found f q p before s c row here write entry exit
+  pub stored-taken : (stored : StoredOp) (found : Option PairEnd) → StoresOperation (Some stored) s →
+      TakesOperation found f p.push stored.id stored.index stored.op before c row here write entry exit → TakesPair found f q p before s c row here write entry exit
   unfolding pair_made made
-  stored-taken stored id index op (PairFound.Taken end) st e (registers, are, m, makes, state, at, used, put) =
-      let (values, found, is) = rw e at st in
+  stored-taken stored (Some end) (values, found, is) (registers, are, m, makes, state, at, used, put) =
       (m, rw (found, are, is) makes, state, at, used, put)
-  stored-taken stored id index op PairFound.Not st e same = same
+  stored-taken stored None st same = same
 
 -- THE RECORDS AS THEY ARE LENT
 
@@ -116,14 +106,13 @@ module _ (records : List ℕ) (n : ℕ) where
       rw (e, g)
 
 -- a pair that is taken, as a walk's step
-pub onward : (f : Forest) (q : Queues) (p : Profile) (forest : ℕ) (records : List ℕ) (write : Bool) (w : Walk) (entry exit : List ℕ) (is : Bool) (found : PairFound) (end : PairEnd) →
+pub onward : (f : Forest) (q : Queues) (p : Profile) (forest : ℕ) (records : List ℕ) (write : Bool) (w : Walk) (entry exit : List ℕ) (is : Bool) (end : PairEnd) →
     0 < w.next → 32 * w.next + 32 + 32 ≤ length records → w.row < length entry / row_width →
     is ≡ true → ArePair is (lent_storing records w.next) (lent_cycle records w.next) forest →
-    found ≡ PairFound.Taken end →
-    TakesPair found f q p (lent_before records w.next) (lent_storing records w.next) (lent_cycle records w.next) w.row (cursor w.state w.at) write entry exit → length exit ≡ length entry →
-    Onward f q p forest records write w entry (record { next = w.next + 2; row = w.row + 1; state = end.state; at = end.at; used = end.used }) exit
-onward f q p forest records write w entry exit is found end some whole room t are e takes same =
-    let (m, makes, state, at, used, put) = rw (e, before-is records w.next some, storing-is records w.next, cycle-is records w.next) at takes in
+    TakesPair (Some end) f q p (lent_before records w.next) (lent_storing records w.next) (lent_cycle records w.next) w.row w.here write entry exit → length exit ≡ length entry →
+    Onward f q p forest records write w entry (record { next = w.next + 2; row = w.row + 1; here = end.here; used = end.used }) exit
+onward f q p forest records write w entry exit is end some whole room t are takes same =
+    let (m, makes, state, at, used, put) = rw (before-is records w.next some, storing-is records w.next, cycle-is records w.next) at takes in
     record {
       inside = omega (arith, whole);
       room = room;

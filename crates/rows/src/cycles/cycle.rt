@@ -34,6 +34,7 @@ pub struct Finished {
 }
 
 // What is left of the captured values.
+#[tactic(auto, unfolding(crate::specs::cycles::Cycles::left_after))]
 pub(crate) fn left_after(used: Used, captured: Captured) -> Captured
     ensures { result ≡ left_after used captured }
 {
@@ -56,6 +57,7 @@ pub(crate) fn left_after(used: Used, captured: Captured) -> Captured
 }
 
 // Every check of a finish in its order but the kept refusal, and what the continuation makes.
+#[tactic(auto, unfolding(crate::specs::cycles::Cycles::cycle_with))]
 fn checked(
     scan: Scan,
     cells: usize,
@@ -112,6 +114,7 @@ pub(crate) fn kept(refusal: u32, tracer: CoreTraceGenerationTracer) -> CoreTrace
 }
 
 // The tracer after a row.
+#[tactic(auto, unfolding(crate::specs::cycles::Cycles::tracer_after))]
 fn moved(
     row: MadeRow,
     system: SystemState,
@@ -134,6 +137,7 @@ fn moved(
 }
 
 // Writes the row that a tracer is at, where `write` says so.
+#[tactic(auto, unfolding(crate::specs::records::Cells::put_row, crate::specs::records::Cells::row_cells, crate::specs::cycles::Cycles::last_system, crate::specs::cycles::Cycles::last_stack))]
 fn put_row(
     write: bool,
     decoder: DecoderRow,
@@ -168,6 +172,7 @@ fn refused(refusal: u32, tracer: CoreTraceGenerationTracer) -> Finished
 }
 
 // What a row that was made, or a refusal, leaves; `write` says whether the row is written.
+#[tactic(auto, unfolding(crate::specs::cycles::Cycles::tracer_after, crate::specs::cycles::Cycles::fragment_after))]
 fn finish_made(
     write: bool,
     made: Result<MadeRow, Refusal>,
@@ -197,6 +202,7 @@ fn finish_made(
 
 // One finish, given what the scan found; `write` says whether its row is written. With another scan's answer it would not refuse, so it
 // stays inside the crate.
+#[tactic(auto, unfolding(crate::specs::cycles::Cycles::cycle_with, crate::specs::cycles::Cycles::tracer_after, crate::specs::cycles::Cycles::fragment_after))]
 pub(crate) fn cycle_with(
     write: bool,
     scan: Scan,
@@ -231,6 +237,7 @@ pub(crate) fn cycle_with(
 }
 
 // The row of a finish, counted in the tally; or the refusal.
+#[tactic(auto, unfolding(crate::specs::cycles::LentTally::tallied_cycle, crate::specs::cycles::LentTally::tally_after, crate::specs::cycles::LentTally::unless_full))]
 fn counted(
     forest: &LentForest,
     queues: &LentQueues,
@@ -268,6 +275,7 @@ fn counted(
 }
 
 // One finish: it writes one row of the fragment and counts in the tally, or keeps a refusal's number.
+#[tactic(auto, unfolding(crate::specs::cycles::LentTally::tallied_cycle, crate::specs::cycles::Cycles::tracer_after, crate::specs::cycles::LentTally::tally_after, crate::specs::cycles::Cycles::fragment_after))]
 pub fn finalize_clock_cycle(
     forest: &LentForest,
     queues: &LentQueues,

@@ -67,6 +67,7 @@ fn row_made(row: DecoderRow, here: Cursor, used: Used) -> MadeRow
     }
 }
 
+#[tactic(auto, unfolding(crate::specs::cycles::Made::call_kind))]
 fn call_kind(node: MastNode) -> Option<EndBlockStackEntryKind>
     ensures { told_or wrong_node_kind result ≡ call_kind node }
 {
@@ -76,6 +77,7 @@ fn call_kind(node: MastNode) -> Option<EndBlockStackEntryKind>
     }
 }
 
+#[tactic(auto, unfolding(crate::specs::cycles::Made::dyn_kind))]
 fn dyn_kind(node: MastNode) -> Option<EndBlockStackEntryKind>
     ensures { told_or wrong_node_kind result ≡ dyn_kind node }
 {
@@ -87,6 +89,7 @@ fn dyn_kind(node: MastNode) -> Option<EndBlockStackEntryKind>
 }
 
 // How the END of a node is marked, where the continuation is for this kind of node.
+#[tactic(auto, unfolding(crate::specs::cycles::Made::entry_kind, crate::specs::cycles::Made::block_kind, crate::specs::records::Forests::block_of))]
 fn entry_kind(finish: Finish, node: MastNode) -> Option<EndBlockStackEntryKind>
     ensures { told_or wrong_node_kind result ≡ entry_kind finish node }
 {
@@ -103,6 +106,7 @@ fn entry_kind(finish: Finish, node: MastNode) -> Option<EndBlockStackEntryKind>
 }
 
 // SPAN: 5 if the block has no batch, then 7.
+#[tactic(auto, unfolding(crate::specs::cycles::Made::start_block))]
 fn start_block(
     batches: &LentBatches,
     span: u8,
@@ -123,6 +127,7 @@ fn start_block(
 }
 
 // JOIN and SPLIT: 3 for each child, first child first.
+#[tactic(auto, unfolding(crate::specs::cycles::Made::start_two))]
 fn start_two(
     forest: &LentForest,
     opcode: u8,
@@ -139,6 +144,7 @@ fn start_two(
 }
 
 // LOOP and CALL: 3 for the child.
+#[tactic(auto, unfolding(crate::specs::cycles::Made::start_one))]
 fn start_one(
     forest: &LentForest,
     opcode: u8,
@@ -154,6 +160,7 @@ fn start_one(
 }
 
 // DYN: 23 for the callee word.
+#[tactic(auto, unfolding(crate::specs::cycles::Made::start_dyn))]
 fn start_dyn(opcode: u8, callee: Option<Word>, here: Cursor) -> Result<MadeRow, Refusal>
     ensures { told result ≡ start_dyn opcode callee here }
 {
@@ -164,6 +171,7 @@ fn start_dyn(opcode: u8, callee: Option<Word>, here: Cursor) -> Result<MadeRow, 
 }
 
 // DYNCALL: 23 for the callee word, then for the context info.
+#[tactic(auto, unfolding(crate::specs::cycles::Made::start_dyncall))]
 fn start_dyncall(
     opcode: u8,
     callee: Option<Word>,
@@ -185,6 +193,7 @@ fn start_dyncall(
 }
 
 // The start row of a node, by its kind; 4 for an external node, 31 for a SYSCALL node.
+#[tactic(auto, unfolding(crate::specs::cycles::Made::start_kind))]
 fn start_kind(
     forest: &LentForest,
     profile: Profile,
@@ -210,6 +219,7 @@ fn start_kind(
 }
 
 // StartNode: 20, 21, then 3, then by kind.
+#[tactic(auto, unfolding(crate::specs::cycles::Made::start_node, crate::specs::records::Addresses::start_answer, crate::specs::records::Addresses::start_state))]
 fn start_node(
     forest: &LentForest,
     queues: &LentQueues,
@@ -230,6 +240,7 @@ fn start_node(
 }
 
 // END: 3, 4 where the continuation is for one kind of node, 22.
+#[tactic(auto, unfolding(crate::specs::cycles::Made::made_end, crate::specs::records::Addresses::end_answer))]
 fn finish_node(
     forest: &LentForest,
     queues: &LentQueues,
@@ -261,6 +272,7 @@ fn finish_node(
 }
 
 // REPEAT: 3, 4, and 3 for the body's digest.
+#[tactic(auto, unfolding(crate::specs::cycles::Made::made_repeat, crate::specs::cycles::Made::body_of))]
 fn repeat_row(
     forest: &LentForest,
     repeat: u8,
@@ -282,6 +294,7 @@ fn repeat_row(
 }
 
 // FinishLoop: 23 if there is no condition; REPEAT at one, END at zero.
+#[tactic(auto, unfolding(crate::specs::cycles::Made::finish_loop))]
 fn finish_loop(
     forest: &LentForest,
     queues: &LentQueues,
@@ -311,6 +324,7 @@ fn finish_loop(
 }
 
 // An operation's row in its context: 9.
+#[tactic(auto, unfolding(crate::specs::cycles::Made::operation_made))]
 fn operation_row(
     opcode: u8,
     found: OpContext,
@@ -339,6 +353,7 @@ fn operation_row(
 }
 
 // ResumeBasicBlock: 3, 4, 5, 6, 8, 9.
+#[tactic(auto, unfolding(crate::specs::cycles::Made::resumed))]
 fn resume(
     forest: &LentForest,
     push: u8,
@@ -367,6 +382,7 @@ fn resume(
 }
 
 // Respan: 3, 4, 5, 7.
+#[tactic(auto, unfolding(crate::specs::cycles::Made::made_respan))]
 fn respan(
     forest: &LentForest,
     opcode: u8,
@@ -425,6 +441,7 @@ fn continuation_kind(continuation: Continuation) -> ContinuationKind
 }
 
 // What the continuation makes, by its kind; 4 for EnterForest.
+#[tactic(auto, unfolding(crate::specs::cycles::Made::made))]
 pub fn make(
     forest: &LentForest,
     queues: &LentQueues,

@@ -24,6 +24,7 @@ pub(crate) fn with_tally(numbers: usize, scan: Scan) -> Scan
     }
 }
 
+#[tactic(auto, unfolding(crate::specs::cycles::LentTally::is_free))]
 fn is_free(tally: &[u64], place: usize) -> bool
     requires { place ≤ 256 }
     ensures { result ≡ is_free tally.now place }
@@ -32,6 +33,7 @@ fn is_free(tally: &[u64], place: usize) -> bool
 }
 
 // Whether a place is in use with the address.
+#[tactic(auto, unfolding(crate::specs::cycles::LentTally::is_of))]
 fn is_of(tally: &[u64], addr: u64, place: usize) -> bool
     requires { place ≤ 256 }
     ensures { result ≡ is_of tally.now addr place }
@@ -40,6 +42,7 @@ fn is_of(tally: &[u64], addr: u64, place: usize) -> bool
 }
 
 // The first place in use with the address, else the first free one; 256 where there is neither.
+#[tactic(auto, unfolding(crate::specs::cycles::LentTally::place_for))]
 fn place_for(tally: &[u64], addr: u64) -> usize
     ensures value { result ≡ place_for tally.now addr }
     ensures upper_bound { result ≤ 256 }
@@ -57,6 +60,7 @@ fn place_for(tally: &[u64], addr: u64) -> usize
 }
 
 // Refusal 32: no place is left, or the count at the place can't grow.
+#[tactic(auto, unfolding(crate::specs::cycles::LentTally::cannot_count))]
 fn cannot_count(tally: &[u64], place: usize) -> bool
     requires { place ≤ 256 }
     ensures { result ≡ cannot_count tally.now place }
@@ -65,6 +69,7 @@ fn cannot_count(tally: &[u64], place: usize) -> bool
 }
 
 // Counts the address at a place.
+#[tactic(auto, unfolding(crate::specs::cycles::LentTally::counted_at))]
 fn count_at(tally: &mut [u64], addr: u64, place: usize)
     requires { (place < 256) × (512 ≤ length tally.old) × (count_in tally.old place < most_rows) }
     ensures { tally.new ≡ counted_at tally.old addr place }
@@ -78,6 +83,7 @@ fn count_at(tally: &mut [u64], addr: u64, place: usize)
 }
 
 // Whether the row before is a flagged END.
+#[tactic(auto, unfolding(crate::specs::cycles::LentTally::counts_next))]
 fn counts_next(profile: Profile, fragment: &[u64], rows: usize) -> bool
     requires { rows < most_rows }
     ensures { result ≡ counts_next profile fragment.now rows }
@@ -89,6 +95,7 @@ fn counts_next(profile: Profile, fragment: &[u64], rows: usize) -> bool
 }
 
 // Counts the address of a row that was made where the row before is a flagged END, or refuses with 32.
+#[tactic(auto, unfolding(crate::specs::cycles::LentTally::unless_full, crate::specs::cycles::LentTally::tally_after))]
 pub(crate) fn count_row(
     profile: Profile,
     tally: &mut [u64],

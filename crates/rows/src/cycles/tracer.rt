@@ -48,6 +48,7 @@ pub struct FragmentEnd {
 
 impl CoreTraceGenerationTracer {
     // A fresh tracer: nothing stored, no refusal, no row. The addresses are read modulo p.
+    #[tactic(auto, unfolding(crate::specs::cycles::Cycles::fresh))]
     pub fn new(state: DecoderState, at: Positions) -> Self
         ensures { result ≡ fresh state at }
     {
@@ -69,6 +70,7 @@ impl CoreTraceGenerationTracer {
     }
 
     // Stores the values for the next finish, their cells read modulo p. It checks none of them.
+    #[tactic(auto, unfolding(crate::specs::cycles::Cycles::stored_in))]
     pub fn start_clock_cycle(self, values: StoredValues) -> Stored
         ensures { (result.refusal ≡ self.refusal) × (result.tracer ≡ stored_in self values) }
     {
@@ -88,6 +90,7 @@ impl CoreTraceGenerationTracer {
     }
 
     // The system cells of the next row: those built last, zeros before the first row.
+    #[tactic(auto, unfolding(crate::specs::cycles::Cycles::last_system))]
     pub(crate) fn last_system(self) -> SystemCols
         ensures { result ≡ last_system self }
     {
@@ -98,6 +101,7 @@ impl CoreTraceGenerationTracer {
     }
 
     // The stack cells of the next row.
+    #[tactic(auto, unfolding(crate::specs::cycles::Cycles::last_stack))]
     pub(crate) fn last_stack(self) -> StackCols
         ensures { result ≡ last_stack self }
     {
@@ -108,6 +112,7 @@ impl CoreTraceGenerationTracer {
     }
 
     // The final state of the fragment, its cells read modulo p.
+    #[tactic(auto, unfolding(crate::specs::cycles::Cycles::final_state))]
     pub fn into_final_state(self) -> TracerFinalState
         ensures { result ≡ final_state self }
     {
@@ -136,6 +141,7 @@ fn count_for_passes(rows: usize) -> u32
 }
 
 // The 25 cells, those of the system first.
+#[tactic(auto, unfolding(crate::specs::records::Built::system_cells, crate::specs::records::Built::stack_cells))]
 fn built_cells(system: SystemCols, stack: StackCols) -> [u64; 25]
     ensures { result ≡ system_cells system ++ stack_cells stack }
 {
@@ -151,12 +157,14 @@ fn built_cells(system: SystemCols, stack: StackCols) -> [u64; 25]
 impl TracerFinalState {
     // What the passes take. Calls write at most 2^24 rows, so their count fits 32 bits. A tracer that somebody else made may count more; what
     // is handed over is then above 2^24 too, and every pass that takes counts refuses it (11).
+    #[tactic(auto, unfolding(crate::specs::cycles::Cycles::for_passes))]
     pub fn for_passes(self) -> FragmentEnd
         ensures { result ≡ for_passes self }
     {
+        let built = built_cells(self.last_system_cols, self.last_stack_cols);
         FragmentEnd {
             count: count_for_passes(self.num_rows_written),
-            built: built_cells(self.last_system_cols, self.last_stack_cols),
+            built,
         }
     }
 }

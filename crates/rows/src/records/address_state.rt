@@ -50,6 +50,7 @@ pub struct LentQueues<'a> {
 }
 
 // The entry at a position of a queue of single cells.
+#[tactic(auto, unfolding(crate::specs::records::Addresses::entry_at))]
 fn entry_at(queue: &[u64], at: usize) -> Option<u64>
     ensures { (refusal : ℕ) → told_or refusal result ≡ entry_at refusal queue.now at }
 {
@@ -61,6 +62,7 @@ fn entry_at(queue: &[u64], at: usize) -> Option<u64>
 
 impl<'a> LentQueues<'a> {
     // The entry at a position of the end queue.
+    #[tactic(auto, unfolding(crate::specs::records::Addresses::end_at))]
     pub fn end_at(&self, at: usize) -> Option<NodeEndData>
         ensures { told_or end_queue_empty result ≡ end_at self.now.ends.now at }
     {
@@ -75,6 +77,7 @@ impl<'a> LentQueues<'a> {
     }
 
     // A node starts: its address and its parent's come from their queues. 20, 21: a queue is used up.
+    #[tactic(auto, unfolding(crate::specs::records::Addresses::started_at, crate::specs::records::Addresses::entry_at))]
     fn start_step(&self, at: Positions) -> Result<Cursor, Refusal>
         ensures { told result ≡ started self.now.addresses.now self.now.parents.now at }
     {
@@ -98,6 +101,7 @@ impl<'a> LentQueues<'a> {
     }
 
     // A node ends: the queue's entry gives its address and the state after it. 22: the queue is used up.
+    #[tactic(auto, unfolding(crate::specs::records::Addresses::end_at))]
     fn end_step(&self, at: Positions) -> Result<(u64, Cursor), Refusal>
         ensures { told result ≡ ended self.now.ends.now at }
     {
@@ -121,6 +125,7 @@ impl<'a> LentQueues<'a> {
 
 impl DecoderState {
     // The addresses read modulo p.
+    #[tactic(auto, unfolding(crate::specs::records::Addresses::read_state))]
     pub fn read(self) -> Self
         ensures { result ≡ read_state self }
     {
@@ -131,6 +136,7 @@ impl DecoderState {
     }
 
     // A node starts, on a lent state: from then on it names that node and its parent. 20, 21 leave it as it was.
+    #[tactic(auto, unfolding(crate::specs::records::Addresses::start_answer, crate::specs::records::Addresses::start_state))]
     pub fn replay_node_start(
         &mut self,
         queues: &LentQueues,
@@ -145,6 +151,7 @@ impl DecoderState {
     }
 
     // A node ends, on a lent state: from then on it names the node around it. 22 leaves it as it was.
+    #[tactic(auto, unfolding(crate::specs::records::Addresses::end_answer, crate::specs::records::Addresses::end_state))]
     pub fn replay_node_end(
         &mut self,
         queues: &LentQueues,
@@ -160,6 +167,7 @@ impl DecoderState {
 }
 
 // A new batch: the current address grows by the step modulo p.
+#[tactic(auto, unfolding(crate::specs::records::Addresses::respan_step))]
 pub fn respan_step(state: DecoderState, step: u64) -> DecoderState
     ensures { result ≡ respan_step step state }
 {

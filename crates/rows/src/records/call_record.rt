@@ -15,13 +15,18 @@ use groups::refusal::Refusal;
 use groups::word::{QuadFelt, Word, word_at};
 
 // The number, where it has 32 bits.
+#[tactic(auto, unfolding(crate::specs::records::CallRecords::of32))]
 pub fn narrow(x: u64) -> Option<u32>
     ensures { ReadAs32 result x }
 {
-    u32::try_from(x).ok()
+    match u32::try_from(x) {
+        Ok(number) => Some(number),
+        Err(_) => None,
+    }
 }
 
 // Number 6: 0 absent, 1 zero, 2 one.
+#[tactic(auto, unfolding(crate::specs::records::CallRecords::condition_in))]
 fn condition_at(numbers: &[u64]) -> Option<bool>
     ensures { result ≡ condition_in numbers.now }
 {
@@ -32,6 +37,7 @@ fn condition_at(numbers: &[u64]) -> Option<bool>
 }
 
 // Number 7: 1 present; the word is numbers 8 to 11.
+#[tactic(auto, unfolding(crate::specs::records::CallRecords::callee_in))]
 fn callee_at(numbers: &[u64]) -> Option<Word>
     ensures { result ≡ callee_in numbers.now }
 {
@@ -42,6 +48,7 @@ fn callee_at(numbers: &[u64]) -> Option<Word>
 }
 
 // Number 12: 1 present; 13 the depth, 14 the next overflow address. A depth over 32 bits: 23.
+#[tactic(auto, unfolding(crate::specs::records::CallRecords::info_in))]
 fn info_at(numbers: &[u64]) -> Result<Option<ExecutionContextInfo>, Refusal>
     ensures { told result ≡ info_in numbers.now }
 {
@@ -56,6 +63,7 @@ fn info_at(numbers: &[u64]) -> Result<Option<ExecutionContextInfo>, Refusal>
 }
 
 // ResumeBasicBlock: number 3 the batch (5), number 4 the operation (6).
+#[tactic(auto, unfolding(crate::specs::records::CallRecords::resume_in))]
 fn resume_at(numbers: &[u64], node_id: MastNodeId) -> Result<Continuation, Refusal>
     ensures { told result ≡ resume_in numbers.now node_id }
 {
@@ -69,6 +77,7 @@ fn resume_at(numbers: &[u64], node_id: MastNodeId) -> Result<Continuation, Refus
 }
 
 // Respan: number 3 the batch (5).
+#[tactic(auto, unfolding(crate::specs::records::CallRecords::respan_in))]
 fn respan_at(numbers: &[u64], node_id: MastNodeId) -> Result<Continuation, Refusal>
     ensures { told result ≡ respan_in numbers.now node_id }
 {
@@ -80,6 +89,7 @@ fn respan_at(numbers: &[u64], node_id: MastNodeId) -> Result<Continuation, Refus
 }
 
 // The continuation of a kind on a node; a number that names no kind: 23.
+#[tactic(auto, unfolding(crate::specs::records::CallRecords::continuation_on))]
 fn continuation_on(numbers: &[u64], kind: u64, id: MastNodeId) -> Result<Continuation, Refusal>
     ensures { told result ≡ continuation_on numbers.now kind id }
 {
@@ -98,6 +108,7 @@ fn continuation_on(numbers: &[u64], kind: u64, id: MastNodeId) -> Result<Continu
 }
 
 // Whether a number names none of the kinds 1 to 10.
+#[tactic(auto, unfolding(crate::specs::records::CallRecords::names_no_kind))]
 fn names_no_kind(kind: u64) -> bool
     ensures { result ≡ names_no_kind kind }
 {
@@ -105,6 +116,7 @@ fn names_no_kind(kind: u64) -> bool
 }
 
 // Number 1 the kind (23), number 2 the node (3), which EnterForest has not.
+#[tactic(auto, unfolding(crate::specs::records::CallRecords::continuation_in))]
 fn continuation_at(numbers: &[u64]) -> Result<Continuation, Refusal>
     ensures { told result ≡ continuation_in numbers.now }
 {
@@ -120,6 +132,7 @@ fn continuation_at(numbers: &[u64]) -> Result<Continuation, Refusal>
 }
 
 // Whether flag (5), condition (6), or presence of the word (7) or the info (12) is a number that names nothing.
+#[tactic(auto, unfolding(crate::specs::records::CallRecords::names_nothing))]
 pub(crate) fn names_nothing(numbers: &[u64]) -> bool
     ensures { result ≡ names_nothing numbers.now }
 {
@@ -129,6 +142,7 @@ pub(crate) fn names_nothing(numbers: &[u64]) -> bool
 }
 
 // What a storing is given, or the lowest number that holds of 3, 5, 6 and 23.
+#[tactic(auto, unfolding(crate::specs::records::CallRecords::stored_in_record))]
 pub fn stored_at(numbers: &[u64]) -> Result<StoredValues, Refusal>
     ensures { told result ≡ stored_in_record numbers.now }
 {
@@ -149,6 +163,7 @@ pub fn stored_at(numbers: &[u64]) -> Result<StoredValues, Refusal>
 }
 
 // Number 2 the clock row, 3 the context, each of 32 bits (23), 4 to 7 fn_hash.
+#[tactic(auto, unfolding(crate::specs::records::CallRecords::system_in))]
 pub fn system_at(numbers: &[u64]) -> Option<SystemState>
     ensures { told_or stored_absent result ≡ system_in numbers.now }
 {
@@ -162,6 +177,7 @@ pub fn system_at(numbers: &[u64]) -> Option<SystemState>
 }
 
 // Numbers 8 to 23 the top of the stack, last first, 25 the overflow address; the depth (24) is given.
+#[tactic(auto, unfolding(crate::specs::records::CallRecords::stack_in))]
 pub fn stack_at(numbers: &[u64], stack_depth: u32) -> StackState
     ensures { result ≡ stack_in numbers.now stack_depth }
 {
@@ -191,6 +207,7 @@ pub fn stack_at(numbers: &[u64], stack_depth: u32) -> StackState
 }
 
 // The cases that have one or two cells.
+#[tactic(auto, unfolding(crate::specs::records::CallRecords::few_cells))]
 fn few_cells(kind: u64, a: u64, b: u64) -> Option<OperationHelperRegisters>
     ensures { told_or stored_absent result ≡ few_cells kind a b }
 {
@@ -219,6 +236,7 @@ fn few_cells(kind: u64, a: u64, b: u64) -> Option<OperationHelperRegisters>
 }
 
 // The cases that have more, then the others; a number that names no case is none.
+#[tactic(auto, unfolding(crate::specs::records::CallRecords::many_cells))]
 fn registers_of(kind: u64, a: Word, b: Word) -> Option<OperationHelperRegisters>
     ensures { told_or stored_absent result ≡ many_cells kind a b }
 {
@@ -252,6 +270,7 @@ fn registers_of(kind: u64, a: Word, b: Word) -> Option<OperationHelperRegisters>
 }
 
 // Number 0 the case, numbers 26 to 31 its cells in the order of its fields.
+#[tactic(auto, unfolding(crate::specs::records::CallRecords::registers_in, crate::specs::records::CallRecords::many_cells, crate::specs::records::CallRecords::few_cells))]
 pub fn registers_at(numbers: &[u64]) -> Option<OperationHelperRegisters>
     ensures { told_or stored_absent result ≡ registers_in numbers.now }
 {

@@ -57,6 +57,7 @@ pub struct Captured {
 
 impl Captured {
     // The captured values with their cells read modulo p.
+    #[tactic(auto, unfolding(crate::specs::records::Captured::read_captured))]
     pub fn read(self) -> Self
         ensures { result ≡ read_captured self }
     {

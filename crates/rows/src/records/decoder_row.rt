@@ -36,6 +36,7 @@ pub struct EndBlockFlags {
 
 impl EndBlockFlags {
     // h4 to h7 of an END.
+    #[tactic(auto, unfolding(crate::specs::records::DecoderRows::end_word))]
     pub fn to_hasher_state_second_word(self) -> Word
         ensures { result ≡ end_word self }
     {
@@ -55,6 +56,7 @@ impl EndBlockFlags {
 
 impl DecoderRow {
     // A start, REPEAT or END row.
+    #[tactic(auto, unfolding(crate::specs::records::DecoderRows::control_flow))]
     pub fn new_control_flow(opcode: u8, first: Word, second: Word, addr: u64) -> Self
         ensures { result ≡ control_flow opcode first second addr }
     {
@@ -71,6 +73,7 @@ impl DecoderRow {
     }
 
     // A SPAN or RESPAN row.
+    #[tactic(auto, unfolding(crate::specs::records::DecoderRows::basic_block_batch))]
     pub fn new_basic_block_batch(
         opcode: u8,
         batch: OpBatch,
@@ -93,6 +96,7 @@ impl DecoderRow {
     }
 
     // An operation's row.
+    #[tactic(auto, unfolding(crate::specs::records::DecoderRows::operation))]
     pub fn new_operation(
         opcode: u8,
         addr: u64,

@@ -41,6 +41,7 @@ pub struct LentForest<'a> {
 }
 
 // The node of a slot, by what it holds; a number that names no kind is no node.
+#[tactic(auto, unfolding(crate::specs::records::Forests::node_of))]
 fn node_of(kind: u32, first: u32, second: u32, block: BasicBlockNode) -> Option<MastNode>
     ensures { IsNodeOf result kind first second block }
 {
@@ -60,6 +61,7 @@ fn node_of(kind: u32, first: u32, second: u32, block: BasicBlockNode) -> Option<
 
 impl<'a> LentForest<'a> {
     // Whether the slot's six numbers and four cells lie whole in the slices.
+    #[tactic(auto, unfolding(crate::specs::records::Forests::is_slot))]
     fn is_slot(&self, id: MastNodeId) -> bool
         ensures { result ≡ is_slot self.now.nodes.now self.now.digests.now id.0 }
     {
@@ -68,6 +70,7 @@ impl<'a> LentForest<'a> {
     }
 
     // What the slot holds: its first number, 0 where it does not lie whole in the slices.
+    #[tactic(auto, unfolding(crate::specs::ways::Inner::kind_at))]
     pub(crate) fn kind_at(&self, id: MastNodeId) -> u32
         ensures { result ≡ kind_at self.now.nodes.now self.now.digests.now id.0 }
     {
@@ -90,6 +93,7 @@ impl<'a> LentForest<'a> {
     }
 
     // The node of an id.
+    #[tactic(auto, unfolding(crate::specs::records::Forests::node_at))]
     pub fn node_at(&self, id: MastNodeId) -> Option<NodeEntry>
         ensures { told_or no_such_node result ≡ node_at self.now.nodes.now self.now.digests.now id.0 }
     {
@@ -106,6 +110,7 @@ impl<'a> LentForest<'a> {
     }
 
     // The digest of an id, of a node or of a slot that has its digest alone.
+    #[tactic(auto, unfolding(crate::specs::records::Forests::digest_at, crate::specs::ways::Inner::kind_at))]
     pub fn digest_at(&self, id: MastNodeId) -> Option<Word>
         ensures { told_or no_such_node result ≡ digest_at self.now.nodes.now self.now.digests.now id.0 }
     {
@@ -117,6 +122,7 @@ impl<'a> LentForest<'a> {
     }
 
     // The opcode of operation `op` of the batch; none past the batch's operations, nor past the slice.
+    #[tactic(auto, unfolding(crate::specs::records::Forests::opcode_at))]
     pub fn opcode_at(&self, batch: OpBatch, op: u32) -> Option<u8>
         ensures { told_or no_such_operation result ≡ opcode_at self.now.ops.now batch op }
     {
@@ -131,6 +137,7 @@ impl<'a> LentForest<'a> {
 
 impl MastNode {
     // The block that a node is.
+    #[tactic(auto, unfolding(crate::specs::records::Forests::block_of))]
     pub fn as_block(self) -> Option<BasicBlockNode>
         ensures { told_or wrong_node_kind result ≡ block_of self }
     {

@@ -13,6 +13,7 @@ use groups::constants::{Column, Row};
 use groups::word::read_word;
 
 // Copies all of `src`, read modulo p, into `dst` from index `at` on; where it does not fit, nothing is changed.
+#[tactic(auto, unfolding(crate::specs::records::Cells::copied_in))]
 pub fn copy_in(dst: &mut [u64], at: usize, src: &[u64])
     ensures { dst.new ≡ copied_in dst.old at src.now }
 {
@@ -28,6 +29,7 @@ pub fn copy_in(dst: &mut [u64], at: usize, src: &[u64])
 }
 
 // Copies all of `src` into `dst` from index `at` on; where it does not fit, nothing is changed.
+#[tactic(auto, unfolding(crate::specs::records::Cells::put_in))]
 fn put_in(dst: &mut [u64], at: usize, src: &[u64])
     ensures { dst.new ≡ put_in dst.old at src.now }
 {
@@ -54,6 +56,7 @@ fn extra_1(op: u64) -> u64
 }
 
 // The system and decoder cells of a row, reduced. The op bits are reduced by themselves.
+#[tactic(auto, unfolding(crate::specs::records::Built::system_cells, crate::specs::records::DecoderRows::decoder_cells))]
 pub(crate) fn first_cells(system: SystemCols, d: DecoderRow) -> [u64; 30]
     ensures { result ≡ reduced (system_cells system ++ decoder_cells d) }
 {
@@ -96,6 +99,7 @@ pub(crate) fn first_cells(system: SystemCols, d: DecoderRow) -> [u64; 30]
 }
 
 // The stack cells of a row, reduced.
+#[tactic(auto, unfolding(crate::specs::records::Built::stack_cells))]
 fn last_cells(stack: StackCols) -> [u64; 19]
     ensures { result ≡ reduced (stack_cells stack) }
 {
@@ -108,6 +112,7 @@ fn last_cells(stack: StackCols) -> [u64; 19]
 }
 
 // Writes the cells of row `row` in two parts; where the buffer has no such row, nothing is changed.
+#[tactic(auto, unfolding(crate::specs::records::Cells::row_written))]
 pub(crate) fn put_cells(buffer: &mut [u64], row: usize, first: [u64; 30], last: [u64; 19])
     ensures { buffer.new ≡ row_written buffer.old row (first ++ last) }
 {
@@ -119,6 +124,7 @@ pub(crate) fn put_cells(buffer: &mut [u64], row: usize, first: [u64; 30], last: 
 }
 
 // Writes row `row`: 6 system cells, 24 decoder cells, 19 stack cells; where the buffer has no such row, nothing is changed.
+#[tactic(auto, unfolding(crate::specs::records::Cells::row_written, crate::specs::records::Cells::row_cells))]
 pub fn write_row(
     buffer: &mut [u64],
     row: usize,
@@ -132,6 +138,7 @@ pub fn write_row(
 }
 
 // Refusal 11 of the fragment.
+#[tactic(auto, unfolding(crate::specs::records::Cells::fragment_wrong))]
 pub fn fragment_wrong(cells: usize, rows: usize) -> bool
     ensures { result ≡ fragment_wrong cells rows }
 {

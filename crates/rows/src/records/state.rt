@@ -38,6 +38,7 @@ pub struct StackCols {
 
 impl SystemCols {
     // The cells before any row is built.
+    #[tactic(auto, unfolding(crate::specs::records::Built::no_system))]
     pub fn zeros() -> Self
         ensures { result ≡ no_system }
     {
@@ -49,6 +50,7 @@ impl SystemCols {
     }
 
     // The next row's cells.
+    #[tactic(auto, unfolding(crate::specs::records::Built::built_system))]
     pub fn build(system: SystemState) -> Self
         ensures { result ≡ built_system system }
     {
@@ -60,6 +62,7 @@ impl SystemCols {
     }
 
     // The cells read modulo p.
+    #[tactic(auto, unfolding(crate::specs::records::Built::read_system))]
     pub fn read(self) -> Self
         ensures { result ≡ read_system self }
     {
@@ -86,15 +89,23 @@ fn reversed(mut top: [u64; 16]) -> [u64; 16]
     top
 }
 
-// 16 cells read modulo p.
+// 16 cells read modulo p, word by word: a proof of `map` over the array did not close.
+#[tactic(auto, unfolding(groups::specs::Words::word_at))]
 fn read_top(t: [u64; 16]) -> [u64; 16]
     ensures { result ≡ read16 t }
 {
-    t.map(reduce)
+    let a = word_at(&t, 0);
+    let b = word_at(&t, 4);
+    let c = word_at(&t, 8);
+    let d = word_at(&t, 12);
+    [
+        a.0, a.1, a.2, a.3, b.0, b.1, b.2, b.3, c.0, c.1, c.2, c.3, d.0, d.1, d.2, d.3,
+    ]
 }
 
 impl StackCols {
     // The cells before any row is built.
+    #[tactic(auto, unfolding(crate::specs::records::Built::no_stack))]
     pub fn zeros() -> Self
         ensures { result ≡ no_stack }
     {
@@ -107,12 +118,15 @@ impl StackCols {
     }
 
     // The next row's cells.
+    #[tactic(auto, unfolding(crate::specs::records::Built::built_stack))]
     pub fn build(stack: StackState) -> Self
         ensures { result ≡ built_stack stack }
     {
         let depth = u64::from(stack.stack_depth);
+        let stored = stack.stack_top;
+        let top = read_top(reversed(stored));
         Self {
-            top: read_top(reversed(stack.stack_top)),
+            top,
             b0: depth,
             b1: reduce(stack.overflow_addr),
             h0: overflow_helper(depth),
@@ -120,11 +134,14 @@ impl StackCols {
     }
 
     // The cells read modulo p.
+    #[tactic(auto, unfolding(crate::specs::records::Built::read_stack))]
     pub fn read(self) -> Self
         ensures { result ≡ read_stack self }
     {
+        let stored = self.top;
+        let top = read_top(stored);
         Self {
-            top: read_top(self.top),
+            top,
             b0: reduce(self.b0),
             b1: reduce(self.b1),
             h0: reduce(self.h0),

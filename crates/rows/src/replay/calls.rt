@@ -47,6 +47,7 @@ pub struct LentSetting<'a> {
 }
 
 // A record that encodes nothing: its number is kept, unless one is.
+#[tactic(auto, unfolding(crate::specs::replay::Calls::refusing))]
 fn refuse(refusal: Refusal, tracer: CoreTraceGenerationTracer) -> CoreTraceGenerationTracer
     ensures { result ≡ refusing (number_of refusal) tracer }
 {
@@ -57,6 +58,7 @@ fn refuse(refusal: Refusal, tracer: CoreTraceGenerationTracer) -> CoreTraceGener
 }
 
 // A storing.
+#[tactic(auto, unfolding(crate::specs::ways::Inner::storing_done, crate::specs::records::CallRecords::stored_in_record))]
 fn store(numbers: &[u64], tracer: CoreTraceGenerationTracer) -> CoreTraceGenerationTracer
     ensures { result ≡ storing_done tracer (stored_in_record numbers.now) }
 {
@@ -67,6 +69,7 @@ fn store(numbers: &[u64], tracer: CoreTraceGenerationTracer) -> CoreTraceGenerat
 }
 
 // A finish in the forest of a number. `write` says whether its row is written.
+#[tactic(auto, unfolding(crate::specs::replay::Calls::call_done, crate::specs::replay::Calls::call_written))]
 fn finish_in(
     write: bool,
     setting: &LentSetting,
@@ -103,6 +106,7 @@ fn finish_in(
 }
 
 // A cycle of a record.
+#[tactic(auto, unfolding(crate::specs::replay::Calls::call_done, crate::specs::records::CallRecords::finish_in, crate::specs::replay::Calls::call_written))]
 fn cycle_call(
     write: bool,
     setting: &LentSetting,
@@ -137,6 +141,7 @@ fn cycle_call(
 }
 
 // One call.
+#[tactic(auto, unfolding(crate::specs::replay::Calls::call_done, crate::specs::records::CallRecords::call_in, crate::specs::replay::Calls::call_written))]
 fn call(
     write: bool,
     setting: &LentSetting,
@@ -180,6 +185,7 @@ fn go_on(
 }
 
 // All whole records in their order, on a tracer. No `for`: a stretch of pairs is behind more than one record.
+#[tactic(auto, unfolding(crate::specs::replay::Calls::through, crate::specs::replay::Calls::written))]
 fn run(
     write: bool,
     setting: &LentSetting,
@@ -203,6 +209,7 @@ fn run(
 }
 
 // A part of a record at the end of the list is refused by 11.
+#[tactic(auto, unfolding(crate::specs::replay::Calls::ending))]
 fn ended(numbers: usize, tracer: CoreTraceGenerationTracer) -> CoreTraceGenerationTracer
     ensures { result ≡ ending numbers tracer }
 {
@@ -213,6 +220,7 @@ fn ended(numbers: usize, tracer: CoreTraceGenerationTracer) -> CoreTraceGenerati
 }
 
 // The address state that the next fragment goes on from; zeros on a refusal.
+#[tactic(auto, unfolding(crate::specs::replay::Calls::next_state))]
 fn next_state(tracer: CoreTraceGenerationTracer) -> DecoderState
     ensures { result ≡ next_state tracer }
 {
@@ -226,6 +234,7 @@ fn next_state(tracer: CoreTraceGenerationTracer) -> DecoderState
 }
 
 // The queue positions that the next fragment goes on from; zeros on a refusal.
+#[tactic(auto, unfolding(crate::specs::replay::Calls::next_positions))]
 fn next_positions(tracer: CoreTraceGenerationTracer) -> Positions
     ensures { result ≡ next_positions tracer }
 {
@@ -240,21 +249,24 @@ fn next_positions(tracer: CoreTraceGenerationTracer) -> Positions
 }
 
 // What is answered of the tracer at the end.
+#[tactic(auto, unfolding(crate::specs::replay::Calls::told))]
 fn answer(tracer: CoreTraceGenerationTracer) -> Replayed
     ensures { result ≡ told tracer }
 {
     let last = tracer.into_final_state();
     let end = last.for_passes();
+    let built = end.built;
     Replayed {
         refusal: last.refusal,
         rows: end.count as usize,
-        built: end.built,
+        built,
         state: next_state(tracer),
         at: next_positions(tracer),
     }
 }
 
 // The calls of all records, in their order, on a fresh tracer over the fragment.
+#[tactic(auto, unfolding(crate::specs::replay::Calls::replayed, crate::specs::replay::Calls::scanned, crate::specs::replay::Calls::replayed_fragment))]
 pub fn replay_calls(
     forests: &LentForest,
     directory: &[u32],

@@ -20,6 +20,7 @@ pub struct DirectoryEntry {
 }
 
 // The parts of a forest; of a number that is not in the directory, empty ones.
+#[tactic(auto, unfolding(crate::specs::replay::Calls::directory_entry))]
 pub fn directory_entry(directory: &[u32], forest: u64) -> DirectoryEntry
     ensures { result ≡ directory_entry directory.now forest }
 {
@@ -45,6 +46,7 @@ pub fn directory_entry(directory: &[u32], forest: u64) -> DirectoryEntry
 }
 
 // `count` records of a width from record `first` on, as far as they are in the slice.
+#[tactic(auto, unfolding(crate::specs::replay::Calls::window))]
 pub fn part_of<T>(s: &[T], width: usize, first: u32, count: u32) -> &[T]
     requires { width ≤ 12 }
     ensures { result.now ≡ window width first count s.now }
@@ -56,6 +58,7 @@ pub fn part_of<T>(s: &[T], width: usize, first: u32, count: u32) -> &[T]
 
 impl<'a> LentForest<'a> {
     // The forest that lies there.
+    #[tactic(auto, unfolding(crate::specs::replay::Calls::forest_in))]
     pub fn part(&self, entry: DirectoryEntry) -> LentForest<'a>
         ensures { lent_forest result ≡ forest_in (lent_forest self.now) entry }
     {

@@ -217,6 +217,7 @@ fn operation_pair(
 }
 
 // What a pair makes, by the plain code.
+#[tactic(auto, unfolding(crate::specs::ways::Pairs::pair_made))]
 fn made_of(
     forest: &LentForest,
     queues: &LentQueues,

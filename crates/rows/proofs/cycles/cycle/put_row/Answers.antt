@@ -4,7 +4,4 @@ use Rattle.rows.proofs.records.Rooms.{row_within}
 use Rattle.rows.proofs.cycles.cycle.put_row.Goals as goal
 
 pub returns-then-write : goal.returns-then-write
-returns-then-write c = rw (c.if-write.true, ← c.last_system-last_system.ensures, ← c.last_stack-last_stack.ensures) (c.write_row.ensures ∙ row_within _ _ _ c.requires)
-
-pub returns-else-write : goal.returns-else-write
-returns-else-write c = rw c.if-write.false
+returns-then-write c = rw (c.if-write.true, ← c.last_system.ensures, ← c.last_stack.ensures) (c.write_row.ensures ∙ row_within _ _ _ c.requires)

@@ -1,11 +1,11 @@
 -- `row::copy_in` meets its contract. The loop's invariant: the first j cells are copied.
-use mathlib.Core.Path.{◌≡◌, refl, sym, ◌∙◌}
+use mathlib.Core.Path.{◌≡◌, sym, ◌∙◌}
 use Prim.Native.Nat.{◌+◌, ◌<◌}
 use native.Mathlib.Omega.{arith}
 use native.Mathlib.Numerals.{add-one}
 use borrow.Author.Tests.{lt-leb}
 use lib.ListN.{length, get_or, length-set}
-use lib.Seq.{paste-zero, paste-suc}
+use lib.Seq.{paste-suc}
 use Rattle.field.specs.Cells.{cell_at, reduced}
 use Rattle.field.proofs.CellLaws.{length-reduced, get_or-reduced}
 use Rattle.rows.specs.records.Cells.{copied_in, put_in}
@@ -19,9 +19,6 @@ returns-then-dst-src c = rw (length-reduced c.args.src.now, lt-leb (c.args.at + 
 pub returns-then-dst-src-2 : goal.returns-then-dst-src-2
 unfolding copied_in put_in
 returns-then-dst-src-2 c = rw (length-reduced c.args.src.now, lt-leb (c.args.at + length c.args.src.now) (length c.args.dst.now) (omega arith))
-
-pub loop-j-init : goal.loop-j-init
-loop-j-init c = (paste-zero c.args.dst.now c.args.at (reduced c.args.src.now), omega arith, refl, omega arith)
 
 pub loop-j-preserved : goal.loop-j-preserved
 unfolding cell_at

@@ -36,6 +36,6 @@ all_read system s d h g op addr within count index f0 f1 f2 e0 x0 e1 x1 eo es eh
     rw (x1e, e1e, x0e, e0e, ef2, ef1, ef0, ei, ec, ew, ea, eg, eh, es, ← eo, b0, b1, b2, b3, b4, b5, b6)
 
 pub returns : goal.returns
-returns c = all_read _ _ _ _ _ _ _ _ _ _ _ _ _ _ _ _ _ c.wide-op.ensures c.read-s.ensures c.read_word-h.ensures c.read_word-g.ensures
+returns c = all_read _ _ _ _ _ _ _ _ _ _ _ _ _ _ _ _ _ c.from-op.ensures c.read-s.ensures c.read_word-h.ensures c.read_word-g.ensures
     c.reduce.ensures c.reduce-2.ensures c.reduce-3.ensures c.reduce-4.ensures c.reduce-5.ensures c.reduce-6.ensures c.reduce-7.ensures
     c.extra_0.ensures c.reduce-8.ensures c.extra_1.ensures c.reduce-9.ensures

@@ -1,18 +1,11 @@
 -- `row::put_cells` meets its contract.
 use mathlib.Core.Path.{◌≡◌, ◌∙◌}
 use mathlib.Core.List.{◌++◌}
-use Prim.Native.Nat.{◌/◌}
 use native.Mathlib.Omega.{arith}
 use borrow.Author.Rules.{rules}
-use borrow.Author.Tests.{le-ltb}
 use lib.ListN.{length}
-use Rattle.rows.specs.records.Cells.{row_written}
 use Rattle.rows.proofs.records.Rooms.{row_fits, row_put}
 use Rattle.rows.proofs.records.row.put_cells.Goals as goal
-
-pub returns-then-buffer-row : goal.returns-then-buffer-row
-unfolding row_written
-returns-then-buffer-row c = rw (le-ltb c.args.row (length c.args.buffer.now / 49) c.if-buffer-row.true)
 
 pub returns : goal.returns
 returns c =

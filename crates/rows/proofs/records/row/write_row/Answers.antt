@@ -3,4 +3,4 @@ use Rattle.rows.proofs.records.Rooms.{cells-in-two}
 use Rattle.rows.proofs.records.row.write_row.Goals as goal
 
 pub returns : goal.returns
-returns c = rw (cells-in-two c.args.system c.args.d c.args.stack, ← c.first_cells-first.ensures, ← c.last_cells-last.ensures) c.put_cells.ensures
+returns c = rw (cells-in-two c.args.system c.args.d c.args.stack, ← c.first_cells.ensures, ← c.last_cells.ensures) c.put_cells.ensures
