@@ -1,5 +1,4 @@
 pub mod CallSteps
-pub mod Cuts
 pub mod ReplaySingly
 pub mod ReplayedRows
 pub mod PairRecords

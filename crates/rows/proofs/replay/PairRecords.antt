@@ -32,8 +32,6 @@ use Rattle.rows.specs.declared.records.ids.MastNodeId.{MastNodeId}
 use Rattle.rows.specs.declared.records.forest.MastNode.{MastNode}
 use Rattle.rows.specs.declared.records.continuation.Continuation.{Continuation}
 use Rattle.rows.specs.declared.records.state.SystemState.{SystemState}
-use Rattle.rows.specs.declared.replay.pairs.OpStored.{OpStored}
-use Rattle.rows.specs.declared.replay.pairs.OpFound.{OpFound}
 use Rattle.rows.specs.records.Built.{built_system, built_stack, stack_cells}
 use Rattle.rows.specs.records.CallRecords.{of32, condition_in, callee_in, info_in, resume_in, continuation_on, names_no_kind, continuation_in, names_nothing, stored_in_record, system_in, stack_in, few_cells, many_cells, registers_in}
 use Rattle.rows.specs.records.Forests.{Forest, node_id, node_entry, node_of, slot_block, node_at, opcode_at, block_of}
@@ -124,12 +122,6 @@ module _ (s c : List ℕ) (forest : ℕ) where
 
 -- A STORING
 
-pub three-of-32 : (x y z : ℕ) → (leb 4294967296 x || (leb 4294967296 y || leb 4294967296 z)) ≡ false → (x < 4294967296) × (y < 4294967296) × (z < 4294967296)
-three-of-32 x y z e =
-    let (a, rest) = neither (leb 4294967296 x) _ e in
-    let (b, c) = neither (leb 4294967296 y) _ rest in
-    (leb-false _ _ a, leb-false _ _ b, leb-false _ _ c)
-
 -- context info that has its depth, or is absent
 abbrev info_by : (s : List ℕ) → (present : Bool) → Option ExecutionContextInfo
 info_by s present = pick present (Some (record { stack_depth = get_or s 13 0; next_overflow_addr = cell_at s 14 })) None
@@ -139,20 +131,19 @@ info-by : (s : List ℕ) (present : Bool) → (present && leb 4294967296 (get_or
 info-by s true e = rw (of-32 23 (get_or s 13 0) (leb-false _ _ e))
 info-by s false e = refl
 
-pub stores : (s : List ℕ) → (not (eqb (get_or s 1 0) 7) || (eqb (get_or s 12 0) 1 && leb 4294967296 (get_or s 13 0))) ≡ false
-    → (leb 4294967296 (get_or s 2 0) || (leb 4294967296 (get_or s 3 0) || leb 4294967296 (get_or s 4 0))) ≡ false → names_nothing s ≡ false
-    → StoresOperation (OpStored.Is (node_id (get_or s 2 0)) (get_or s 3 0) (get_or s 4 0)) s
+pub stores : (s : List ℕ) (id index op : ℕ) → (not (eqb (get_or s 1 0) 7) || (eqb (get_or s 12 0) 1 && leb 4294967296 (get_or s 13 0))) ≡ false
+    → accepted id ≡ of32 3 (get_or s 2 0) → accepted index ≡ of32 5 (get_or s 3 0) → accepted op ≡ of32 6 (get_or s 4 0) → names_nothing s ≡ false
+    → StoresOperation (Some (record { id = node_id id; index = index; op = op })) s
 unfolding stored_in_record continuation_in names_no_kind continuation_on resume_in info_in
-stores s resumes few named =
+stores s id index op resumes a b c named =
     let (k, n) = neither (not (eqb (get_or s 1 0) 7)) _ resumes in
-    let kind = eqb-true (get_or s 1 0) 7 (not-false _ k) in
-    let (id, index, op) = three-of-32 (get_or s 2 0) (get_or s 3 0) (get_or s 4 0) few in (
+    let kind = eqb-true (get_or s 1 0) 7 (not-false _ k) in (
       record {
-        continuation = Continuation.ResumeBasicBlock (node_id (get_or s 2 0)) (get_or s 3 0) (get_or s 4 0);
+        continuation = Continuation.ResumeBasicBlock (node_id id) index op;
         is_loop_body = eqb (get_or s 5 0) 1;
         captured = record { finish_loop_condition = condition_in s; dyn_callee_hash = callee_in s; ctx_info = info_by s (eqb (get_or s 12 0) 1) };
       },
-      rw (kind, of-32 3 (get_or s 2 0) id, of-32 5 (get_or s 3 0) index, of-32 6 (get_or s 4 0) op, info-by s (eqb (get_or s 12 0) 1) n, named),
+      rw (kind, ← a, ← b, ← c, info-by s (eqb (get_or s 12 0) 1) n, named),
       refl,
     )
 
@@ -195,12 +186,12 @@ module _ (f : Forest) (push : ℕ) (id : MastNodeId) (index op : ℕ) (block : B
     (is : block ≡ slot_block f.nodes id.0) (starts : first ≡ get_or f.batches (12 * record_of block index + 11) 0) (inside : first + op < length f.ops) where
   operation-at : (found : OpContext) (batch : OpBatch) → context_at_op push block f.batches f.groups index op ≡ accepted found → cells ≡ op_cells_of found
       → batch_at f.batches f.groups block index ≡ accepted batch → first ≡ batch.first_op → op < batch.num_ops
-      → OperationIn (OpFound.Is (get_or f.ops (first + op) 0) cells) f push id index op
+      → OperationIn (Some (get_or f.ops (first + op) 0, cells)) f push id index op
   unfolding resumed operation_made opcode_at block_of
   operation-at found batch e shown e1 e2 less registers helpers here h =
       (found.place.following, rw (block-found f.nodes f.digests id.0 kind, ← is, e1, lt-ltb op batch.num_ops less, ← e2, lt-ltb (first + op) (length f.ops) inside, e, h, shown))
 
-  pub operation-in : accepted cells ≡ cells_at_op push block f.batches f.groups index op → OperationIn (OpFound.Is (get_or f.ops (first + op) 0) cells) f push id index op
+  pub operation-in : accepted cells ≡ cells_at_op push block f.batches f.groups index op → OperationIn (Some (get_or f.ops (first + op) 0, cells)) f push id index op
   operation-in told =
       let (found, e, shown) = context-found push block f.batches f.groups index op cells told in
       let (batch, e1, e2, less) = batch-found push block f.batches f.groups index op found e in

@@ -162,12 +162,12 @@ module _ (records : List ℕ) (w : Walk) (two : 2 ≤ w.next) where
   no-depth n r e values system depth a b d = never n depth (sym e ∙ ap (λ c. of32 23 (get_or c 24 0)) (sym cycle-behind-is) ∙ d)
 
   pub stands-so : (values : StoredValues) (system : SystemState) (depth : ℕ) (r : CoreTraceGenerationTracer) → stored_in_record storing_behind ≡ accepted values → system_in cycle_behind ≡ accepted system → of32 23 (get_or cycle_behind 24 0) ≡ accepted depth →
-      r ≡ tracer_behind cycle_behind w.row values w.used w.state w.at system depth → StandsAt records w r
+      r ≡ tracer_behind cycle_behind w.row values w.used w.here.state w.here.at system depth → StandsAt records w r
   stands-so values system depth r e g h is values' system' depth' a b d =
       let v : accepted values ≡ accepted values' = sym e ∙ ap stored_in_record (sym storing-behind-is) ∙ a in
       let y : accepted system ≡ accepted system' = sym g ∙ ap system_in (sym cycle-behind-is) ∙ b in
       let z : accepted depth ≡ accepted depth' = sym h ∙ ap (λ c. of32 23 (get_or c 24 0)) (sym cycle-behind-is) ∙ d in
-      is ∙ same cycle_behind (record_at records (w.next - 1)) w.row values values' w.used w.state w.at system system' depth depth' (sym cycle-behind-is) v y z
+      is ∙ same cycle_behind (record_at records (w.next - 1)) w.row values values' w.used w.here.state w.here.at system system' depth depth' (sym cycle-behind-is) v y z
     where
       same : (c c' : List ℕ) (row : ℕ) (v v' : StoredValues) (used : Used) (state : DecoderState) (at : Positions) (y y' : SystemState) (z z' : ℕ) → c ≡ c' → accepted v ≡ accepted v' → accepted y ≡ accepted y' → accepted z ≡ accepted z' →
           tracer_behind c row v used state at y z ≡ tracer_behind c' row v' used state at y' z'

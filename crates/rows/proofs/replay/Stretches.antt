@@ -127,7 +127,7 @@ written-two s records k t₀ entry n i j e g = rw (e, g)
 module _ (s : Setting) (records : List ℕ) (write : Bool) (k : ℕ) (t₀ : CoreTraceGenerationTracer) (entry : List ℕ) (forest : ℕ) where
   -- where a walk started
   abbrev pub start : Walk
-  start = record { next = k; row = t₀.row_write_index; state = t₀.decoder_state; at = t₀.at; used = Used.Nothing }
+  start = record { next = k; row = t₀.row_write_index; here = cursor t₀.decoder_state t₀.at; used = Used.Nothing }
 
   -- what the pairs are lent, and that neither the scan nor the fragment's length refuses
   pub record Sound (f : Forest) : Type 0 where
@@ -144,7 +144,7 @@ module _ (s : Setting) (records : List ℕ) (write : Bool) (k : ℕ) (t₀ : Cor
   unfoldable pub Last : (n : ℕ) → Walk → SystemState → (depth : ℕ) → Type 0
   Last zero w system depth = Unit {0}
   Last (suc n) w system depth = (values : StoredValues) × (stored_in_record (record_at records (w.next - 2)) ≡ accepted values)
-      × (steps s records k t₀ (double (suc n)) ≡ tracer_behind (record_at records (w.next - 1)) w.row values w.used w.state w.at system depth)
+      × (steps s records k t₀ (double (suc n)) ≡ tracer_behind (record_at records (w.next - 1)) w.row values w.used w.here.state w.here.at system depth)
 
   -- the calls one by one stand where the walk stands
   pub record Stands (n : ℕ) (w : Walk) (g : List ℕ) : Type 0 where
@@ -153,8 +153,8 @@ module _ (s : Setting) (records : List ℕ) (write : Bool) (k : ℕ) (t₀ : Cor
     pub kept : (steps s records k t₀ (double n)).refusal ≡ 0
     pub row : (steps s records k t₀ (double n)).row_write_index ≡ w.row
     pub some_row : 0 < w.row
-    pub state : (steps s records k t₀ (double n)).decoder_state ≡ w.state
-    pub at : (steps s records k t₀ (double n)).at ≡ w.at
+    pub state : (steps s records k t₀ (double n)).decoder_state ≡ w.here.state
+    pub at : (steps s records k t₀ (double n)).at ≡ w.here.at
     pub system : SystemState
     pub a_system : system_in (record_at records (w.next - 1)) ≡ accepted system
     pub system_built : (steps s records k t₀ (double n)).system_cols ≡ built_system system
@@ -202,7 +202,7 @@ module _ (s : Setting) (records : List ℕ) (write : Bool) (k : ℕ) (t₀ : Cor
       a_stored : stored_in_record storing ≡ accepted values
       registers : OperationHelperRegisters
       a_registers : registers_in finish ≡ accepted registers
-      makes : made f s.queues s.profile registers values.continuation values.is_loop_body (read_captured values.captured) (cursor w.state w.at) ≡ accepted o.m
+      makes : made f s.queues s.profile registers values.continuation values.is_loop_body (read_captured values.captured) w.here ≡ accepted o.m
 
     given : Given
     unfolding pair_made
@@ -249,7 +249,7 @@ module _ (s : Setting) (records : List ℕ) (write : Bool) (k : ℕ) (t₀ : Cor
     stored_at = omega (arith, o.next)
 
     -- the tracer behind the pair
-    stands-behind : steps s records k t₀ (double (suc n)) ≡ tracer_behind (record_at records (w'.next - 1)) w'.row given.values w'.used w'.state w'.at o.is_pair.system o.is_pair.depth
+    stands-behind : steps s records k t₀ (double (suc n)) ≡ tracer_behind (record_at records (w'.next - 1)) w'.row given.values w'.used w'.here.state w'.here.at o.is_pair.system o.is_pair.depth
     stands-behind =
         steps-two s records k t₀ n w.next (w.next + 1) first-at second_at
         ∙ pair-done s tracer storing finish given.values o.is_pair.system o.is_pair.depth given.registers o.m st.kept a_storing a-finish passes

@@ -1,8 +1,0 @@
--- `pairs::system_before` meets its contract.
-use Rattle.rows.proofs.replay.PairRecords.{system_built}
-use Rattle.rows.proofs.replay.pairs.system_before.Goals as goal
-
-pub returns : goal.returns
-returns c = λ state e.
-    rw (c.number_at-2.ensures, c.word_at.ensures)
-    (system_built c.args.c.now c.clk_behind.result (rw c.number_at.ensures at c.clk_behind.ensures) state e)
