@@ -1,6 +1,6 @@
 -- A stretch of pairs comes to the tracer and the fragment of its calls one by one.
 use mathlib.Core.Path.{◌≡◌, refl, sym, ◌∙◌, ap}
-use mathlib.Core.Bool.{Bool, true, false}
+use mathlib.Core.Bool.{Bool, true, false, ◌||◌}
 use mathlib.Core.List.{List}
 use Prim.Native.Nat.{ℕ, zero, suc, ◌+◌, ◌-◌, ◌/◌, ◌%◌, ◌<◌, ◌≤◌}
 use native.Mathlib.Omega.{arith}
@@ -139,6 +139,23 @@ module _ (s : Setting) (records : List ℕ) (write : Bool) (k : ℕ) (t₀ : Cor
     pub not_large : s.scan.too_large ≡ false
     pub whole : fragment_wrong s.cells t₀.row_write_index ≡ false
     pub cells : s.cells ≡ length entry
+
+  pub sound : (f : Forest) → f ≡ forest_of s forest → 0 < k → k ≤ length records / 32
+      → (s.scan.big || (s.scan.profile_wrong || (s.scan.too_large || fragment_wrong s.cells t₀.row_write_index))) ≡ false → s.cells ≡ length entry → Sound f
+  sound f lent some inside checks cells =
+      let (big, rest) = neither s.scan.big _ checks in
+      let (wrong, rest') = neither s.scan.profile_wrong _ rest in
+      let (large, whole) = neither s.scan.too_large _ rest' in
+      record {
+        lent = lent;
+        some = some;
+        inside = inside;
+        small = big;
+        profile_right = wrong;
+        not_large = large;
+        whole = whole;
+        cells = cells;
+      }
 
   -- behind a pair the tracer has what it stored and what is left of it
   unfoldable pub Last : (n : ℕ) → Walk → SystemState → (depth : ℕ) → Type 0

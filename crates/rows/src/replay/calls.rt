@@ -69,7 +69,7 @@ fn store(numbers: &[u64], tracer: CoreTraceGenerationTracer) -> CoreTraceGenerat
 }
 
 // A finish in the forest of a number. `write` says whether its row is written.
-#[tactic(auto, unfolding(crate::specs::replay::Calls::call_done, crate::specs::replay::Calls::call_written))]
+#[tactic(auto, unfolding(crate::specs::replay::Calls::call_done, crate::specs::replay::Calls::call_written, crate::specs::replay::Calls::forest_of))]
 fn finish_in(
     write: bool,
     setting: &LentSetting,

@@ -161,8 +161,10 @@ fn operation_at(forest: &LentForest, push: u8, stored: StoredOp) -> Option<(u8, 
     .ok()?;
     let record = block.first_batch as usize + stored.index as usize;
     let i = item_or(forest.batches.records, 12 * record + 11, 0) as usize + stored.op as usize;
-    let opcode = forest.ops.get(i).copied()?;
-    Some((opcode, cells))
+    if forest.ops.len() <= i {
+        return None;
+    }
+    Some((forest.ops[i], cells))
 }
 
 // The helpers of a cycle's record.
