@@ -1,7 +1,6 @@
 pub mod Remainders
 pub mod Prime
 pub mod Bezout
-pub mod Product
 pub mod InverseLaws
 pub mod KeptLaws
 pub mod Every

@@ -20,13 +20,13 @@ fn euclid_inverse(x: u64) -> u64
     let mut s: u64 = 0;
     let mut t: u64 = 1;
     while v > 1 {
-        s = s + u / v * t;
-        u = u % v;
+        s += u / v * t;
+        u %= v;
         if u == 1 {
             return Felt::MODULUS - s;
         }
-        t = t + v / u * s;
-        v = v % u;
+        t += v / u * s;
+        v %= u;
     }
     t
 }
@@ -39,6 +39,7 @@ fn inverses() -> [u64; 128]
 }
 
 // The inverse of any number: 0 for a multiple of p.
+#[tactic(auto, using(crate::proofs::Entries::inverse_laws))]
 pub fn inverse(x: u64) -> u64
     ensures { result ≡ inverse_of x }
 {
@@ -51,7 +52,8 @@ pub fn inverse(x: u64) -> u64
 }
 
 // The inverse of any number in a column: looked up below 128; below 1,024 computed once and kept; else computed.
-fn inverse_kept(table: &[u64; 128], kept: &mut [u64; 1024], x: u64) -> u64
+#[tactic(auto, using(crate::proofs::Entries::inverse_laws))]
+fn inverse_kept(table: &[u64; 128], kept: &mut [Option<u64>; 1024], x: u64) -> u64
     requires { TableRule table.now × KeptInverses kept.old }
     ensures value { result ≡ inverse_of x }
     ensures kept_inverses { KeptInverses kept.new }
@@ -63,17 +65,17 @@ fn inverse_kept(table: &[u64; 128], kept: &mut [u64; 1024], x: u64) -> u64
     if 1024 <= y {
         return euclid_inverse(y);
     }
-    let found = kept[y as usize];
-    if found != 0 {
+    if let Some(found) = kept[y as usize] {
         return found;
     }
     let made = euclid_inverse(y);
-    kept[y as usize] = made;
+    kept[y as usize] = Some(made);
     made
 }
 
 // Replaces by its inverse each cell in the given column of the first `rows` rows of `width` cells. Rows that the buffer does not
 // hold, and a column that a row does not have, are left out.
+#[tactic(auto, using(crate::proofs::Columns::column_laws, crate::proofs::KeptLaws::kept_laws))]
 pub fn invert_column(cells: &mut [u64], rows: usize, width: usize, column: usize)
     ensures { cells.new ≡ invert_column cells.old rows width column }
 {
@@ -81,18 +83,10 @@ pub fn invert_column(cells: &mut [u64], rows: usize, width: usize, column: usize
         return;
     }
     let table = inverses();
-    let mut kept = [0u64; 1024];
-    let mut row = 0;
-    let mut at = column;
-    while row < rows {
-        if cells.len() <= at {
-            return;
-        }
+    let mut kept = [None; 1024];
+    let held = cells.len().saturating_sub(column).div_ceil(width);
+    for row in 0..rows.min(held) {
+        let at = row * width + column;
         cells[at] = inverse_kept(&table, &mut kept, cells[at]);
-        if cells.len() - at <= width {
-            return;
-        }
-        at += width;
-        row += 1;
     }
 }

@@ -22,22 +22,6 @@ use Rattle.groups.specs.declared.sum.GroupSum.{GroupSum}
 use Rattle.groups.specs.declared.group.OpPlace.{OpPlace}
 use Rattle.groups.proofs.OneGroup.{lies}
 
--- batches 0 to n of a block are its first n
-pub counts-first : (batches : List ℕ) (first n : ℕ) → counts batches (first + 0) (n - 0) ≡ counts batches first n
-counts-first batches first n =
-    let e : first + 0 ≡ first = omega arith in
-    let f : n - 0 ≡ n = omega arith in
-    rw (e, f)
-
--- the three parts of what is consumed
-pub consumed-is : (push : ℕ) (batches groups : List ℕ) (block : BasicBlockNode) (index : ℕ) (place : OpPlace) (sum : GroupSum) (group count : ℕ)
-    → sum ≡ group_sum true (counts batches (block.first_batch + 0) (index - 0))
-    → group ≡ cell_at groups (8 * (block.first_batch + index) + place.group)
-    → count ≡ pushes push place.index group
-    → consumed push block batches groups index place ≡ sum.groups + count + place.group + 1
-unfolding consumed
-consumed-is push batches groups block index place sum group count s g e = rw (e, g, s, counts-first)
-
 -- a batch has eight groups, of nine operations at most
 pub in-batch : (batches : List ℕ) (block : BasicBlockNode) (index ops op : ℕ) (starts : List ℕ) (place : OpPlace)
     → starts ≡ starts_at batches block index → accepted place ≡ group_of starts ops op → (place.group ≤ 7) × (place.index ≤ 8)

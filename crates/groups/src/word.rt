@@ -9,6 +9,7 @@ use field::felt::reduce;
 pub struct Word(pub u64, pub u64, pub u64, pub u64);
 
 // The four cells from cell `at` on, each read modulo p, 0 past the end of the slice.
+#[tactic(auto, using(field::proofs::CellLaws::cell_past), unfolding(crate::specs::Words::word_at))]
 pub fn word_at(cells: &[u64], at: usize) -> Word
     ensures { result ≡ word_at cells.now at }
 {

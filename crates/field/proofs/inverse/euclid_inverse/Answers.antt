@@ -36,24 +36,6 @@ is_inverse x y p e = inverse-is x y p.0 p.1 e.1 e.0
 finish : (x u v s t : ℕ) → Bezout x u v s t × (1 < u) → (0 < x) × (x < P) → v ≤ 1 → ((x * t) % P ≡ 1) × (t < P)
 finish x u v s t i p h = end-v x u v s t i.0 (omega arith) (let z : ¬ (v ≡ 0) = v-nonzero x u v s t i.0 p.0 p.1 i.1 in omega (arith, z))
 
-pub loop-v-init : goal.loop-v-init
-loop-v-init c = (start c.args.x, omega arith)
-
-pub nonzero_div-s : goal.nonzero_div-s
-nonzero_div-s c = omega arith
-
-pub overflow_mul-s : goal.overflow_mul-s
-overflow_mul-s c = omega (arith, first_fits c.args.x c.loop-v.u c.loop-v.v c.loop-v.s c.loop-v.t c.loop-v.invariant.0 c.requires c.loop-v-test.true)
-
-pub overflow_add-s : goal.overflow_add-s
-overflow_add-s c = omega (arith, first_fits c.args.x c.loop-v.u c.loop-v.v c.loop-v.s c.loop-v.t c.loop-v.invariant.0 c.requires c.loop-v-test.true)
-
-pub nonzero_rem-u : goal.nonzero_rem-u
-nonzero_rem-u c = omega arith
-
-pub overflow_sub-result : goal.overflow_sub-result
-overflow_sub-result c = first_fits c.args.x c.loop-v.u c.loop-v.v c.loop-v.s c.loop-v.t c.loop-v.invariant.0 c.requires c.loop-v-test.true
-
 pub returns-then-u-eq1 : goal.returns-then-u-eq1
 returns-then-u-eq1 c = is_inverse c.args.x (P - (c.loop-v.s + c.loop-v.u / c.loop-v.v * c.loop-v.t)) c.requires
     (end-u c.args.x (c.loop-v.u % c.loop-v.v) c.loop-v.v (c.loop-v.s + c.loop-v.u / c.loop-v.v * c.loop-v.t) c.loop-v.t (half c.args.x c.loop-v.u c.loop-v.v c.loop-v.s c.loop-v.t c.loop-v.invariant.0 c.requires c.loop-v-test.true) (omega (arith, c.loop-v-test.true)) c.if-u-eq1.true)
