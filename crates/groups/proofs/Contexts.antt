@@ -2,23 +2,18 @@
 use mathlib.Core.Path.{◌≡◌, refl}
 use mathlib.Core.Bool.{Bool, true, false}
 use mathlib.Core.List.{List}
-use Rattle.std.proofs.Common.{Option, Some}
 use Prim.Native.Nat.{ℕ, ◌+◌, ◌-◌, ◌*◌, ◌/◌, ◌^◌, ◌≤◌}
 use native.Mathlib.Omega.{arith}
 use lib.Dec.{ltb}
-use Rattle.field.specs.Cells.{cell_at}
 use Rattle.groups.specs.Answer.{Answer, accepted, refused, and_then, pick}
 use Rattle.groups.specs.Batches.{starts_at}
-use Rattle.groups.specs.GroupsLeft.{counts, group_sum, pushes}
 use Rattle.groups.specs.GroupOfOperation.{group_of}
-use Rattle.groups.specs.Constants.{no_such_operation, over_total, bad_length}
-use Rattle.groups.specs.Refusals.{told_or}
+use Rattle.groups.specs.Constants.{over_total, bad_length}
 use Rattle.groups.specs.Contexts.{sum_before, group_cell, consumed, context_in_group, op_context, too_large}
 use Rattle.groups.specs.ways.ContextsByCount.{large_by, context_in}
 use Rattle.groups.specs.declared.context.BasicBlockContext.{BasicBlockContext}
 use Rattle.groups.specs.declared.batch.OpBatch.{OpBatch}
 use Rattle.groups.specs.declared.batch.BasicBlockNode.{BasicBlockNode}
-use Rattle.groups.specs.declared.sum.GroupSum.{GroupSum}
 use Rattle.groups.specs.declared.group.OpPlace.{OpPlace}
 use Rattle.groups.proofs.OneGroup.{lies}
 

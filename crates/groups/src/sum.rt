@@ -10,7 +10,11 @@ fn groups_of(count: u32, rounded: bool) -> u64
     ensures upper_bound { result ≤ 4294967296 }
 {
     let groups = u64::from(count);
-    if rounded { groups.next_power_of_two() } else { groups }
+    if rounded {
+        groups.next_power_of_two()
+    } else {
+        groups
+    }
 }
 
 // The sum, and whether one of the batches has more than 8 groups.

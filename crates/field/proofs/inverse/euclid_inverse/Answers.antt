@@ -6,7 +6,7 @@ use native.Mathlib.Omega.{arith}
 use Rattle.field.specs.Modulus.{P}
 use Rattle.field.specs.Inverse.{inverse_of}
 use Rattle.field.proofs.InverseLaws.{inverse-is}
-use Rattle.field.proofs.Bezout.{Bezout, start, step-u, step-v, fits-u, fits-v, u-nonzero, v-nonzero, end-u, end-v}
+use Rattle.field.proofs.Bezout.{Bezout, step-u, step-v, fits-u, fits-v, u-nonzero, v-nonzero, end-u, end-v}
 use Rattle.field.proofs.inverse.euclid_inverse.Goals as goal
 
 -- the first half of a turn, and its remainder, which is not 0

@@ -1,5 +1,5 @@
 -- `sum::groups_of` meets its contract.
-use mathlib.Core.Path.{◌≡◌, ◌∙◌, sym}
+use mathlib.Core.Path.{◌≡◌}
 use native.Mathlib.Omega.{arith}
 use borrow.Author.Rules.{rules}
 use Rattle.groups.specs.GroupsLeft.{groups_of}
