@@ -73,8 +73,8 @@ fn more(a: u64, b: u64) -> u64
 fn fold(x: u128) -> u64
     ensures { result ≡ x % P }
 {
-    let lo = (x % 0x1_0000_0000_0000_0000) as u64;
-    let hi = (x / 0x1_0000_0000_0000_0000) as u64;
+    let lo = (x & u128::from(u64::MAX)) as u64;
+    let hi = (x >> 64) as u64;
     let hh = hi / 0x1_0000_0000;
     let hl = hi % 0x1_0000_0000;
     more(less(lo, hh), hl * 0xffff_ffff)
