@@ -49,5 +49,3 @@ entry_law table x y rule e h = entry-inverse table rule y h ∙ inverse-reduced 
 -- and so is what is computed of the index
 pub computed_law : (x y z : ℕ) → y ≡ x % P → z ≡ inverse_of y → z ≡ inverse_of x
 computed_law x y z e f = f ∙ inverse-reduced x y e
-
-pub ruleset inverse_laws = (entry_law, computed_law)

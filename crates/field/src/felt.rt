@@ -2,7 +2,7 @@
 ghost use Rattle.std.specs.Prelude.{◌≡◌, ◌+◌, ◌*◌, ◌-◌, ◌%◌, ◌^◌, ◌<◌};
 ghost use Rattle.field.specs.Modulus.{P};
 
-// A field element. Cells are lent as plain numbers, so the type serves for its constants.
+// A field element. Cells are lent as plain numbers, so the type serves for its constants, which document 01 has belong to it.
 #[derive(Clone, Copy)]
 pub struct Felt(pub u64);
 

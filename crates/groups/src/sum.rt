@@ -17,7 +17,7 @@ fn groups_of(count: u32, rounded: bool) -> u64
     }
 }
 
-// The sum, and whether one of the batches has more than 8 groups.
+// The sum, and whether one of the batches has more than 8 groups. No Option: a sum over 8 is a value too, since 7 and 8 are answered before 11.
 #[derive(Clone, Copy)]
 pub struct GroupSum {
     pub groups: u64,

@@ -1,4 +1,4 @@
-// Four cells that stand together. An enum can hold a Word, which it could not an array.
+// Four cells that stand together.
 ghost use Rattle.std.specs.Prelude.{◌≡◌};
 ghost use Rattle.groups.specs.Words.{word_at, read_word};
 

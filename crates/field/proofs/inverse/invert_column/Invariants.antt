@@ -1,5 +1,5 @@
 -- `inverse::invert_column` meets its contract: the loop keeps the buffer with the column of the first `row` rows inverted, and in its array
--- at each place none or the inverse of the place.
+-- at each place 0 or the inverse of the place.
 use mathlib.Core.Path.{◌≡◌}
 use Rattle.field.specs.Column.{invert_column}
 use Rattle.field.specs.ways.KeptInverses.{KeptInverses}
