@@ -11,6 +11,7 @@ use crate::felt::{Felt, reduce};
 use crate::table::INVERSES;
 
 // The inverse of a number from 1 to p - 1, by Euclid's algorithm without signs: x·s is -u and x·t is v modulo p. The loop counts no index.
+#[tactic(auto, using(crate::proofs::EuclidTurns::turn_laws))]
 fn euclid_inverse(x: u64) -> u64
     requires { (0 < x) × (x < P) }
     ensures { result ≡ inverse_of x }

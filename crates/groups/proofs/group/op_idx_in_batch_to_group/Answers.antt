@@ -1,11 +1,10 @@
 -- `group::op_idx_in_batch_to_group` meets its contract. The loop's invariant: what is looked for is not before group `group`.
 use mathlib.Core.Path.{sym, ap, ◌∙◌}
-use mathlib.Core.Bool.{not}
 use Prim.Native.Nat.{ℕ, ◌-◌}
 use borrow.Author.Rules.{rules}
 use borrow.Author.Tests.{lt-ltb, le-ltb, lt-leb, le-leb}
 use lib.ListN.{get_or}
-use Rattle.groups.specs.GroupOfOperation.{place_in, group_of}
+use Rattle.groups.specs.GroupOfOperation.{place_in}
 use Rattle.groups.proofs.Starts.{group-turn}
 use Rattle.groups.proofs.group.op_idx_in_batch_to_group.Goals as goal
 use Rattle.groups.proofs.group.op_idx_in_batch_to_group.Goals.{else-start-op-via-then-start-op+else-op-next, else-start-op-via-else-start-op}
