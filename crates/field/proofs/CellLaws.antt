@@ -9,9 +9,9 @@ use Rattle.field.specs.Modulus.{P}
 use Rattle.field.specs.Cells.{cell_at, reduced}
 
 -- past the end a cell is 0
-pub cell-past : (cells : List ℕ) (i : ℕ) → length cells ≤ i → cell_at cells i ≡ 0
+pub cell_past : (cells : List ℕ) (i : ℕ) → length cells ≤ i → cell_at cells i ≡ 0
 unfolding cell_at
-cell-past cells i h = rw (get_or-eq_default cells 0 {n = i} h)
+cell_past cells i h = rw (get_or-eq_default cells 0 {n = i} h)
 
 -- a number read as a cell is below p
 pub read_below : (x : ℕ) → x % P < P

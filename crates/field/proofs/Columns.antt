@@ -2,7 +2,7 @@
 use mathlib.Core.Path.{◌≡◌, refl, sym, ap, ◌∙◌, subst}
 use mathlib.Core.Bool.{Bool, true, false, ◌&&◌}
 use mathlib.Core.List.{List, [], ◌∷◌}
-use Prim.Native.Nat.{ℕ, zero, suc, ◌+◌, ◌*◌, ◌/◌, ◌%◌, ◌≤◌, ◌<◌}
+use Prim.Native.Nat.{ℕ, zero, suc, ◌+◌, ◌*◌, ◌/◌, ◌%◌, ◌≤◌, ◌<◌, min}
 use native.Mathlib.Nat.{mul-add-mod_self_right, mul-add-div_right, mod-eq_of_lt, div-eq_of_lt, div-add-mod', suc-add, add-suc, add-zero, zero-add, mul-le-mul_right}
 use native.Mathlib.Decide.{ℕ_discrete, dec_lt}
 use native.Mathlib.Omega.{arith}
@@ -145,3 +145,17 @@ module _ (w c : ℕ) (h : c < w) where
         where
           both : (i : ℕ) → i / w < r → ltb (i / w) n ≡ ltb (i / w) r
           both i q = lt-ltb (i / w) n (omega (arith, q, g)) ∙ sym (lt-ltb (i / w) r q)
+
+  -- one row more of a buffer whose first r rows are done
+  pub column-step : (l m : List ℕ) (r x : ℕ) → m ≡ invert_column l r w c → r * w + c < length l → x ≡ inverse_of (get_or m (r * w + c) 0) → set m (r * w + c) x ≡ invert_column l (r + 1) w c
+  column-step l m r x e b v = rw (v, e, column-here l r) (column-more l r b)
+
+  -- the rows that the buffer holds are done, or all
+  pub column-end : (l m : List ℕ) (r n held : ℕ) → m ≡ invert_column l r w c → r ≡ min n held → length l ≤ held * w + c → m ≡ invert_column l n w c
+  column-end l m r n held e a b = e ∙ by (dec_lt held n)
+    where
+      by : Dec (held < n) → invert_column l r w c ≡ invert_column l n w c
+      by (yes h) = let q : r ≡ held = omega arith in rw q (column-past l held n (omega arith) b)
+      by (no h) = let q : r ≡ n = omega arith in rw q
+
+pub ruleset column_laws = (column-outside, column-none)

@@ -11,7 +11,7 @@ use Rattle.field.specs.Modulus.{P}
 use Rattle.field.specs.Inverse.{inverse_of}
 use Rattle.field.specs.Table.{TableRule}
 use Rattle.field.proofs.Every.{at, both, both_left, both_right, every}
-use Rattle.field.proofs.InverseLaws.{inverse-is, inverse-zero}
+use Rattle.field.proofs.InverseLaws.{inverse-is, inverse-zero, inverse-reduced}
 
 -- entry 0 is 0; entry k times k is 1 modulo p, and the entry is below p
 abbrev good : ℕ → ℕ → Bool
@@ -41,3 +41,11 @@ entry-inverse table rule zero h = rule.of_zero ∙ sym inverse-zero
 entry-inverse table rule (suc k) h =
     let w = rule.of_index (suc k) (omega arith) h in
     inverse-is (suc k) (get_or table (suc k) 0) (omega arith) (omega arith) w.1 w.0
+
+-- what is looked up is the inverse of each number that is the index modulo p
+pub entry_law : (table : List ℕ) (x y : ℕ) → TableRule table → y ≡ x % P → y < 128 → get_or table y 0 ≡ inverse_of x
+entry_law table x y rule e h = entry-inverse table rule y h ∙ inverse-reduced x y e
+
+-- and so is what is computed of the index
+pub computed_law : (x y z : ℕ) → y ≡ x % P → z ≡ inverse_of y → z ≡ inverse_of x
+computed_law x y z e f = f ∙ inverse-reduced x y e

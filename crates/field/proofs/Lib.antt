@@ -1,7 +1,7 @@
 pub mod Remainders
 pub mod Prime
 pub mod Bezout
-pub mod Product
+pub mod EuclidTurns
 pub mod InverseLaws
 pub mod KeptLaws
 pub mod Every

@@ -2,7 +2,7 @@
 ghost use Rattle.std.specs.Prelude.{◌≡◌, ◌+◌, ◌*◌, ◌-◌, ◌%◌, ◌^◌, ◌<◌};
 ghost use Rattle.field.specs.Modulus.{P};
 
-// A field element. Cells are lent as plain numbers, so the type serves for its constants.
+// A field element. Cells are lent as plain numbers, so the type serves for its constants, which document 01 has belong to it.
 #[derive(Clone, Copy)]
 pub struct Felt(pub u64);
 
@@ -70,27 +70,19 @@ fn more(a: u64, b: u64) -> u64
 }
 
 // A number of 128 bits modulo p: 2^64 is 2^32 - 1 modulo p, and 2^96 is -1.
-fn fold(hi: u64, lo: u64) -> u64
-    ensures { result ≡ (hi * 2 ^ 64 + lo) % P }
+fn fold(x: u128) -> u64
+    ensures { result ≡ x % P }
 {
+    let lo = (x & u128::from(u64::MAX)) as u64;
+    let hi = (x >> 64) as u64;
     let hh = hi / 0x1_0000_0000;
     let hl = hi % 0x1_0000_0000;
     more(less(lo, hh), hl * 0xffff_ffff)
 }
 
-// The product, by halves of 32 bits.
+// The product.
 pub fn mul(a: u64, b: u64) -> u64
     ensures { result ≡ (a * b) % P }
 {
-    let a0 = a % 0x1_0000_0000;
-    let a1 = a / 0x1_0000_0000;
-    let b0 = b % 0x1_0000_0000;
-    let b1 = b / 0x1_0000_0000;
-    let w0 = a0 * b0;
-    let t = a1 * b0 + w0 / 0x1_0000_0000;
-    let w1 = t % 0x1_0000_0000 + a0 * b1;
-    fold(
-        a1 * b1 + t / 0x1_0000_0000 + w1 / 0x1_0000_0000,
-        w1 % 0x1_0000_0000 * 0x1_0000_0000 + w0 % 0x1_0000_0000,
-    )
+    fold(u128::from(a) * u128::from(b))
 }

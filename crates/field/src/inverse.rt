@@ -10,7 +10,8 @@ ghost use Rattle.field.specs.Column.{invert_column};
 use crate::felt::{Felt, reduce};
 use crate::table::INVERSES;
 
-// The inverse of a number from 1 to p - 1, by Euclid's algorithm without signs: x·s is -u and x·t is v modulo p.
+// The inverse of a number from 1 to p - 1, by Euclid's algorithm without signs: x·s is -u and x·t is v modulo p. The loop counts no index.
+#[tactic(auto, using(crate::proofs::EuclidTurns::turn_laws))]
 fn euclid_inverse(x: u64) -> u64
     requires { (0 < x) × (x < P) }
     ensures { result ≡ inverse_of x }
@@ -20,13 +21,13 @@ fn euclid_inverse(x: u64) -> u64
     let mut s: u64 = 0;
     let mut t: u64 = 1;
     while v > 1 {
-        s = s + u / v * t;
-        u = u % v;
+        s += u / v * t;
+        u %= v;
         if u == 1 {
             return Felt::MODULUS - s;
         }
-        t = t + v / u * s;
-        v = v % u;
+        t += v / u * s;
+        v %= u;
     }
     t
 }
@@ -39,6 +40,7 @@ fn inverses() -> [u64; 128]
 }
 
 // The inverse of any number: 0 for a multiple of p.
+#[tactic(auto, using(crate::proofs::Entries::entry_law, crate::proofs::Entries::computed_law))]
 pub fn inverse(x: u64) -> u64
     ensures { result ≡ inverse_of x }
 {
@@ -50,7 +52,9 @@ pub fn inverse(x: u64) -> u64
     euclid_inverse(y)
 }
 
-// The inverse of any number in a column: looked up below 128; below 1,024 computed once and kept; else computed.
+// The inverse of any number in a column: looked up below 128; below 1,024 computed once and kept; else computed. In `kept` 0 is none, since no
+// inverse of these is 0. Not as Option: that was tried, takes 16 KiB of stack for 8, where docs/CALLERS.md names a thread of 16 KiB, and more time.
+#[tactic(auto, using(crate::proofs::Entries::entry_law, crate::proofs::Entries::computed_law))]
 fn inverse_kept(table: &[u64; 128], kept: &mut [u64; 1024], x: u64) -> u64
     requires { TableRule table.now × KeptInverses kept.old }
     ensures value { result ≡ inverse_of x }
@@ -74,6 +78,7 @@ fn inverse_kept(table: &[u64; 128], kept: &mut [u64; 1024], x: u64) -> u64
 
 // Replaces by its inverse each cell in the given column of the first `rows` rows of `width` cells. Rows that the buffer does not
 // hold, and a column that a row does not have, are left out.
+#[tactic(auto, using(crate::proofs::Columns::column_laws, crate::proofs::KeptLaws::kept_none))]
 pub fn invert_column(cells: &mut [u64], rows: usize, width: usize, column: usize)
     ensures { cells.new ≡ invert_column cells.old rows width column }
 {
@@ -81,18 +86,10 @@ pub fn invert_column(cells: &mut [u64], rows: usize, width: usize, column: usize
         return;
     }
     let table = inverses();
-    let mut kept = [0u64; 1024];
-    let mut row = 0;
-    let mut at = column;
-    while row < rows {
-        if cells.len() <= at {
-            return;
-        }
+    let mut kept = [0; 1024];
+    let held = cells.len().saturating_sub(column).div_ceil(width);
+    for row in 0..rows.min(held) {
+        let at = row * width + column;
         cells[at] = inverse_kept(&table, &mut kept, cells[at]);
-        if cells.len() - at <= width {
-            return;
-        }
-        at += width;
-        row += 1;
     }
 }

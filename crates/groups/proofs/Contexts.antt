@@ -1,42 +1,14 @@
--- What the calls at an operation come to in the definition's terms.
-use mathlib.Core.Path.{◌≡◌, refl}
-use mathlib.Core.Bool.{Bool, true, false}
+-- What the call at an operation asks of the operation's place.
+use mathlib.Core.Path.{◌≡◌}
 use mathlib.Core.List.{List}
-use Rattle.std.proofs.Common.{Option, Some}
-use Prim.Native.Nat.{ℕ, ◌+◌, ◌-◌, ◌*◌, ◌/◌, ◌^◌, ◌≤◌}
+use Prim.Native.Nat.{ℕ, ◌≤◌}
 use native.Mathlib.Omega.{arith}
-use lib.Dec.{ltb}
-use Rattle.field.specs.Cells.{cell_at}
-use Rattle.groups.specs.Answer.{Answer, accepted, refused, and_then, pick}
+use Rattle.groups.specs.Answer.{accepted}
 use Rattle.groups.specs.Batches.{starts_at}
-use Rattle.groups.specs.GroupsLeft.{counts, group_sum, pushes}
 use Rattle.groups.specs.GroupOfOperation.{group_of}
-use Rattle.groups.specs.Constants.{no_such_operation, over_total, bad_length}
-use Rattle.groups.specs.Refusals.{told_or}
-use Rattle.groups.specs.Contexts.{sum_before, group_cell, consumed, context_in_group, op_context, too_large}
-use Rattle.groups.specs.ways.ContextsByCount.{large_by, context_in}
-use Rattle.groups.specs.declared.context.BasicBlockContext.{BasicBlockContext}
-use Rattle.groups.specs.declared.batch.OpBatch.{OpBatch}
 use Rattle.groups.specs.declared.batch.BasicBlockNode.{BasicBlockNode}
-use Rattle.groups.specs.declared.sum.GroupSum.{GroupSum}
 use Rattle.groups.specs.declared.group.OpPlace.{OpPlace}
 use Rattle.groups.proofs.OneGroup.{lies}
-
--- batches 0 to n of a block are its first n
-pub counts-first : (batches : List ℕ) (first n : ℕ) → counts batches (first + 0) (n - 0) ≡ counts batches first n
-counts-first batches first n =
-    let e : first + 0 ≡ first = omega arith in
-    let f : n - 0 ≡ n = omega arith in
-    rw (e, f)
-
--- the three parts of what is consumed
-pub consumed-is : (push : ℕ) (batches groups : List ℕ) (block : BasicBlockNode) (index : ℕ) (place : OpPlace) (sum : GroupSum) (group count : ℕ)
-    → sum ≡ group_sum true (counts batches (block.first_batch + 0) (index - 0))
-    → group ≡ cell_at groups (8 * (block.first_batch + index) + place.group)
-    → count ≡ pushes push place.index group
-    → consumed push block batches groups index place ≡ sum.groups + count + place.group + 1
-unfolding consumed
-consumed-is push batches groups block index place sum group count s g e = rw (e, g, s, counts-first)
 
 -- a batch has eight groups, of nine operations at most
 pub in-batch : (batches : List ℕ) (block : BasicBlockNode) (index ops op : ℕ) (starts : List ℕ) (place : OpPlace)
@@ -46,26 +18,3 @@ in-batch batches block index ops op starts place s e =
     let h = lies (starts_at batches block index) ops op place (rw s at e) in
     let g = h.a_group in
     (omega arith, h.up_to_8)
-
-two-picks : {A B : Type 0} (b c : Bool) (m n : ℕ) (x : A) (f : A → Answer B) →
-    pick b (refused m) (pick c (refused n) (f x)) ≡ and_then (pick b (refused m) (pick c (refused n) (accepted x))) f
-two-picks true c m n x f = refl
-two-picks false true m n x f = refl
-two-picks false false m n x f = refl
-
--- the context at an operation, by what its row shows
-pub in_group_is : (push : ℕ) (block : BasicBlockNode) (batches groups : List ℕ) (index : ℕ) (batch : OpBatch) (place : OpPlace) →
-    context_in_group push block batches groups index batch place
-    ≡ and_then (context_in push block batches groups index batch.group_count place) (λ context. accepted (record { context = context; batch = batch; place = place }))
-unfolding context_in_group context_in op_context too_large
-in_group_is push block batches groups index batch place =
-    two-picks {A = BasicBlockContext}
-    (ltb block.total (consumed push block batches groups index place))
-    (large_by block batch.group_count (sum_before batches block index).above8)
-    over_total
-    bad_length
-    (record {
-      current_op_group = group_cell groups block index place / 2 ^ (7 * (place.index + 1));
-      group_count_in_block = block.total - consumed push block batches groups index place;
-    })
-    (λ context. accepted (record { context = context; batch = batch; place = place }))

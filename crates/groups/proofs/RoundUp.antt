@@ -50,8 +50,8 @@ same-round : (n r s : ℕ) → IsRoundUp n r → IsRoundUp n s → r ≤ s
 same-round n r s u v = rw v.power (u.least v.exponent (rw v.power at v.enough))
 
 -- the library's word for the least power of two says the same
-pub next-power : (n r : ℕ) → IsNextPowerOfTwo n r → r ≡ round_up n
-next-power n r (power, above, below) =
+pub next_power : (n r : ℕ) → IsNextPowerOfTwo n r → r ≡ round_up n
+next_power n r (power, above, below) =
     let u : IsRoundUp n r = record { exponent = power.0; power = power.1; enough = above; least = λ k l. rw power.1 (least-power power.0 k n (leb power.0 k) refl (rw power.1 at below) l) } in
     let v = round-up n in
     omega (arith, same-round n r (round_up n) u v, same-round n (round_up n) r v u)

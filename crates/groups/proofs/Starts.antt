@@ -1,6 +1,6 @@
 -- One turn of a walk along the group starts.
 use mathlib.Core.Path.{◌≡◌, refl}
-use mathlib.Core.Bool.{Bool, true, false, not, ◌&&◌, ◌||◌, or-true}
+use mathlib.Core.Bool.{Bool, true, false, not, ◌&&◌, or-true}
 use mathlib.Core.List.{List, [], ◌∷◌}
 use Prim.Native.Nat.{ℕ, zero, suc, ◌+◌, ◌-◌, ◌≤◌, ◌<◌}
 use native.Mathlib.Numerals.{add-one}
@@ -56,3 +56,6 @@ one-falls (x ∷ y ∷ ys) (suc k) h l = rw (one-falls (y ∷ ys) k (omega (arit
 pub sorted-law : (s : List ℕ) (b : Bool) → IsAllAdjacentAnswer (λ x y b. is_some_and is_le (Some (nat_cmp x y)) ≡ b) s b → falling s ≡ not b
 sorted-law s true h = none-falls s (λ k l. non_decreasing_from_is_sorted s true h k (suc k) 0 (omega arith) l)
 sorted-law s false h = let (k, l, d) = non_decreasing_from_is_sorted s false h in one-falls s k (rw add-one at l) (rw add-one at (d 0))
+
+-- the laws of the walk along the starts
+pub ruleset start_laws = (sorted-law, group-turn, group-last)

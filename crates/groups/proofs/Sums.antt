@@ -4,7 +4,7 @@ use mathlib.Core.Bool.{Bool, true, false, ◌||◌, or_assoc, or-false}
 use mathlib.Core.List.{List, [], ◌∷◌}
 use Prim.Native.Nat.{ℕ, zero, suc, ◌+◌, ◌-◌, ◌*◌, ◌/◌, ◌%◌, ◌≤◌, ◌<◌}
 use native.Mathlib.Omega.{arith}
-use borrow.Author.Tests.{le-leb, lt-leb, le-ltb, lt-ltb, eq-eqb, ne_eqb}
+use borrow.Author.Tests.{le-leb, eq-eqb, ne_eqb}
 use lib.Dec.{leb, ltb}
 use lib.ListN.{get_or}
 use Rattle.groups.specs.Answer.{pick}
@@ -31,10 +31,10 @@ doubled-within (suc j) zero p n m h l = rw (le-leb n p (omega arith)) (omega ari
 doubled-within (suc j) (suc k) p n m h l =
     pick-within (leb n p) p (doubled j (p + p) n) m (omega (arith, times_above (suc k) p)) (doubled-within j k (p + p) n m h l)
 
-pub groups-within : (rounded : Bool) (n : ℕ) → n ≤ 4294967296 → groups_of rounded n ≤ 4294967296
-unfolding groups_of round_up
-groups-within true n h = doubled-within n 32 1 n 4294967296 refl h
-groups-within false n h = h
+-- a number of 32 bits is rounded up to one of at most 33
+pub round_within : (n : ℕ) → n ≤ 4294967296 → round_up n ≤ 4294967296
+unfolding round_up
+round_within n h = doubled-within n 32 1 n 4294967296 refl h
 
 pub counts-turn : (batches : List ℕ) (first k to : ℕ) → k < to
     → counts batches (first + k) (to - k) ≡ get_or batches (12 * (first + k)) 0 ∷ counts batches (first + (k + 1)) (to - (k + 1))
@@ -86,3 +86,6 @@ above-turn b batches first k to count h e = rw (counts-turn batches first k to h
 pub above-last : (b : Bool) (batches : List ℕ) (r k to : ℕ) → to ≤ k → (b || any_above8 (counts batches r (to - k))) ≡ b
 unfolding any_above8
 above-last b batches r k to h = rw (counts-last batches r k to h) (or-false b)
+
+-- the laws of the loop that counts
+pub ruleset push_laws = (pushes-yes, pushes-no, pushes-last)

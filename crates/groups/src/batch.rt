@@ -93,16 +93,6 @@ pub(crate) fn starts_of(batches: &[u32], record: usize) -> [u32; 9]
     requires { «record» < 2 ^ 60 }
     ensures { result ≡ starts_of batches.now «record» }
 {
-    let at = 12 * record;
-    [
-        item_or(batches, at + 1, 0),
-        item_or(batches, at + 2, 0),
-        item_or(batches, at + 3, 0),
-        item_or(batches, at + 4, 0),
-        item_or(batches, at + 5, 0),
-        item_or(batches, at + 6, 0),
-        item_or(batches, at + 7, 0),
-        item_or(batches, at + 8, 0),
-        item_or(batches, at + 9, 0),
-    ]
+    let at = 12 * record + 1;
+    std::array::from_fn(|k| item_or(batches, at + k, 0))
 }

@@ -1,7 +1,7 @@
 // The numbers of the documents that have names: the width of a row, its columns, the limit of rows, the refusals. `specs/Constants.antt` has the
 // same for the definitions, with the documents' words.
 
-// A row of 49 cells. Rows are lent as plain numbers, so the type serves for its constants.
+// A row of 49 cells. Rows are lent as plain numbers, so the type serves for its constants: document 01 has constants belong to their types.
 #[derive(Clone, Copy)]
 pub struct Row(pub usize);
 
@@ -12,7 +12,7 @@ impl Row {
     pub const MOST: usize = 16777216;
 }
 
-// A column of the row, where the code names one; of several columns the first.
+// A column of the row, where the code names one; of several columns the first. No enum: a number of it is an index of cells, and so a constant.
 #[derive(Clone, Copy)]
 pub struct Column(pub usize);
 

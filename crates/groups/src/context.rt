@@ -1,15 +1,14 @@
 // What a row in a basic block says of the block's groups.
 ghost use Rattle.std.specs.Prelude.{◌≡◌, ◌+◌, ◌*◌, ◌/◌, ◌^◌, ◌≤◌};
-ghost use Rattle.groups.specs.Contexts.{context_at_op, cells_at_op, context_at_batch_start};
+ghost use Rattle.groups.specs.Contexts.{too_large, context_in_group, context_at_op, cells_at_op, context_at_batch_start};
 ghost use Rattle.groups.specs.Refusals.{told};
-ghost use Rattle.groups.specs.ways.ContextsByCount.{large_by, context_in};
 
 use crate::batch::{BasicBlockNode, LentBatches, OpBatch};
 use crate::flags::{BatchFlags, get_op_batch_flags};
 use crate::group::{OpPlace, op_idx_in_batch_to_group};
 use crate::refusal::Refusal;
 use crate::sum::{push_count, sum_groups};
-use field::cell::{cell, item_or};
+use field::cell::cell;
 
 // The current group, from the next operation on, and how many groups of the block are left.
 #[derive(Clone, Copy)]
@@ -50,24 +49,25 @@ fn after_op(group: u64, index: u64) -> u64
 }
 
 // Whether the block has too many batches, or the batch or one of the others added up has too many groups.
-fn is_too_large(block: BasicBlockNode, group_count: u32, above8: bool) -> bool
-    ensures { result ≡ large_by block group_count above8 }
+#[tactic(auto, unfolding(crate::specs::Contexts::too_large))]
+fn is_too_large(block: BasicBlockNode, batch: OpBatch, above8: bool) -> bool
+    ensures { result ≡ too_large block batch above8 }
 {
-    4096 < block.batches || 8 < group_count || above8
+    4096 < block.batches || 8 < batch.group_count || above8
 }
 
 // The context at an operation whose place in the batch is known, or 8 or 11.
-#[tactic(auto, unfolding(crate::specs::ways::ContextsByCount::context_in, crate::specs::Contexts::consumed))]
+#[tactic(auto, unfolding(crate::specs::Contexts::context_in_group, crate::specs::Contexts::op_context, crate::specs::Contexts::consumed))]
 fn in_group(
     push: u8,
     batches: &LentBatches,
     block: BasicBlockNode,
     index: u32,
-    group_count: u32,
+    batch: OpBatch,
     place: OpPlace,
-) -> Result<BasicBlockContext, Refusal>
+) -> Result<OpContext, Refusal>
     requires { (place.group ≤ 7) × (place.index ≤ 8) }
-    ensures { told result ≡ context_in push block batches.now.records.now batches.now.groups.now index group_count place }
+    ensures { told result ≡ context_in_group push block batches.now.records.now batches.now.groups.now index batch place }
 {
     let sum = sum_groups(batches.records, block.first_batch, 0, index, true);
     let at = 8 * block.record_of(index) + place.group as usize;
@@ -77,18 +77,23 @@ fn in_group(
     if total < consumed {
         return Err(Refusal::OverTotal);
     }
-    if is_too_large(block, group_count, sum.above8) {
+    if is_too_large(block, batch, sum.above8) {
         return Err(Refusal::BadLength);
     }
-    Ok(BasicBlockContext {
+    let context = BasicBlockContext {
         current_op_group: after_op(group, place.index),
         group_count_in_block: total - consumed,
+    };
+    Ok(OpContext {
+        context,
+        batch,
+        place,
     })
 }
 
 impl BasicBlockContext {
     // The context at operation `op` of batch `index`, or the lowest number of 5, 6, 8 and 11 that holds.
-    #[tactic(auto, using(crate::proofs::Contexts::in_group_is), unfolding(crate::specs::Contexts::context_at_op))]
+    #[tactic(auto, unfolding(crate::specs::Contexts::context_at_op))]
     pub fn new_at_op(
         push: u8,
         batches: &LentBatches,
@@ -105,16 +110,11 @@ impl BasicBlockContext {
         let Some(place) = op_idx_in_batch_to_group(starts, batch.num_ops, op) else {
             return Err(Refusal::NoSuchOperation);
         };
-        let context = in_group(push, batches, block, index, batch.group_count, place)?;
-        Ok(OpContext {
-            context,
-            batch,
-            place,
-        })
+        in_group(push, batches, block, index, batch, place)
     }
 
-    // What the row of operation `op` of batch `index` shows, refused as `new_at_op` refuses. Of the batch it reads two numbers alone.
-    #[tactic(auto, using(crate::proofs::Contexts::in_group_is), unfolding(crate::specs::Batches::batch_at, crate::specs::Contexts::cells_at_op, crate::specs::Contexts::context_at_op))]
+    // What the row of operation `op` of batch `index` shows, refused as `new_at_op` refuses.
+    #[tactic(auto, unfolding(crate::specs::Contexts::cells_at_op))]
     pub fn cells_at_op(
         push: u8,
         batches: &LentBatches,
@@ -124,25 +124,15 @@ impl BasicBlockContext {
     ) -> Result<OpCells, Refusal>
         ensures { told result ≡ cells_at_op push block batches.now.records.now batches.now.groups.now index op }
     {
-        if !batches.is_batch(block, index) {
-            return Err(Refusal::NoSuchBatch);
-        }
-        let at = 12 * block.record_of(index);
-        let starts = batches.starts_at(block, index);
-        let num_ops = item_or(batches.records, at + 10, 0);
-        let Some(place) = op_idx_in_batch_to_group(starts, num_ops, op) else {
-            return Err(Refusal::NoSuchOperation);
-        };
-        let group_count = item_or(batches.records, at, 0);
-        let context = in_group(push, batches, block, index, group_count, place)?;
+        let found = Self::new_at_op(push, batches, block, index, op)?;
         Ok(OpCells {
-            index: place.index,
-            context,
+            index: found.place.index,
+            context: found.context,
         })
     }
 
     // The context at the start of batch `index`, or the lowest number of 5, 7 and 11 that holds.
-    #[tactic(auto, unfolding(crate::specs::Contexts::context_at_batch_start, crate::specs::Contexts::too_large))]
+    #[tactic(auto, unfolding(crate::specs::Contexts::context_at_batch_start))]
     pub fn new_at_batch_start(
         batches: &LentBatches,
         block: BasicBlockNode,
@@ -158,7 +148,7 @@ impl BasicBlockContext {
         let Some(flags) = get_op_batch_flags(sum.groups) else {
             return Err(Refusal::BadGroupCount);
         };
-        if is_too_large(block, batch.group_count, sum.above8) {
+        if is_too_large(block, batch, sum.above8) {
             return Err(Refusal::BadLength);
         }
         let context = BasicBlockContext {

@@ -41,7 +41,7 @@ fn place_in(group: usize, index: u32, following: u32) -> Option<OpPlace>
 
 // The group with start ≤ op < next start, the index in it, and how many operations follow it there. None, refused with 6: the operation
 // is past the batch's, a start falls, no group holds the operation, or its index is above 8.
-#[tactic(auto, unfolding(crate::specs::GroupOfOperation::group_of))]
+#[tactic(auto, using(crate::proofs::Starts::start_laws), unfolding(crate::specs::GroupOfOperation::group_of))]
 pub fn op_idx_in_batch_to_group(starts: [u32; 9], num_ops: u32, op: u32) -> Option<OpPlace>
     ensures { told_or no_such_operation result ≡ group_of starts num_ops op }
 {

@@ -5,15 +5,20 @@ ghost use Rattle.groups.specs.GroupsLeft.{groups_of, counts, group_sum, pushes};
 use field::cell::item_or;
 
 // The groups of a batch, rounded up to a power of two or as they are.
+#[tactic(auto, using(crate::proofs::RoundUp::next_power), unfolding(crate::specs::GroupsLeft::groups_of))]
 fn groups_of(count: u32, rounded: bool) -> u64
     ensures value { result ≡ groups_of rounded count }
     ensures upper_bound { result ≤ 4294967296 }
 {
     let groups = u64::from(count);
-    if rounded { groups.next_power_of_two() } else { groups }
+    if rounded {
+        groups.next_power_of_two()
+    } else {
+        groups
+    }
 }
 
-// The sum, and whether one of the batches has more than 8 groups.
+// The sum, and whether one of the batches has more than 8 groups. No Option: a sum over 8 is a value too, since 7 and 8 are answered before 11.
 #[derive(Clone, Copy)]
 pub struct GroupSum {
     pub groups: u64,
@@ -39,6 +44,7 @@ pub fn sum_groups(batches: &[u32], first: u32, from: u32, to: u32, rounded: bool
 }
 
 // How many of the lowest n digits of 7 bits of the group are PUSH.
+#[tactic(auto, using(crate::proofs::Sums::push_laws))]
 pub fn push_count(push: u8, group: u64, n: u64) -> u64
     ensures value { result ≡ pushes push n group }
     ensures upper_bound { result ≤ n }

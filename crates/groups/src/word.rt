@@ -1,4 +1,4 @@
-// Four cells that stand together. An enum can hold a Word, which it could not an array.
+// Four cells that stand together.
 ghost use Rattle.std.specs.Prelude.{◌≡◌};
 ghost use Rattle.groups.specs.Words.{word_at, read_word};
 
@@ -9,6 +9,7 @@ use field::felt::reduce;
 pub struct Word(pub u64, pub u64, pub u64, pub u64);
 
 // The four cells from cell `at` on, each read modulo p, 0 past the end of the slice.
+#[tactic(auto, using(field::proofs::CellLaws::cell_past), unfolding(crate::specs::Words::word_at))]
 pub fn word_at(cells: &[u64], at: usize) -> Word
     ensures { result ≡ word_at cells.now at }
 {
