@@ -4,8 +4,9 @@
 // addresses behind them are sorted, and one sweep over all rows counts each flagged END at the address behind it; the LOOP rows taken then look
 // their counts up.
 ghost use Rattle.std.specs.Prelude.{◌≡◌, ◌||◌, ℕ, ◌+◌, ◌*◌, ◌<◌, ◌≤◌, eqb, length, take, get_or, replicate};
-ghost use Rattle.groups.specs.Answer.{pick};
-ghost use Rattle.groups.specs.Constants.{row_width, most_rows};
+ghost use Rattle.groups.specs.Answer.{pick, refusal};
+ghost use Rattle.groups.specs.Constants.{row_width, most_rows, no_body_end};
+ghost use Rattle.groups.specs.Refusals.{told};
 ghost use Rattle.rows.specs.ways.Order.{occurrences, Ordered};
 ghost use Rattle.rows.specs.records.Buffers.{rows_of, on_rows, addr_of, buffer_row, opcode_of};
 ghost use Rattle.rows.specs.passes.Passes.{flagged_end, multiplied, loop_without_body, refusal2, unless_refused};
@@ -16,7 +17,8 @@ use crate::records::buffer::{buffer_wrong, decode_opcode, fewer_rows, is_low};
 use crate::records::profile::{Profile, is_wrong};
 use field::cell::{cell, number_at};
 use field::felt::Felt;
-use groups::constants::{Column, Refusal, Row};
+use groups::constants::{Column, Row};
+use groups::refusal::Refusal;
 
 // LOOP rows that were taken: their number, and the row behind the last of them.
 #[derive(Clone, Copy)]
@@ -231,35 +233,41 @@ fn write_by_tables(profile: Profile, buffer: &mut [u64], rows: usize)
 }
 
 // Refusal 14: whether the count of a LOOP row but the last comes to 0. Where none does, each gets it.
-pub(crate) fn write_multiplicities(profile: Profile, buffer: &mut [u64], rows: usize) -> bool
+pub(crate) fn write_multiplicities(
+    profile: Profile,
+    buffer: &mut [u64],
+    rows: usize,
+) -> Result<(), Refusal>
     requires { (row_width * rows ≤ length buffer.old) × (rows ≤ most_rows) }
-    ensures value { result ≡ loop_without_body profile (rows_of rows buffer.old) }
-    ensures buffer_after { buffer.new ≡ pick result buffer.old (on_rows rows (multiplied profile) buffer.old) }
+    ensures value { refusal (told result) ≡ pick (loop_without_body profile (rows_of rows buffer.old)) no_body_end 0 }
+    ensures buffer_after { buffer.new ≡ pick (loop_without_body profile (rows_of rows buffer.old)) buffer.old (on_rows rows (multiplied profile) buffer.old) }
 {
     if count_nested(profile, buffer, rows) {
-        return false;
+        return Ok(());
     }
     if any_by_tables(profile, buffer, rows) {
-        return true;
+        return Err(Refusal::NoBodyEnd);
     }
     write_by_tables(profile, buffer, rows);
-    false
+    Ok(())
 }
 
-// Finishing pass 2: each LOOP row but the last of the first `rows` rows gets the number of its body's ENDs.
-pub fn set_loop_body_multiplicities(profile: Profile, buffer: &mut [u64], rows: usize) -> u32
-    ensures value { result ≡ refusal2 profile buffer.old rows }
+// Finishing pass 2: each LOOP row but the last of the first `rows` rows gets the number of its body's ENDs. A refusal changes nothing.
+#[tactic(auto, unfolding(crate::specs::passes::Passes::refusal2, groups::specs::Answer::first_of))]
+pub fn set_loop_body_multiplicities(
+    profile: Profile,
+    buffer: &mut [u64],
+    rows: usize,
+) -> Result<(), Refusal>
+    ensures value { refusal (told result) ≡ refusal2 profile buffer.old rows }
     ensures buffer_after { buffer.new ≡ unless_refused (refusal2 profile buffer.old rows) buffer.old
         (on_rows rows (multiplied profile) buffer.old) }
 {
     if is_wrong(profile) {
-        return Refusal::BAD_PROFILE;
+        return Err(Refusal::BadProfile);
     }
     if buffer_wrong(buffer.len()) | fewer_rows(buffer.len(), rows) {
-        return Refusal::BAD_LENGTH;
+        return Err(Refusal::BadLength);
     }
-    if write_multiplicities(profile, buffer, rows) {
-        return Refusal::NO_BODY_END;
-    }
-    0
+    write_multiplicities(profile, buffer, rows)
 }
