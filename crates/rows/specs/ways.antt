@@ -1,5 +1,4 @@
 pub mod Order
-pub mod Sides
 pub mod LoopCounts
 pub mod OpenLoops
 pub mod Finisher

@@ -1,14 +1,15 @@
 -- Laws of the fragments' counts: their sum, the checks of pass 1, and what they leave.
-use mathlib.Core.Path.{◌≡◌, refl, sym}
+use mathlib.Core.Path.{◌≡◌, refl, sym, ap, ◌∙◌}
 use mathlib.Core.Bool.{Bool, true, false, ◌||◌, or_assoc}
-use mathlib.Core.List.{List, [], ◌∷◌}
+use mathlib.Core.List.{List, [], ◌∷◌, ◌++◌}
 use Prim.Native.Nat.{ℕ, suc, ◌+◌, ◌-◌, ◌*◌, ◌/◌, ◌≤◌, ◌<◌, min}
 use native.Mathlib.Numerals.{add-one}
 use native.Mathlib.Omega.{arith}
 use borrow.Author.Tests.{ltb-true, ltb-false, eqb-false, lt-ltb, le-ltb}
 use lib.Dec.{ltb, eqb}
-use lib.ListN.{length, drop, get_or, drop_of_length-le}
+use lib.ListN.{length, drop, get_or, length-append}
 use lib.Seq.{drop-cons}
+use Rattle.std.specs.List.{list_any}
 use Rattle.rows.specs.records.Cells.{fragment_wrong}
 use Rattle.rows.specs.passes.Passes.{sum_of, any_above, not_full, no_fragment, fragments_wrong, refusal1}
 use Rattle.rows.specs.records.Buffers.{buffer_wrong, fewer_rows}
@@ -43,6 +44,11 @@ pub fragments-test : (cells size : ℕ) (counts built : List ℕ)
 unfolding fragment_wrong fragments_wrong buffer_wrong fewer_rows
 fragments-test cells size counts built =
     rw (few-rows (cells / 49) (sum_of counts), few-built (length built) (length counts)) (simp or_assoc)
+
+pub above-list_any : (limit : ℕ) (counts : List ℕ) → any_above limit counts ≡ list_any (ltb limit) counts
+unfolding any_above
+above-list_any limit [] = refl
+above-list_any limit (count ∷ counts) = ap (λ t. ltb limit count || t) (above-list_any limit counts)
 
 -- WHAT THE REFUSALS LEAVE
 
@@ -96,13 +102,14 @@ unfolding not_full
 full-cons size count [] h = absurd (omega arith)
 full-cons size count (next ∷ counts) h = refl
 
--- the last fragment
-pub full-last : (size : ℕ) (counts : List ℕ) (i : ℕ) → i + 1 ≡ length counts → not_full size (drop i counts) ≡ eqb (get_or counts i 0) 0
+-- the last fragment and the others
+pub full-split : (size : ℕ) (others : List ℕ) (last : ℕ) → not_full size (others ++ (last ∷ [])) ≡ (list_any (λ n. ltb n size) others || eqb last 0)
 unfolding not_full
-full-last size counts i e =
-    let k : i < length counts = omega arith in
-    let j : length counts ≤ suc i = omega arith in
-    rw (drop-cons counts i 0 k, drop_of_length-le counts j)
+full-split size [] last = refl
+full-split size (count ∷ others) last =
+    full-cons size count (others ++ (last ∷ [])) (omega (arith, length-append others (last ∷ [])))
+    ∙ ap (λ t. ltb count size || t) (full-split size others last)
+    ∙ sym (or_assoc (ltb count size) (list_any (λ n. ltb n size) others) (eqb last 0))
 
 -- THE NUMBER
 

@@ -1,5 +1,5 @@
 -- Where the finisher refuses nothing, the rows that its passes work on are in the buffer and in the height.
-use mathlib.Core.Path.{◌≡◌, ◌∙◌}
+use mathlib.Core.Path.{◌≡◌, ◌∙◌, sym}
 use mathlib.Core.Bool.{false, ◌||◌}
 use mathlib.Core.List.{List, [], ◌∷◌}
 use Prim.Native.Nat.{ℕ, ◌+◌, ◌-◌, ◌*◌, ◌/◌, ◌%◌, ◌≤◌, ◌<◌, min}
@@ -84,6 +84,11 @@ ready cells size rows height (count ∷ counts) built e f none full s =
       tall = omega arith;
       in_built = k.in_built;
     }
+
+-- the same, of the sum itself
+pub ready-for : (cells size rows height : ℕ) (counts built : List ℕ) → rows ≡ sum_of counts → (fragments_wrong cells size counts built ≡ false) × (height_wrong cells (sum_of counts) height ≡ false)
+    → (no_fragment counts ≡ false) × (not_full size counts ≡ false) → Ready cells rows height counts built
+ready-for cells size rows height counts built sum wrong full = ready cells size rows height counts built wrong.0 wrong.1 full.0 full.1 (sum ∙ sym (sum-uncapped cells size counts built wrong.0))
 
 pub passed-all : (p : Profile) (buffer : List ℕ) (size : ℕ) (counts built : List ℕ) (height : ℕ) → refusal_all p buffer size counts built height ≡ 0 → Passed p (length buffer) size height counts built
 unfolding refusal_all

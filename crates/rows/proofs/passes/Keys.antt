@@ -2,17 +2,16 @@
 use mathlib.Core.Path.{◌≡◌, sym, ◌∙◌, ap}
 use mathlib.Core.Bool.{true, false}
 use mathlib.Core.List.{List}
-use Prim.Native.Nat.{ℕ, ◌+◌, ◌/◌, ◌≤◌, ◌<◌}
+use Prim.Native.Nat.{ℕ, ◌+◌, ◌≤◌, ◌<◌}
 use native.Mathlib.Omega.{arith}
 use native.Mathlib.Decide.{ℕ_discrete}
 use lib.ListN.{length, take, set}
-use borrow.Author.Tests.{le-leb}
-use Rattle.rows.specs.ways.Order.{occurrences, Ordered, Sorts, SortsFirst}
+use Rattle.rows.specs.ways.Order.{occurrences, Ordered}
 use Rattle.rows.proofs.sorted.Counts.{count-more}
 use Rattle.rows.proofs.records.Occurrences.{hit_same}
 use Rattle.rows.specs.declared.records.profile.Profile.{Profile}
 use Rattle.rows.specs.records.Buffers.{buffer_row}
-use Rattle.rows.specs.ways.LoopCounts.{is_loop, next_addr, ends_in, Tallied, Held, Took, Table}
+use Rattle.rows.specs.ways.LoopCounts.{is_loop, next_addr, ends_in, Tallied, Held, Table}
 
 module _ (p : Profile) (c : List ℕ) (from next : ℕ) where
   skip_at : (keys : List ℕ) → is_loop p (buffer_row next c) ≡ false → Held p c from next keys → (j : ℕ) → from ≤ j → j < next + 1 → is_loop p (buffer_row j c) ≡ true → Dec (j ≡ next) → 0 < occurrences (next_addr j c) keys
@@ -33,20 +32,6 @@ module _ (p : Profile) (c : List ℕ) (from next : ℕ) where
     -- a LOOP row, and its key behind the others
     pub held_more : Held p c from next (take count keys) → Held p c from (next + 1) (take (count + 1) (set keys count v))
     held_more g j a b l = more-at g j a b l (ℕ_discrete j next)
-
--- keys in order are the same keys
-pub took-sorted : (p : Profile) (c : List ℕ) (rows from : ℕ) (keys new : List ℕ) (count next : ℕ) → length keys ≡ 8192 → SortsFirst count keys new → Took p c rows from keys count next
-    → Took p c rows from new count next × Ordered (take count new)
-took-sorted p c rows from keys new count next size s t =
-    let d : Sorts (take count keys) (take count new) = s.done (le-leb count (length keys / 2) (omega (arith, t.few))) in (
-      record {
-        few = t.few;
-        onward = t.onward;
-        within = t.within;
-        held = λ j a b l. rw (d.count (next_addr j c)) (t.held j a b l);
-      },
-      d.order,
-    )
 
 -- what a LOOP row that was taken finds under its key
 pub table-count : (p : Profile) (c : List ℕ) (rows from next : ℕ) (keys counts : List ℕ) → Table p c rows from next keys counts → (i : ℕ) → from ≤ i → i < next → is_loop p (buffer_row i c) ≡ true

@@ -8,7 +8,4 @@ use Rattle.rows.proofs.passes.fixup.write_later_rows.Given as goal
 
 abbrev pub invariant-loop-k : goal.invariant-loop-k
 invariant-loop-k l =
-    (1 ≤ l.k) × (l.k - 1 ≤ length l.counts - 1) × (length l.buffer ≡ length l.initial.buffer) × (l.buffer ≡ on_rows (sum_of l.counts) (later_rows l.fragment_size l.fragment_size (built_of (l.k - 1) l.built)) l.initial.buffer)
-
-abbrev pub decreases-loop-k : goal.decreases-loop-k
-decreases-loop-k l = length l.counts - l.k
+    (1 ≤ l.k) × (l.k - 1 ≤ length l.fragments.counts.now - 1) × (length l.buffer ≡ length l.initial.buffer) × (l.buffer ≡ on_rows (sum_of l.fragments.counts.now) (later_rows l.fragments.size l.fragments.size (built_of (l.k - 1) l.fragments.built.now)) l.initial.buffer)

@@ -1,57 +1,19 @@
--- Chunk by chunk, what is asked from a row on is what is asked of all.
-use mathlib.Core.Path.{refl, sym, ◌∙◌}
-use Prim.Native.Nat.{ℕ}
+-- Part by part, what is asked from a row on is what is asked of all.
+use mathlib.Core.Path.{sym, ◌∙◌}
 use native.Mathlib.Omega.{arith}
-use lib.ListN.{length-replicate}
-use lib.Seq.{length-take-le}
 use Rattle.rows.specs.ways.LoopCounts.{ends_in}
 use Rattle.rows.proofs.passes.RowsFrom.{lacks-first, lacks-last}
 use Rattle.rows.proofs.passes.multiplicity.any_by_tables.Goals as goal
 
-pub loop-from-init : goal.loop-from-init
-loop-from-init c = (omega arith, length-replicate {A = ℕ} 8192 0, refl)
-
-pub overflow_add-from : goal.overflow_add-from
-overflow_add-from c = omega arith
-
-pub slice_bounds-take_loops-end : goal.slice_bounds-take_loops-end
-slice_bounds-take_loops-end c = omega arith
-
-pub take_loops-taken-requires : goal.take_loops-taken-requires
-take_loops-taken-requires c = omega arith
-
-pub slice_bounds-keys-end : goal.slice_bounds-keys-end
-slice_bounds-keys-end c = omega (arith, c.take_loops-taken.ensures.0.few)
-
-pub slice_bounds-count_ends-end : goal.slice_bounds-count_ends-end
-slice_bounds-count_ends-end c = omega (arith, length-take-le c.take_loops-taken.result.count c.take_loops-taken.new.keys (omega (arith, c.take_loops-taken.ensures.0.few)))
-
-pub slice_bounds-count_ends-end-in-loop-from : goal.slice_bounds-count_ends-end-in-loop-from
-slice_bounds-count_ends-end-in-loop-from c = length-replicate {A = ℕ} 4096 0
-
-pub count_ends-requires : goal.count_ends-requires
-count_ends-requires c = (omega arith, omega arith, omega (arith, c.take_loops-taken.ensures.0.few, length-take-le c.take_loops-taken.result.count c.take_loops-taken.new.keys (omega (arith, c.take_loops-taken.ensures.0.few))), c.take_loops-taken.ensures.1, refl)
-
-pub slice_bounds-keys-end-in-loop-from : goal.slice_bounds-keys-end-in-loop-from
-slice_bounds-keys-end-in-loop-from c = omega (arith, c.take_loops-taken.ensures.0.few)
-
-pub slice_bounds-any_between-end : goal.slice_bounds-any_between-end
-slice_bounds-any_between-end c = omega (arith, length-take-le c.take_loops-taken.result.count c.take_loops-taken.new.keys (omega (arith, c.take_loops-taken.ensures.0.few)))
-
-pub slice_bounds-any_between-end-in-loop-from : goal.slice_bounds-any_between-end-in-loop-from
-slice_bounds-any_between-end-in-loop-from c = omega (arith, c.count_ends.ensures.0)
-
 pub any_between-requires : goal.any_between-requires
-any_between-requires c = record { from_le_next = (omega (arith, c.take_loops-taken.ensures.0.onward), omega (arith, c.take_loops-taken.ensures.0.within), omega arith); table = record { order = c.take_loops-taken.ensures.1; held = c.take_loops-taken.ensures.0.held; tallied = c.count_ends.ensures.1 } }
+any_between-requires c = let f = c.fill-next.ensures in
+    record { from_le_next = (omega arith, omega arith, omega arith, omega arith); table = f.3 }
 
 pub returns-then-any_between : goal.returns-then-any_between
-returns-then-any_between c = rw c.if-any_between.true at c.any_between.ensures ∙ c.loop-from.invariant.2 ∙ sym (lacks-first c.args.profile c.args.rows c.args.buffer.now)
-
-pub loop-from-smaller : goal.loop-from-smaller
-loop-from-smaller c = omega (arith, c.take_loops-taken.ensures.0.onward, c.take_loops-taken.ensures.0.within)
+returns-then-any_between c = rw c.if-any_between.true at c.any_between.ensures ∙ c.loop-from.invariant.1 ∙ sym (lacks-first c.args.profile c.args.rows c.args.buffer.now)
 
 pub loop-from-preserved : goal.loop-from-preserved
-loop-from-preserved c = (omega (arith, c.take_loops-taken.ensures.0.within), omega arith, rw c.if-any_between.false at c.any_between.ensures ∙ c.loop-from.invariant.2)
+loop-from-preserved c = (omega arith, rw c.if-any_between.false at c.any_between.ensures ∙ c.loop-from.invariant.1)
 
 pub returns : goal.returns
-returns c = sym (lacks-last c.args.profile (ends_in c.args.profile c.args.rows c.args.buffer.now) c.args.rows c.loop-from.from c.args.buffer.now (omega arith)) ∙ c.loop-from.invariant.2 ∙ sym (lacks-first c.args.profile c.args.rows c.args.buffer.now)
+returns c = sym (lacks-last c.args.profile (ends_in c.args.profile c.args.rows c.args.buffer.now) c.args.rows c.loop-from.from c.args.buffer.now (omega arith)) ∙ c.loop-from.invariant.1 ∙ sym (lacks-first c.args.profile c.args.rows c.args.buffer.now)
