@@ -8,7 +8,6 @@ pub mod Putting
 pub mod ReadLaws
 pub mod RowLaws
 pub mod RowsLaws
-pub mod ScanLaws
 pub mod StoreLaws
 pub mod UndumpLaws
 pub mod Writing
