@@ -24,6 +24,25 @@ no_digit base d = ltb d 48 || ltb (47 + base) d
 pub is_digit : (base d : ℕ) → no_digit base d ≡ false → (48 ≤ d) × (d < 48 + base)
 is_digit base d e = let (a, b) = neither (ltb d 48) (ltb (47 + base) d) e in (ltb-false d 48 a, omega (arith, ltb-false (47 + base) d b))
 
+-- a byte less the byte of 0, as it wraps round below it
+module _ (base byte digit : ℕ) (b : base ≤ 10) (small : byte < 256) (w : digit ≡ (byte + (256 - 48)) % 256) where
+  pub digit-none : base ≤ digit → no_digit base byte ≡ true
+  digit-none h = go (ltb byte 48) (ltb (47 + base) byte) refl refl
+    where
+      go : (t u : Bool) → ltb byte 48 ≡ t → ltb (47 + base) byte ≡ u → (t || u) ≡ true
+      go true u e f = refl
+      go false true e f = refl
+      go false false e f =
+          let l : 48 ≤ byte = ltb-false byte 48 e in
+          let m : byte ≤ 47 + base = ltb-false (47 + base) byte f in
+          absurd (omega arith)
+
+  pub digit-some : digit < base → (no_digit base byte ≡ false) × (digit ≡ byte - 48)
+  digit-some h =
+      let l : 48 ≤ byte = omega arith in
+      let m : byte ≤ 47 + base = omega arith in
+      (rw (le-ltb byte 48 l, le-ltb (47 + base) byte m), omega arith)
+
 -- they are digits, and stand in front
 module _ (base : ℕ) where
   pub digits_are : (text : List ℕ) → Digits base (digits_in base text)

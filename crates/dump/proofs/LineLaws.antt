@@ -1,12 +1,12 @@
 -- Laws of value lines.
 use mathlib.Core.Path.{◌≡◌, ◌∙◌, refl, sym, ap, ap₂}
-use mathlib.Core.Bool.{Bool, true, false, ◌&&◌, ◌||◌}
+use mathlib.Core.Bool.{Bool, true, false, ◌&&◌}
 use mathlib.Core.List.{List, ◌∷◌, ◌++◌}
 use mathlib.Core.Option.{Option, none, some}
 use Prim.Native.Nat.{ℕ, suc, ◌+◌, ◌^◌, ◌≤◌, ◌<◌}
 use native.Mathlib.Nat.{pow-le-pow_right}
 use native.Mathlib.Omega.{arith}
-use borrow.Author.Tests.{eqb-true, eq-eqb, ne_eqb, ltb-true, lt-ltb, le-ltb}
+use borrow.Author.Tests.{eqb-true, eq-eqb, ne_eqb, lt-ltb, le-ltb}
 use lib.Dec.{eqb, ltb}
 use lib.ListN.{length, get_or}
 use Rattle.field.specs.Modulus.{P}
@@ -17,7 +17,7 @@ use Rattle.theory_dumps.specs.ways.Undump.{behind, line_bits, line_value, is_lin
 use Rattle.theory_dumps.proofs.ReadBack.{value-sound, line-bits}
 use Rattle.theory_dumps.proofs.NumeralLaws.{few-digits}
 use Rattle.theory_dumps.specs.ways.Spelled.{spelled}
-use Rattle.dump.specs.ways.Scanning.{NoLineFrom, digits_in, line_identifier, found, next_value}
+use Rattle.dump.specs.ways.Scanning.{digits_in, line_identifier, found, next_value}
 use Rattle.dump.proofs.DigitLaws.{bits-are}
 
 -- no line
@@ -48,15 +48,6 @@ module _ (text behind : List ℕ) (e : text ≡ 98 ∷ behind) (count : ℕ) (h 
       let i : 2 + length (line_bits text) ≡ suc (count + 1) = omega (arith, counted) in
       let f : get_or text 0 0 ≡ 98 = ap (λ (l : List ℕ). get_or l 0 0) e in
       sym (identifier-of text f ∙ ap₂ (λ (l : List ℕ) (j : ℕ). get_or l j 0) e i)
-
-  -- its identifier is that of no column from `first` on
-  pub no_column : (first : ℕ) → (ltb (get_or behind (count + 1) 0) (33 + first) || ltb 81 (get_or behind (count + 1) 0)) ≡ true → NoLineFrom text first
-  no_column first o c l m z = go (ltb (get_or behind (count + 1) 0) (33 + first)) (ltb 81 (get_or behind (count + 1) 0)) refl refl o
-    where
-      go : (t u : Bool) → ltb (get_or behind (count + 1) 0) (33 + first) ≡ t → ltb 81 (get_or behind (count + 1) 0) ≡ u → (t || u) ≡ true → ⊥
-      go true u f g o = omega (arith, identifier-at, ltb-true (get_or behind (count + 1) 0) (33 + first) f)
-      go false true f g o = omega (arith, identifier-at, ltb-true 81 (get_or behind (count + 1) 0) g)
-      go false false f g o = let y : ◌≡◌ {A = ℕ} 0 1 = cc in omega arith
 
 -- a line is one of a column by its identifier
 pub is-line-by : (column : ℕ) (text : List ℕ) → is_line_of column text ≡ eqb (line_identifier text) (identifier column)

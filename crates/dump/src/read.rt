@@ -34,13 +34,7 @@ pub(crate) fn after_value(text: &[u8], line: Line, old: u64) -> Option<&[u8]>
     requires { LineOf text.now line.column line.value line.count }
     ensures { with_rest line.value result ≡ next_value line.column old text.now }
 {
-    if 64 < line.count {
-        return None;
-    }
-    if Felt::MODULUS <= line.value {
-        return None;
-    }
-    if old == line.value {
+    if 64 < line.count || Felt::MODULUS <= line.value || old == line.value {
         return None;
     }
     after_line(text, line)
@@ -56,10 +50,7 @@ pub(crate) fn after_time(text: &[u8], row: usize) -> Option<&[u8]>
     };
     let digits = digits_of(numbered, 10);
     // no row's number has more
-    if 8 < digits.count {
-        return None;
-    }
-    if digits.value != row as u64 {
+    if 8 < digits.count || digits.value != row as u64 {
         return None;
     }
     let (number, end) = numbered.split_at(digits.count);

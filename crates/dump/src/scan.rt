@@ -5,6 +5,7 @@ ghost use Rattle.theory_dumps.specs.ways.Spelled.{plain};
 ghost use Rattle.dump.specs.ways.Scanning.{digits_in, DigitsRead, LineFrom, NoLineFrom};
 
 use field::cell::item_or;
+use groups::constants::Row;
 
 // The digits that a text begins with: how many, and the number that they spell, where 64 bits hold as many digits.
 #[derive(Clone, Copy)]
@@ -20,11 +21,12 @@ pub(crate) fn digits_of(text: &[u8], base: u64) -> Digits
 {
     let mut value: u64 = 0;
     for (count, byte) in text.iter().enumerate() {
-        let digit = u64::from(*byte);
-        if (digit < 48) | (47 + base < digit) {
+        // past the base where the byte is none of its digits
+        let digit = u64::from(byte.wrapping_sub(b'0'));
+        if base <= digit {
             return Digits { count, value };
         }
-        value = value.wrapping_mul(base).wrapping_add(digit - 48);
+        value = value.wrapping_mul(base).wrapping_add(digit);
     }
     Digits {
         count: text.len(),
@@ -60,12 +62,13 @@ pub(crate) fn line_from(text: &[u8], first: usize) -> Option<Line>
         return None;
     };
     let digits = digits_of(behind, 2);
-    let index = usize::from(item_or(behind, digits.count + 1, 0));
-    if (index < 33 + first) | (81 < index) {
+    let identifier = usize::from(item_or(behind, digits.count + 1, 0));
+    let column = identifier.checked_sub(usize::from(b'!'))?;
+    if column < first || Row::WIDTH <= column {
         return None;
     }
     Some(Line {
-        column: index - 33,
+        column,
         value: digits.value,
         count: digits.count,
     })

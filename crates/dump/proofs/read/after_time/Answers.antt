@@ -10,7 +10,7 @@ use Rattle.theory_dumps.specs.ways.Spelled.{plain}
 use Rattle.dump.proofs.DigitLaws.{digits-within}
 use Rattle.dump.proofs.InPlace.{one_byte, no_mark, too_many, other-value, not_plain, no_feed, time-there}
 use Rattle.dump.proofs.read.after_time.Goals as goal
-use Rattle.dump.proofs.read.after_time.Goals.{in_default-via-then-text-lt1, in_default-via-else-text-lt1+in_default-1, in_default-end-via-then-end-lt1, in_default-end-via-else-end-lt1+in_default-1}
+use Rattle.dump.proofs.read.after_time.Goals.{in_default-via-then-text-lt1, in_default-via-else-text-lt1+in_default-1, in_default-end-via-then-end-lt1, in_default-end-via-else-end-lt1+in_default-1, then-digits-gt8-via-then-digits-gt8, then-digits-gt8-via-else-digits-gt8+then-digits-row}
 
 abbrev rest-of : List ℕ → List ℕ
 rest-of text = take (length text - 1) (drop 1 text)
@@ -22,12 +22,10 @@ returns-in_default c = sym (no_mark c.args.text.now c.args.row (λ numbered e. e
 ]))
 
 pub returns-then-digits-gt8 : goal.returns-then-digits-gt8
-returns-then-digits-gt8 c = rw (one_byte c.args.text.now 35 c.in-35.len_at_least (omega arith))
-    (sym (too_many (rest-of c.args.text.now) c.args.row c.digits_of-digits.result.count c.digits_of-digits.result.value c.digits_of-digits.ensures c.requires c.if-digits-gt8.true))
-
-pub returns-then-digits-row : goal.returns-then-digits-row
-returns-then-digits-row c = rw (one_byte c.args.text.now 35 c.in-35.len_at_least (omega arith))
-    (sym (other-value (rest-of c.args.text.now) c.args.row c.digits_of-digits.result.count c.digits_of-digits.result.value c.digits_of-digits.ensures c.requires c.if-digits-gt8.false c.if-digits-row.true))
+returns-then-digits-gt8 c = rw (one_byte c.args.text.now 35 c.in-35.len_at_least (omega arith)) (elim c.then-digits-gt8.branch [
+  | then-digits-gt8-via-then-digits-gt8 w ↦ sym (too_many (rest-of c.args.text.now) c.args.row c.digits_of-digits.result.count c.digits_of-digits.result.value c.digits_of-digits.ensures c.requires (omega arith))
+  | then-digits-gt8-via-else-digits-gt8+then-digits-row w ↦ sym (other-value (rest-of c.args.text.now) c.args.row c.digits_of-digits.result.count c.digits_of-digits.result.value c.digits_of-digits.ensures c.requires (omega arith) (λ z. w.if-digits-row.true z))
+])
 
 pub split_at-requires : goal.split_at-requires
 split_at-requires c = omega (arith, c.digits_of-digits.ensures.is_count, digits-within 10 (rest-of c.args.text.now))
@@ -41,7 +39,7 @@ pub returns-in-10 : goal.returns-in-10
 returns-in-10 c = let p : plain (take c.digits_of-digits.result.count (rest-of c.args.text.now)) ≡ true = ap plain (sym c.split_at.ensures.front) ∙ sym c.if-not-is_plain.ensures in
     let e = sym c.split_at.ensures.back ∙ one_byte c.split_at.result.1.now 10 c.in-10.len_at_least (omega arith) in
     rw (one_byte c.args.text.now 35 c.in-35.len_at_least (omega arith))
-    (sym (time-there (rest-of c.args.text.now) c.args.row c.digits_of-digits.result.count c.digits_of-digits.result.value c.digits_of-digits.ensures c.requires c.if-digits-gt8.false c.if-digits-row.false p (rest-of c.split_at.result.1.now) e))
+    (sym (time-there (rest-of c.args.text.now) c.args.row c.digits_of-digits.result.count c.digits_of-digits.result.value c.digits_of-digits.ensures c.requires (omega arith) (omega arith) p (rest-of c.split_at.result.1.now) e))
 
 pub returns-in_default-end : goal.returns-in_default-end
 returns-in_default-end c = rw (one_byte c.args.text.now 35 c.in-35.len_at_least (omega arith))

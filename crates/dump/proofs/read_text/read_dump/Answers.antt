@@ -1,5 +1,6 @@
 -- `read_text::read_dump` meets its contract.
 use mathlib.Core.Path.{sym, ◌∙◌}
+use native.Mathlib.Omega.{arith}
 use lib.ListN.{length}
 use Rattle.groups.specs.Answer.{accepted, refused}
 use Rattle.dump.specs.ways.Undumping.{rows_read, cells_after}
