@@ -3,11 +3,11 @@ use mathlib.Core.Path.{◌≡◌, ◌∙◌, sym, ap, ap₂}
 use mathlib.Core.Bool.{true, false}
 use mathlib.Core.List.{List, [], ◌∷◌, ◌++◌, append_assoc}
 use mathlib.Core.Option.{Option, none, some}
-use Prim.Native.Nat.{ℕ, ◌+◌, ◌-◌, ◌^◌, ◌≤◌, ◌<◌}
+use Prim.Native.Nat.{ℕ, ◌+◌, ◌^◌, ◌≤◌, ◌<◌}
 use native.Mathlib.Nat.{pow-le-pow_right}
 use native.Mathlib.Omega.{arith}
-use lib.ListN.{length, get_or, drop, take, length-drop}
-use lib.Seq.{drop-cons, get_or-drop, drop_at, take_at, take_all}
+use lib.ListN.{length, get_or, drop, take}
+use lib.Seq.{get_or-drop, drop_at, take_at}
 use Rattle.field.specs.Modulus.{P}
 use Rattle.theory_dumps.specs.Numerals.{binary, decimal}
 use Rattle.theory_dumps.specs.ways.Spelled.{spelled, plain}
@@ -25,19 +25,6 @@ use Rattle.dump.proofs.ReadLaws.{is_none, no_true}
 first_byte : (text : List ℕ) (x : ℕ) → 0 < x → get_or text 0 0 ≡ x → text ≡ x ∷ drop 1 text
 first_byte [] x p e = absurd (omega arith)
 first_byte (y ∷ text) x p e = ap (λ (z : ℕ). z ∷ text) e
-
--- what a pattern of bytes says of a text
-pub tail-is : (n : ℕ) (text : List ℕ) → take (length text - n) (drop n text) ≡ drop n text
-tail-is n text = take_all (length text - n) (drop n text) (omega (arith, length-drop n text))
-
-pub one_byte : (text : List ℕ) (x : ℕ) → 1 ≤ length text → get_or text 0 0 ≡ x → text ≡ x ∷ take (length text - 1) (drop 1 text)
-one_byte text x h e = drop-cons text 0 0 (omega arith) ∙ ap₂ (λ (z : ℕ) (m : List ℕ). z ∷ m) e (sym (tail-is 1 text))
-
-pub three_bytes : (text : List ℕ) (x z : ℕ) → 3 ≤ length text → get_or text 0 0 ≡ x → get_or text 2 0 ≡ z → text ≡ x ∷ get_or text 1 0 ∷ z ∷ take (length text - 3) (drop 3 text)
-three_bytes text x z h e f =
-    rw (tail-is 3 text)
-    (drop-cons text 0 0 (omega arith)
-    ∙ ap₂ (λ (y : ℕ) (m : List ℕ). y ∷ m) e (drop-cons text 1 0 (omega arith) ∙ ap (λ (m : List ℕ). get_or text 1 0 ∷ m) (drop-cons text 2 0 (omega arith) ∙ ap (λ (y : ℕ). y ∷ drop 3 text) f)))
 
 -- VALUE LINES
 

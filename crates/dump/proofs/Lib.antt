@@ -3,6 +3,7 @@ pub mod DigitLaws
 pub mod InPlace
 pub mod LengthLaws
 pub mod LineLaws
+pub mod Parts
 pub mod Places
 pub mod Putting
 pub mod ReadLaws

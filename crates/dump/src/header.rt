@@ -7,7 +7,9 @@ ghost use Rattle.dump.specs.ways.Reading.{rest_of};
 
 use crate::text::put_bytes;
 
-const HEADER: [u8; 1400] = *b"$timescale 1 ns $end\n\
+pub(crate) const HEADER_BYTES: usize = 1400;
+
+const HEADER: [u8; HEADER_BYTES] = *b"$timescale 1 ns $end\n\
 $scope module trace $end\n\
 $var wire 64 ! clk $end\n\
 $var wire 64 \" ctx $end\n\

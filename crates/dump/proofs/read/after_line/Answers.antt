@@ -8,7 +8,8 @@ use borrow.Author.Tests.{ltb-true}
 use lib.ListN.{length, drop, get_or, take, get_or-eq_default}
 use Rattle.theory_dumps.specs.ways.Spelled.{plain}
 use Rattle.dump.proofs.DigitLaws.{bits-are, digits-within}
-use Rattle.dump.proofs.InPlace.{tail-is, three_bytes, starts, line-there, line-leading, line-other}
+use Rattle.dump.proofs.InPlace.{starts, line-there, line-leading, line-other}
+use Rattle.dump.proofs.Parts.{tail-is, three_bytes}
 use Rattle.dump.proofs.read.after_line.Goals as goal
 use Rattle.dump.proofs.read.after_line.Goals.{in_default-end-via-then-end-lt3, in_default-end-via-else-end-lt3+in-32+in_default-1, in_default-end-via-else-end-lt3+in_default-1}
 

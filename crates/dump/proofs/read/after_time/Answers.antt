@@ -8,7 +8,8 @@ use borrow.Author.Tests.{ltb-true}
 use lib.ListN.{length, drop, get_or, take}
 use Rattle.theory_dumps.specs.ways.Spelled.{plain}
 use Rattle.dump.proofs.DigitLaws.{digits-within}
-use Rattle.dump.proofs.InPlace.{one_byte, no_mark, too_many, other-value, not_plain, no_feed, time-there}
+use Rattle.dump.proofs.InPlace.{no_mark, too_many, other-value, not_plain, no_feed, time-there}
+use Rattle.dump.proofs.Parts.{one_byte}
 use Rattle.dump.proofs.read.after_time.Goals as goal
 use Rattle.dump.proofs.read.after_time.Goals.{in_default-via-then-text-lt1, in_default-via-else-text-lt1+in_default-1, in_default-end-via-then-end-lt1, in_default-end-via-else-end-lt1+in_default-1, then-digits-gt8-via-then-digits-gt8, then-digits-gt8-via-else-digits-gt8+then-digits-row}
 

@@ -5,7 +5,7 @@ use Prim.Native.Nat.{ℕ, ◌-◌}
 use native.Mathlib.Omega.{arith}
 use lib.ListN.{length, drop, take, length-drop, get_or-eq_default}
 use Rattle.dump.proofs.DigitLaws.{digits-within}
-use Rattle.dump.proofs.InPlace.{tail-is, one_byte}
+use Rattle.dump.proofs.Parts.{tail-is, one_byte}
 use Rattle.dump.proofs.LineLaws.{no-line, counted, value-of, identifier-at}
 use Rattle.dump.proofs.scan.line_from.Goals as goal
 
