@@ -2,72 +2,95 @@
 use mathlib.Core.Path.{◌≡◌, ◌∙◌, refl, sym, ap}
 use mathlib.Core.Bool.{Bool, true, false, not, ◌||◌}
 use mathlib.Core.List.{List, [], ◌∷◌, ◌++◌}
-use Prim.Native.Nat.{ℕ, zero, suc, ◌+◌, ◌-◌, ◌*◌, ◌≤◌, ◌<◌}
+use Prim.Native.Nat.{ℕ, zero, suc, ◌+◌, ◌-◌, ◌*◌, ◌/◌, ◌%◌, ◌^◌, ◌≤◌, ◌<◌}
+use native.Mathlib.Nat.{pow-le-pow_right, pow-succ', pow-zero, mul-le-mul_left}
 use native.Mathlib.Omega.{arith}
-use borrow.Author.Tests.{eqb-true, le-ltb, ltb-false}
+use borrow.Author.Tests.{eqb-true, eqb-false, le-ltb, lt-ltb, ltb-true, ltb-false}
 use lib.Dec.{eqb, ltb}
 use lib.ListN.{length, get_or, drop, take, length-append, drop_of_length-le}
 use lib.Seq.{drop-cons, take_at}
 use Rattle.groups.specs.Answer.{pick}
 use Rattle.rows.proofs.passes.Checks.{neither}
+use Rattle.theory_dumps.specs.Numerals.{decimal, numeral_within}
 use Rattle.theory_dumps.specs.ways.Spelled.{spelled, plain}
 use Rattle.theory_dumps.specs.ways.Undump.{bits_in}
-use Rattle.theory_dumps.proofs.NumeralLaws.{Digits}
-use Rattle.dump.specs.ways.Reading.{DigitsRead}
-use Rattle.dump.specs.ways.Scanning.{digits_in}
+use Rattle.theory_dumps.proofs.NumeralLaws.{Digits, one-digit, last-digit, fewer_digits}
+use Rattle.dump.specs.ways.Scanning.{DigitsRead, digits_in}
+
+-- a byte that is a digit, or none
+abbrev pub no_digit : (base d : ℕ) → Bool
+no_digit base d = ltb d 48 || ltb (47 + base) d
+
+pub is_digit : (base d : ℕ) → no_digit base d ≡ false → (48 ≤ d) × (d < 48 + base)
+is_digit base d e = let (a, b) = neither (ltb d 48) (ltb (47 + base) d) e in (ltb-false d 48 a, omega (arith, ltb-false (47 + base) d b))
+
+-- a byte less the byte of 0, as it wraps round below it
+module _ (base byte digit : ℕ) (b : base ≤ 10) (small : byte < 256) (w : digit ≡ (byte + (256 - 48)) % 256) where
+  pub digit-none : base ≤ digit → no_digit base byte ≡ true
+  digit-none h = go (ltb byte 48) (ltb (47 + base) byte) refl refl
+    where
+      go : (t u : Bool) → ltb byte 48 ≡ t → ltb (47 + base) byte ≡ u → (t || u) ≡ true
+      go true u e f = refl
+      go false true e f = refl
+      go false false e f =
+          let l : 48 ≤ byte = ltb-false byte 48 e in
+          let m : byte ≤ 47 + base = ltb-false (47 + base) byte f in
+          absurd (omega arith)
+
+  pub digit-some : digit < base → (no_digit base byte ≡ false) × (digit ≡ byte - 48)
+  digit-some h =
+      let l : 48 ≤ byte = omega arith in
+      let m : byte ≤ 47 + base = omega arith in
+      (rw (le-ltb byte 48 l, le-ltb (47 + base) byte m), omega arith)
 
 -- they are digits, and stand in front
-pub bits_are : (text : List ℕ) → Digits 2 (bits_in text)
-unfolding bits_in Digits
-bits_are [] = tt
-bits_are (d ∷ text) = go (eqb d 48) (eqb d 49) refl refl (bits_are text)
+module _ (base : ℕ) where
+  pub digits_are : (text : List ℕ) → Digits base (digits_in base text)
+  unfolding digits_in Digits
+  digits_are [] = tt
+  digits_are (d ∷ text) = go (no_digit base d) refl (digits_are text)
+    where
+      go : (t : Bool) → no_digit base d ≡ t → Digits base (digits_in base text) → Digits base (pick t [] (d ∷ digits_in base text))
+      go true e more = tt
+      go false e more = let (a, b) = is_digit base d e in (a, b, more)
+
+  pub digits-front : (text : List ℕ) → digits_in base text ++ drop (length (digits_in base text)) text ≡ text
+  unfolding digits_in
+  digits-front [] = refl
+  digits-front (d ∷ text) = go (no_digit base d) (digits-front text)
+    where
+      go : (t : Bool) → digits_in base text ++ drop (length (digits_in base text)) text ≡ text → pick t [] (d ∷ digits_in base text) ++ drop (length (pick t [] (d ∷ digits_in base text))) (d ∷ text) ≡ d ∷ text
+      go true e = refl
+      go false e = ap (λ (l : List ℕ). d ∷ l) e
+
+  -- digits end where a byte before them follows
+  pub digits-end : (digits : List ℕ) (byte : ℕ) (rest : List ℕ) → byte < 48 → Digits base digits → digits_in base (digits ++ (byte ∷ rest)) ≡ digits
+  unfolding digits_in Digits
+  digits-end [] byte rest l h = rw (lt-ltb byte 48 l) refl
+  digits-end (d ∷ digits) byte rest l h = rw (le-ltb d 48 h.0, le-ltb (47 + base) d (omega (arith, h.1))) (ap (λ (l : List ℕ). d ∷ l) (digits-end digits byte rest l h.2))
+
+-- the binary digits
+pub bits-are : (text : List ℕ) → bits_in text ≡ digits_in 2 text
+unfolding bits_in digits_in
+bits-are [] = refl
+bits-are (d ∷ text) = go (eqb d 48) (eqb d 49) (ltb d 48) (ltb 49 d) refl refl refl refl (bits-are text)
   where
-    go : (t u : Bool) → eqb d 48 ≡ t → eqb d 49 ≡ u → Digits 2 (bits_in text) → Digits 2 (pick t (d ∷ bits_in text) (pick u (d ∷ bits_in text) []))
-    go true u e f more = (omega (arith, eqb-true d 48 e), omega (arith, eqb-true d 48 e), more)
-    go false true e f more = (omega (arith, eqb-true d 49 f), omega (arith, eqb-true d 49 f), more)
-    go false false e f more = tt
-
-pub bits-front : (text : List ℕ) → bits_in text ++ drop (length (bits_in text)) text ≡ text
-unfolding bits_in
-bits-front [] = refl
-bits-front (d ∷ text) = go (eqb d 48) (eqb d 49) (bits-front text)
-  where
-    go : (t u : Bool) → bits_in text ++ drop (length (bits_in text)) text ≡ text →
-        pick t (d ∷ bits_in text) (pick u (d ∷ bits_in text) []) ++ drop (length (pick t (d ∷ bits_in text) (pick u (d ∷ bits_in text) []))) (d ∷ text) ≡ d ∷ text
-    go true u e = ap (λ (l : List ℕ). d ∷ l) e
-    go false true e = ap (λ (l : List ℕ). d ∷ l) e
-    go false false e = refl
-
--- a byte that is a decimal digit, or none
-abbrev pub no_digit : ℕ → Bool
-no_digit d = ltb d 48 || ltb 57 d
-
-pub is_digit : (d : ℕ) → no_digit d ≡ false → (48 ≤ d) × (d < 58)
-is_digit d e = let (a, b) = neither (ltb d 48) (ltb 57 d) e in (ltb-false d 48 a, omega (arith, ltb-false 57 d b))
-
-pub digits_are : (text : List ℕ) → Digits 10 (digits_in text)
-unfolding digits_in Digits
-digits_are [] = tt
-digits_are (d ∷ text) = go (no_digit d) refl (digits_are text)
-  where
-    go : (t : Bool) → no_digit d ≡ t → Digits 10 (digits_in text) → Digits 10 (pick t [] (d ∷ digits_in text))
-    go true e more = tt
-    go false e more = let (a, b) = is_digit d e in (a, b, more)
-
-pub digits-front : (text : List ℕ) → digits_in text ++ drop (length (digits_in text)) text ≡ text
-unfolding digits_in
-digits-front [] = refl
-digits-front (d ∷ text) = go (no_digit d) (digits-front text)
-  where
-    go : (t : Bool) → digits_in text ++ drop (length (digits_in text)) text ≡ text → pick t [] (d ∷ digits_in text) ++ drop (length (pick t [] (d ∷ digits_in text))) (d ∷ text) ≡ d ∷ text
-    go true e = refl
-    go false e = ap (λ (l : List ℕ). d ∷ l) e
-
--- digits end where none follows
-pub digits-end : (digits rest : List ℕ) → Digits 10 digits → digits_in (digits ++ (10 ∷ rest)) ≡ digits
-unfolding digits_in Digits
-digits-end [] rest h = refl
-digits-end (d ∷ digits) rest h = rw (le-ltb d 48 h.0, le-ltb 57 d (omega (arith, h.1))) (ap (λ (l : List ℕ). d ∷ l) (digits-end digits rest h.2))
+    go : (t u v w : Bool) → eqb d 48 ≡ t → eqb d 49 ≡ u → ltb d 48 ≡ v → ltb 49 d ≡ w → bits_in text ≡ digits_in 2 text
+        → pick t (d ∷ bits_in text) (pick u (d ∷ bits_in text) []) ≡ pick (v || w) [] (d ∷ digits_in 2 text)
+    go true u true w e f g h more = absurd (omega (arith, eqb-true d 48 e, ltb-true d 48 g))
+    go true u false true e f g h more = absurd (omega (arith, eqb-true d 48 e, ltb-true 49 d h))
+    go true u false false e f g h more = ap (λ (l : List ℕ). d ∷ l) more
+    go false true true w e f g h more = absurd (omega (arith, eqb-true d 49 f, ltb-true d 48 g))
+    go false true false true e f g h more = absurd (omega (arith, eqb-true d 49 f, ltb-true 49 d h))
+    go false true false false e f g h more = ap (λ (l : List ℕ). d ∷ l) more
+    go false false true w e f g h more = refl
+    go false false false true e f g h more = refl
+    go false false false false e f g h more =
+        let a : ¬ (d ≡ 48) = eqb-false d 48 e in
+        let b : ¬ (d ≡ 49) = eqb-false d 49 f in
+        let l : 48 ≤ d = ltb-false d 48 g in
+        let m : d ≤ 49 = ltb-false 49 d h in
+        absurd (a (omega (arith, λ (z : d ≡ 49). b z)))
 
 pub taken : (digits text : List ℕ) (count : ℕ) → digits ++ drop (length digits) text ≡ text → count ≡ length digits → take count text ≡ digits
 taken digits text count e h = ap (take count) (sym e) ∙ take_at digits (drop (length digits) text) count (sym h)
@@ -75,97 +98,122 @@ taken digits text count e h = ap (take count) (sym e) ∙ take_at digits (drop (
 pub fits : (digits text : List ℕ) → digits ++ drop (length digits) text ≡ text → length digits ≤ length text
 fits digits text e = omega (arith, ap (λ (l : List ℕ). length l) e, length-append digits (drop (length digits) text))
 
--- SCANNING DECIMAL DIGITS
+pub digits-within : (base : ℕ) (text : List ℕ) → length (digits_in base text) ≤ length text
+digits-within base text = fits (digits_in base text) text (digits-front base text)
 
--- what is spelled is no less than what stands in front
-grows : (before : ℕ) (digits : List ℕ) → before ≤ spelled 10 before digits
-unfolding spelled
-grows before [] = omega arith
-grows before (d ∷ digits) = omega (arith, grows (before * 10 + (d - 48)) digits)
+-- SCANNING THEM
 
-pub record DigitsTo (text : List ℕ) (most count value : ℕ) : Type 0 where
+pub record DigitsTo (base : ℕ) (text : List ℕ) (count value : ℕ) : Type 0 where
   pub within : count ≤ length text
-  pub small : value ≤ most
-  pub long : length (digits_in text) ≡ count + length (digits_in (drop count text))
-  pub number : spelled 10 0 (digits_in text) ≡ spelled 10 value (digits_in (drop count text))
+  pub long : length (digits_in base text) ≡ count + length (digits_in base (drop count text))
+  pub small : base ^ count ≤ 2 ^ 64 → value < base ^ count
+  pub number : base ^ count ≤ 2 ^ 64 → spelled base 0 (digits_in base text) ≡ spelled base value (digits_in base (drop count text))
 
-pub digits-none : (text : List ℕ) (most : ℕ) → DigitsTo text most 0 0
-digits-none text most = record { within = omega arith; small = omega arith; long = omega arith; number = refl }
+pub digits-none : (base : ℕ) (text : List ℕ) → DigitsTo base text 0 0
+digits-none base text = record { within = omega arith; long = omega arith; small = λ z. rw (pow-zero base) (omega arith); number = λ z. refl }
 
-digits-stop : (d : ℕ) (text : List ℕ) → no_digit d ≡ true → digits_in (d ∷ text) ≡ []
+digits-stop : (base d : ℕ) (text : List ℕ) → no_digit base d ≡ true → digits_in base (d ∷ text) ≡ []
 unfolding digits_in
-digits-stop d text e = rw e
+digits-stop base d text e = rw e
 
-digits_more : (d : ℕ) (text : List ℕ) → no_digit d ≡ false → digits_in (d ∷ text) ≡ d ∷ digits_in text
+digits_more : (base d : ℕ) (text : List ℕ) → no_digit base d ≡ false → digits_in base (d ∷ text) ≡ d ∷ digits_in base text
 unfolding digits_in
-digits_more d text e = rw e
+digits_more base d text e = rw e
 
-spelled-next : (value d : ℕ) (digits : List ℕ) → spelled 10 value (d ∷ digits) ≡ spelled 10 (value * 10 + (d - 48)) digits
+spelled-next : (base value d : ℕ) (digits : List ℕ) → spelled base value (d ∷ digits) ≡ spelled base (value * base + (d - 48)) digits
 unfolding spelled
-spelled-next value d digits = refl
+spelled-next base value d digits = refl
 
-spelled_none : (value : ℕ) → spelled 10 value [] ≡ value
+spelled_none : (base value : ℕ) → spelled base value [] ≡ value
 unfolding spelled
-spelled_none value = refl
+spelled_none base value = refl
 
-module _ (text : List ℕ) (most count value : ℕ) (s : DigitsTo text most count value) where
-  all_read : digits_in (drop count text) ≡ [] → DigitsRead (digits_in text) most count value
+below_next : (base power value digit : ℕ) → value < power → digit < base → value * base + digit < base * power
+below_next base power value digit h l =
+    let m : base * (value + 1) ≤ base * power = mul-le-mul_left base (omega arith) in
+    omega arith
+
+module _ (base : ℕ) (text : List ℕ) (count value : ℕ) (s : DigitsTo base text count value) where
+  all_read : digits_in base (drop count text) ≡ [] → DigitsRead base (digits_in base text) count value
   all_read e =
-      let f : length (digits_in (drop count text)) ≡ 0 = ap (λ (l : List ℕ). length l) e in
+      let f : length (digits_in base (drop count text)) ≡ 0 = ap (λ (l : List ℕ). length l) e in
       record {
-        within = omega (arith, s.long);
-        above = λ z. absurd (omega (arith, s.small));
-        is_value = λ z. sym (s.number ∙ ap (spelled 10 value) e ∙ spelled_none value);
-        is_count = λ z. omega (arith, s.long);
+        is_count = omega (arith, s.long);
+        is_value = λ z. sym (s.number z ∙ ap (spelled base value) e ∙ spelled_none base value);
       }
 
-  pub read-end : length text ≤ count → DigitsRead (digits_in text) most count value
+  pub read-end : length text ≤ count → DigitsRead base (digits_in base text) count value
   read-end h = all_read (rw (drop_of_length-le text {i = count} h) (unfold digits_in in refl))
 
   module _ (h : count < length text) where
-    pub read-stop : no_digit (get_or text count 0) ≡ true → DigitsRead (digits_in text) most count value
-    read-stop e = all_read (ap digits_in (drop-cons text count 0 h) ∙ digits-stop (get_or text count 0) (drop (suc count) text) e)
+    pub read-stop : no_digit base (get_or text count 0) ≡ true → DigitsRead base (digits_in base text) count value
+    read-stop e = all_read (ap (digits_in base) (drop-cons text count 0 h) ∙ digits-stop base (get_or text count 0) (drop (suc count) text) e)
 
-    module _ (e : no_digit (get_or text count 0) ≡ false) where
-      next : digits_in (drop count text) ≡ get_or text count 0 ∷ digits_in (drop (suc count) text)
-      next = ap digits_in (drop-cons text count 0 h) ∙ digits_more (get_or text count 0) (drop (suc count) text) e
+    module _ (b : 1 < base) (e : no_digit base (get_or text count 0) ≡ false) where
+      next : digits_in base (drop count text) ≡ get_or text count 0 ∷ digits_in base (drop (suc count) text)
+      next = ap (digits_in base) (drop-cons text count 0 h) ∙ digits_more base (get_or text count 0) (drop (suc count) text) e
 
-      spelled-more : spelled 10 0 (digits_in text) ≡ spelled 10 (value * 10 + (get_or text count 0 - 48)) (digits_in (drop (suc count) text))
-      spelled-more = s.number ∙ ap (spelled 10 value) next ∙ spelled-next value (get_or text count 0) (digits_in (drop (suc count) text))
+      abbrev sum : ℕ
+      sum = value * base + (get_or text count 0 - 48)
 
-      pub read_above : most < value * 10 + (get_or text count 0 - 48) → DigitsRead (digits_in text) most count (value * 10 + (get_or text count 0 - 48))
-      read_above l =
-          record {
-            within = omega (arith, s.long);
-            above = λ z. omega (arith, spelled-more, grows (value * 10 + (get_or text count 0 - 48)) (digits_in (drop (suc count) text)));
-            is_value = λ z. absurd (omega arith);
-            is_count = λ z. absurd (omega arith);
-          }
+      -- where 64 bits hold one more digit, they hold those before, and the sum
+      held : base ^ suc count ≤ 2 ^ 64 → base ^ count ≤ 2 ^ 64
+      held z =
+          let m : base ^ count ≤ base ^ suc count = pow-le-pow_right {n = base} (omega arith) {i = count} {j = suc count} (omega arith) in
+          omega arith
 
-      pub read_more : ¬ (most < value * 10 + (get_or text count 0 - 48)) → DigitsTo text most (suc count) (value * 10 + (get_or text count 0 - 48))
-      read_more l =
+      below : base ^ suc count ≤ 2 ^ 64 → sum < base ^ suc count
+      below z =
+          let d = is_digit base (get_or text count 0) e in
+          rw (pow-succ' base count) (below_next base (base ^ count) value (get_or text count 0 - 48) (s.small (held z)) (omega (arith, d.0, d.1)))
+
+      pub read_more : (more : ℕ) → (sum < 2 ^ 64 → more ≡ sum) → DigitsTo base text (suc count) more
+      read_more more w =
           record {
             within = h;
-            small = omega arith;
             long = omega (arith, s.long, ap (λ (l : List ℕ). length l) next);
-            number = spelled-more;
+            small = λ z. (let l = below z in rw (w (omega arith)) l);
+            number = λ z. (
+                let l = below z in
+                s.number (held z) ∙ ap (spelled base value) next ∙ spelled-next base value (get_or text count 0) (digits_in base (drop (suc count) text))
+                ∙ ap (λ (n : ℕ). spelled base n (digits_in base (drop (suc count) text))) (sym (w (omega arith)))
+                );
           }
+
+-- DECIMAL DIGITS
+
+few-below : (m k n : ℕ) → n < 10 ^ suc k → length (numeral_within 10 m n) ≤ suc k
+unfolding numeral_within
+few-below zero k n h = omega arith
+few-below (suc m) k n h = go k (ltb n 10) refl h (λ k'. few-below m k' (n / 10))
+  where
+    go : (k : ℕ) (t : Bool) → ltb n 10 ≡ t → n < 10 ^ suc k → ((k' : ℕ) → n / 10 < 10 ^ suc k' → length (numeral_within 10 m (n / 10)) ≤ suc k') → length (numeral_within 10 (suc m) n) ≤ suc k
+    go k true e h more = rw (one-digit 10 m n (ltb-true n 10 e)) (omega arith)
+    go zero false e h more = absurd (omega (arith, ltb-false n 10 e))
+    go (suc k) false e h more =
+        let f : suc (suc k) - 1 ≡ suc k = omega arith in
+        let l : n / 10 < 10 ^ suc k = rw f at (fewer_digits 10 (suc (suc k)) n (omega arith) (omega arith) h) in
+        rw (last-digit 10 m n (ltb-false n 10 e)) (omega (arith, length-append (numeral_within 10 m (n / 10)) ((48 + n % 10) ∷ []), more k l))
+
+-- the number of a row has at most 8 of them
+pub row-digits : (row : ℕ) → row ≤ 16777216 → length (decimal row) ≤ 8
+row-digits row h = few-below 20 7 row (omega arith)
 
 -- WITHOUT LEADING ZEROS
 
-pub plain-none : (text : List ℕ) (count : ℕ) → count ≡ 0 → false ≡ plain (take count text)
+pub plain-none : (digits : List ℕ) → length digits ≡ 0 → false ≡ plain digits
 unfolding plain
-plain-none text count e = rw e refl
+plain-none [] e = refl
+plain-none (d ∷ digits) e = absurd (omega arith)
 
-pub plain-one : (text : List ℕ) (count : ℕ) → count ≡ 1 → 1 ≤ length text → true ≡ plain (take count text)
+pub plain-one : (digits : List ℕ) → length digits ≡ 1 → true ≡ plain digits
 unfolding plain
-plain-one [] count e h = absurd (omega arith)
-plain-one (d ∷ text) count e h = rw e refl
+plain-one [] e = absurd (omega arith)
+plain-one (d ∷ []) e = refl
+plain-one (d ∷ later ∷ digits) e = absurd (omega arith)
 
-pub plain_more : (text : List ℕ) (count : ℕ) → 2 ≤ count → 2 ≤ length text → not (eqb (get_or text 0 0) 48) ≡ plain (take count text)
+pub plain_more : (digits : List ℕ) → 2 ≤ length digits → not (eqb (get_or digits 0 0) 48) ≡ plain digits
 unfolding plain
-plain_more [] count m h = absurd (omega arith)
-plain_more (d ∷ []) count m h = absurd (omega arith)
-plain_more (d ∷ next ∷ text) zero m h = absurd (omega arith)
-plain_more (d ∷ next ∷ text) (suc zero) m h = absurd (omega arith)
-plain_more (d ∷ next ∷ text) (suc (suc count)) m h = refl
+plain_more [] h = absurd (omega arith)
+plain_more (d ∷ []) h = absurd (omega arith)
+plain_more (d ∷ later ∷ digits) h = refl

@@ -3,12 +3,12 @@ pub mod DigitLaws
 pub mod InPlace
 pub mod LengthLaws
 pub mod LineLaws
+pub mod Parts
 pub mod Places
 pub mod Putting
 pub mod ReadLaws
 pub mod RowLaws
 pub mod RowsLaws
-pub mod ScanLaws
 pub mod StoreLaws
 pub mod UndumpLaws
 pub mod Writing

@@ -1,7 +1,7 @@
 -- Laws of a dump's lines by places: how long they are at most, and one more column or row.
-use mathlib.Core.Path.{◌≡◌, refl}
+use mathlib.Core.Path.{◌≡◌, ◌∙◌, refl, sym, ap}
 use mathlib.Core.Bool.{Bool, true, false}
-use mathlib.Core.List.{List, [], ◌++◌}
+use mathlib.Core.List.{List, [], ◌++◌, append-nil}
 use Prim.Native.Nat.{ℕ, zero, suc, ◌+◌, ◌-◌, ◌*◌, ◌≤◌}
 use native.Mathlib.Omega.{arith}
 use native.Mathlib.Numerals.{add-one}
@@ -25,18 +25,27 @@ unfolding old_at
 old-next cells zero column h = absurd (h refl)
 old-next cells (suc row) column h = let e : suc row - 1 ≡ row = omega arith in rw e refl
 
-pub no_line : (column old value : ℕ) → eqb old value ≡ true → change_line column old value ≡ []
+no_line : (column old value : ℕ) → eqb old value ≡ true → change_line column old value ≡ []
 unfolding change_line
 no_line column old value e = rw e
 
-pub a-line : (column old value : ℕ) → eqb old value ≡ false → change_line column old value ≡ value_line column value
+a-line : (column old value : ℕ) → eqb old value ≡ false → change_line column old value ≡ value_line column value
 unfolding change_line
 a-line column old value e = rw e
 
 -- one more column, one more row
-pub changes-next : (cells : List ℕ) (row n : ℕ) → changes_to cells row n ++ change_line n (old_at cells row n) (value_at cells row n) ≡ changes_to cells row (n + 1)
+changes-next : (cells : List ℕ) (row n : ℕ) → changes_to cells row n ++ change_line n (old_at cells row n) (value_at cells row n) ≡ changes_to cells row (n + 1)
 unfolding changes_to
 changes-next cells row n = rw (add-one n) refl
+
+-- whose value did not change, or did
+pub column-same : (cells : List ℕ) (row n : ℕ) → eqb (old_at cells row n) (value_at cells row n) ≡ true → changes_to cells row n ≡ changes_to cells row (n + 1)
+column-same cells row n e =
+    sym (append-nil (changes_to cells row n)) ∙ ap (λ (l : List ℕ). changes_to cells row n ++ l) (sym (no_line n (old_at cells row n) (value_at cells row n) e)) ∙ changes-next cells row n
+
+pub column-more : (cells : List ℕ) (row n : ℕ) → eqb (old_at cells row n) (value_at cells row n) ≡ false → changes_to cells row n ++ value_line n (value_at cells row n) ≡ changes_to cells row (n + 1)
+column-more cells row n e =
+    ap (λ (l : List ℕ). changes_to cells row n ++ l) (sym (a-line n (old_at cells row n) (value_at cells row n) e)) ∙ changes-next cells row n
 
 pub lines_next : (cells : List ℕ) (n : ℕ) → lines_to cells n ++ lines_of cells n ≡ lines_to cells (n + 1)
 unfolding lines_to

@@ -1,10 +1,10 @@
 -- Laws of bytes put into a text one after another.
 use mathlib.Core.Path.{◌≡◌, ◌∙◌, refl, sym, ap, ap₂}
 use mathlib.Core.List.{List, [], ◌++◌, append_assoc, append-nil}
-use Prim.Native.Nat.{ℕ, ◌-◌, ◌≤◌}
+use Prim.Native.Nat.{ℕ, ◌≤◌}
 use native.Mathlib.Omega.{arith}
-use lib.ListN.{length, take, drop, length-append, length-drop, take-append-drop}
-use lib.Seq.{length-take-le, take_all, take_at, drop_at, drop-drop}
+use lib.ListN.{length, take, drop, length-append, take-append-drop}
+use lib.Seq.{length-take-le, take_at, drop_at, drop-drop}
 use Rattle.dump.specs.ways.Putting.{Put}
 
 -- no bytes
@@ -45,7 +45,3 @@ put_is e p = rw (← e) p
 -- a line put in three parts
 pub line-put : {a b c d xs ys zs : List ℕ} {at i j end : ℕ} (line : List ℕ) → Put a at xs b i → Put b i ys c j → Put c j zs d end → xs ++ ys ++ zs ≡ line → Put a at line d end
 line-put line p q r e = put_is e (put_then (put_then p q) r)
-
--- what a list ends with, as a part of it
-pub part-is : (l : List ℕ) (n first : ℕ) {part : List ℕ} → length l ≡ n → drop first l ≡ part → take (n - first) (drop first l) ≡ part
-part-is l n first h e = take_all (n - first) (drop first l) (rw (length-drop first l, h) (omega arith)) ∙ e

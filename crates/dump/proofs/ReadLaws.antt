@@ -1,64 +1,58 @@
--- Laws of what is read from a place of a text on.
-use mathlib.Core.Path.{◌≡◌, ◌∙◌, refl, sym, ap}
-use mathlib.Core.Bool.{Bool, true, false}
-use mathlib.Core.List.{List}
+-- Laws of the next value of a column, by its line.
+use mathlib.Core.Path.{◌≡◌, ◌∙◌, refl, sym, ap, ap₂}
+use mathlib.Core.Bool.{true, false}
+use mathlib.Core.List.{List, ◌++◌}
 use mathlib.Core.Option.{Option, none, some}
 use Prim.Native.Nat.{ℕ, ◌+◌, ◌≤◌, ◌<◌}
 use native.Mathlib.Omega.{arith}
-use lib.ListN.{length, drop, length-drop}
-use lib.Seq.{drop-drop}
+use lib.ListN.{length, drop, take, take-append-drop}
+use lib.Seq.{take_at}
+use Rattle.std.specs.Prelude.{Option as Answered, Some, None, MatchOption, nat_eq}
+use Rattle.std.specs.Borrow.{Bor}
+use Rattle.std.specs.Cmp.Lexicographic.{pointwise, same_text, other_text}
+use Rattle.theory_dumps.proofs.ReadBack.{behind-is, behind-front}
+use Rattle.dump.specs.ways.Reading.{rest_of}
 use Rattle.field.specs.Modulus.{P}
-use Rattle.groups.specs.Answer.{pick}
-use Rattle.theory_dumps.specs.Dumps.{identifier, value_line}
-use Rattle.theory_dumps.specs.ways.Undump.{behind, or_none}
-use Rattle.dump.specs.ways.Reading.{Behind, ValueRead}
-use Rattle.dump.specs.ways.Scanning.{in_front, found, line_identifier, line_number, next_value}
-use Rattle.dump.proofs.ScanLaws.{front_fits, behind-front}
-use Rattle.dump.proofs.LineLaws.{next_same, next-wrong, next-old, next-line}
+use Rattle.theory_dumps.specs.Dumps.{value_line}
+use Rattle.theory_dumps.specs.ways.Undump.{behind, line_value, or_none}
+use Rattle.dump.specs.ways.Scanning.{LineOf, found, next_value}
+use Rattle.dump.proofs.LineLaws.{next-long, next-wrong, next-old, next-line}
 
--- BEHIND A LINE
+pub is_none : {A : Type 0} (o : Option A) → ((x : A) → o ≡ some x → ⊥) → o ≡ none
+is_none none h = refl
+is_none (some x) h = absurd (h x refl)
 
 pub no_true : true ≡ false → ⊥
 no_true z = let y : ◌≡◌ {A = ℕ} 0 1 = cc in omega arith
 
-module _ (line text : List ℕ) (at : ℕ) where
-  pub behind-good : at ≤ length text → in_front line (drop at text) ≡ true → Behind text (behind line (drop at text)) true (at + length line)
-  behind-good h e =
-      record {
-        within = omega (arith, front_fits line (drop at text) e, length-drop at text);
-        is = behind-front line (drop at text) ∙ rw e (ap some (drop-drop (length line) at text));
-      }
+-- what follows a text that was stripped off
+pub stripped : (front text : List ℕ) (answer : Answered (Bor (List ℕ))) →
+    MatchOption answer (pointwise nat_eq (take (length front) text) front ≡ false) (λ x. (pointwise nat_eq (take (length front) text) front ≡ true) × (x.now ≡ drop (length front) text) × (length x.now + length front ≡ length text))
+    → rest_of answer ≡ behind front text
+stripped front text (Some rest) h =
+    let same : take (length front) text ≡ front = same_text (take (length front) text) front (sym h.0) in
+    let all : text ≡ front ++ rest.now = sym (take-append-drop (length front) text) ∙ ap₂ (λ (x y : List ℕ). x ++ y) same (sym h.1) in
+    sym (ap (behind front) all ∙ behind-front front rest.now)
+stripped front text None h = sym (is_none (behind front text) (λ rest e. (
+    let all : text ≡ front ++ rest = behind-is front text rest e in
+    other_text (take (length front) text) front (sym h) (ap (take (length front)) all ∙ take_at front rest (length front) refl)
+    )))
 
-  pub behind-none : in_front line (drop at text) ≡ false → Behind text (behind line (drop at text)) false 0
-  behind-none e = record { within = omega arith; is = behind-front line (drop at text) ∙ rw e }
+module _ (text : List ℕ) (column old value count : ℕ) (l : LineOf text column value count) where
+  pub value_long : 64 < count → next_value column old text ≡ none
+  value_long h = next-long column old text l.is_line (omega (arith, l.is_count))
 
--- THE NEXT VALUE OF A COLUMN
+  module _ (few : count ≤ 64) where
+    is_value : value ≡ line_value text
+    is_value = l.is_value few
 
-module _ (text : List ℕ) (at column old : ℕ) where
-  abbrev next : Option (ℕ × List ℕ)
-  next = next_value column old (drop at text)
+    pub value-wrong : P ≤ value → next_value column old text ≡ none
+    value-wrong h = next-wrong column old text l.is_line (rw (← is_value) h)
 
-  value_none : (value : ℕ) → next ≡ none → ValueRead text next false value 0
-  value_none value e = record { within = omega arith; is = e }
+    pub value-old : old ≡ value → next_value column old text ≡ none
+    value-old e = next-old column old text l.is_line (e ∙ is_value)
 
-  pub value_same : at ≤ length text → ¬ (line_identifier (drop at text) ≡ identifier column) → ValueRead text next true old at
-  value_same h d = record { within = h; is = next_same column old (drop at text) d }
-
-  module _ (value : ℕ) (h : line_identifier (drop at text) ≡ identifier column) (e : value ≡ line_number (drop at text)) where
-    pub value-wrong : P ≤ value → ValueRead text next false value 0
-    value-wrong l = value_none value (next-wrong column old (drop at text) h (rw (← e) l))
-
-    pub value-old : old ≡ value → ValueRead text next false value 0
-    value-old l = value_none value (next-old column old (drop at text) h (l ∙ e))
-
-    by-behind : (good : Bool) (end : ℕ) → value < P → ¬ (old ≡ value) → Behind text (behind (value_line column value) (drop at text)) good end → next ≡ or_none (pick good (some (drop end text)) none) (found value)
-    by-behind good end l d b =
-        next-line column old (drop at text) h (rw (← e) l) (λ z. d (z ∙ sym e))
-        ∙ rw (← e) (ap (λ (o : Option (List ℕ)). or_none o (found value)) b.is)
-
-    pub value_line_lem : (good : Bool) (end : ℕ) → value < P → ¬ (old ≡ value) → Behind text (behind (value_line column value) (drop at text)) good end → ValueRead text next good value end
-    value_line_lem good end l d b = record { within = b.within; is = by-behind good end l d b ∙ go good }
-      where
-        go : (t : Bool) → or_none (pick t (some (drop end text)) none) (found value) ≡ pick t (found value (drop end text)) none
-        go true = refl
-        go false = refl
+    pub value-behind : value < P → ¬ (old ≡ value) → next_value column old text ≡ or_none (behind (value_line column value) text) (found value)
+    value-behind h d =
+        let n : ¬ (old ≡ line_value text) = λ z. d (z ∙ sym is_value) in
+        rw is_value (next-line column old text l.is_line (rw (← is_value) h) n)

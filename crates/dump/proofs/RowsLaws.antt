@@ -1,18 +1,14 @@
 -- Laws of reading rows one after another.
 use mathlib.Core.Path.{◌≡◌, ◌∙◌, refl, sym, ap}
-use mathlib.Core.Bool.{Bool, true, false}
 use mathlib.Core.List.{List, [], ◌∷◌, ◌++◌}
 use mathlib.Core.Option.{Option, none, some}
-use Prim.Native.Nat.{ℕ, zero, suc, ◌+◌, ◌≤◌, ◌<◌}
+use Prim.Native.Nat.{ℕ, zero, suc, ◌+◌, ◌-◌, ◌≤◌, ◌<◌}
 use native.Mathlib.Omega.{arith}
-use lib.ListN.{length, drop, get_or, length-drop, length-append, drop_of_length-le}
-use lib.Seq.{drop-cons}
-use Rattle.groups.specs.Answer.{pick}
+use lib.ListN.{length, length-append}
 use Rattle.theory_dumps.specs.Dumps.{time_line, changes}
 use Rattle.theory_dumps.specs.ways.Undump.{behind, or_none, with_row, or_end, read_changes, read_rows, no_values}
 use Rattle.theory_dumps.proofs.ReadBack.{behind-is, changes-sound}
-use Rattle.dump.specs.ways.Reading.{RowRead, RowsCounted, row_then, timed_row, how_many}
-use Rattle.dump.proofs.ReadLaws.{no_true}
+use Rattle.dump.specs.ways.Reading.{row_then, timed_row, how_many}
 
 -- a row takes bytes of the text
 pub no-some : {A : Type 0} (x : A) → none ≡ some x → ⊥
@@ -33,6 +29,10 @@ timed-shorter number before text row rest e = go (behind (time_line number) text
 -- rows by the first and those behind it
 unfoldable pub rows_from : (most number : ℕ) → List ℕ × List ℕ → Option (List (List ℕ))
 rows_from most number x = with_row x.0 (read_rows most (suc number) x.0 x.1)
+
+from_is : (most number : ℕ) (row rest : List ℕ) → rows_from most number (row, rest) ≡ with_row row (read_rows most (suc number) row rest)
+unfolding rows_from
+from_is most number row rest = refl
 
 pub rows_step : (most number : ℕ) (before text : List ℕ) → read_rows (suc most) number before text ≡ or_end text (or_none (timed_row number before text) (rows_from most number))
 unfolding read_rows timed_row rows_from
@@ -79,60 +79,57 @@ unfolding plus_rows how_many
 one-row n row none = refl
 one-row n row (some rows) = ap some (omega arith)
 
--- the rows of a text from a place on, as many bytes as it has
-abbrev pub rows_at : (text : List ℕ) → (number : ℕ) → (before : List ℕ) → (place : ℕ) → Option (List (List ℕ))
-rows_at text number before place = read_rows (length (drop place text)) number before (drop place text)
+-- the rows of a text, as many bytes as it has
+abbrev pub rows_of : (number : ℕ) → (before text : List ℕ) → Option (List (List ℕ))
+rows_of number before text = read_rows (length text) number before text
 
-pub rows_none : (text : List ℕ) (number : ℕ) (before : List ℕ) (place : ℕ) → length text ≤ place → rows_at text number before place ≡ some []
+pub rows_none : (number : ℕ) (before text : List ℕ) → length text ≡ 0 → rows_of number before text ≡ some []
 unfolding read_rows
-rows_none text number before place h = rw (drop_of_length-le text {i = place} h)
+rows_none number before [] h = refl
+rows_none number before (byte ∷ text) h = absurd (omega arith)
 
-module _ (text : List ℕ) (number : ℕ) (before : List ℕ) (place : ℕ) (h : place < length text) (good : Bool) (row : List ℕ) (end : ℕ) (r : RowRead text (timed_row number before (drop place text)) good row end) where
-  by_row : rows_at text number before place ≡ or_none (pick good (row_then row (drop end text)) none) (rows_from (length (drop (suc place) text)) number)
-  by_row =
-      let e : drop place text ≡ get_or text place 0 ∷ drop (suc place) text = drop-cons text place 0 h in
-      ap (λ (l : List ℕ). read_rows (length l) number before l) e
-      ∙ rows_step (length (drop (suc place) text)) number before (get_or text place 0 ∷ drop (suc place) text)
-      ∙ rw (← e, r.is)
+module _ (number : ℕ) (before text : List ℕ) (h : 0 < length text) where
+  by_row : rows_of number before text ≡ or_none (timed_row number before text) (rows_from (length text - 1) number)
+  by_row = go text h
+    where
+      go : (text : List ℕ) → 0 < length text → rows_of number before text ≡ or_none (timed_row number before text) (rows_from (length text - 1) number)
+      go [] h = absurd (omega arith)
+      go (byte ∷ text) h =
+          let e : suc (length text) - 1 ≡ length text = omega arith in
+          rw e (rows_step (length text) number before (byte ∷ text))
 
-  pub row-progress : good ≡ true → place < end
-  row-progress g =
-      let l : length (drop end text) < length (drop place text) = timed-shorter number before (drop place text) row (drop end text) (r.is ∙ rw g) in
-      omega (arith, length-drop end text, length-drop place text)
+  pub rows-good : (row rest : List ℕ) → timed_row number before text ≡ row_then row rest → rows_of number before text ≡ with_row row (rows_of (suc number) row rest)
+  rows-good row rest e =
+      let l : length rest < length text = timed-shorter number before text row rest e in
+      let m : read_rows (length text - 1) (suc number) row rest ≡ rows_of (suc number) row rest = rows-most (length text - 1) (length rest) (suc number) row rest (omega arith) (omega arith) in
+      by_row ∙ ap (λ (o : Option (List ℕ × List ℕ)). or_none o (rows_from (length text - 1) number)) e ∙ from_is (length text - 1) number row rest ∙ ap (with_row row) m
 
-  pub rows-good : good ≡ true → rows_at text number before place ≡ with_row row (rows_at text (suc number) row end)
-  rows-good g =
-      let l : place < end = row-progress g in
-      by_row ∙ rw g (unfold rows_from in ap (with_row row) (rows-most (length (drop (suc place) text)) (length (drop end text)) (suc number) row (drop end text) (omega (arith, length-drop end text, length-drop (suc place) text)) (omega arith)))
+  pub rows-bad : timed_row number before text ≡ none → rows_of number before text ≡ none
+  rows-bad e = by_row ∙ rw e
 
-  pub rows-bad : good ≡ false → rows_at text number before place ≡ none
-  rows-bad g = by_row ∙ rw g
-
--- the first rows are read
-pub record RowsTo (text : List ℕ) (at : ℕ) (row : List ℕ) (place number : ℕ) : Type 0 where
-  pub within : place ≤ length text
-  pub few : number ≤ place
+-- the first rows are read; `rest` is what follows
+pub record RowsTo (text row : List ℕ) (number : ℕ) (rest : List ℕ) : Type 0 where
+  pub few : number + length rest ≤ length text
   pub long : length row ≡ 49
-  pub is : how_many (rows_at text 0 no_values at) ≡ plus_rows number (how_many (rows_at text number row place))
+  pub is : how_many (rows_of 0 no_values text) ≡ plus_rows number (how_many (rows_of number row rest))
 
-pub count_none : (text : List ℕ) (at : ℕ) → at ≤ length text → RowsTo text at no_values at 0
-count_none text at h = record { within = h; few = omega arith; long = refl; is = sym (no_rows (how_many (rows_at text 0 no_values at))) }
+pub count_none : (text : List ℕ) → RowsTo text no_values 0 text
+count_none text = record { few = omega arith; long = refl; is = sym (no_rows (how_many (rows_of 0 no_values text))) }
 
-module _ (text : List ℕ) (at : ℕ) (before : List ℕ) (place number : ℕ) (t : RowsTo text at before place number) where
-  pub count-end : length text ≤ place → RowsCounted (rows_at text 0 no_values at) true number
+module _ (text before : List ℕ) (number : ℕ) (rest : List ℕ) (t : RowsTo text before number rest) where
+  pub count-end : length rest ≡ 0 → how_many (rows_of 0 no_values text) ≡ some number
   unfolding plus_rows how_many
-  count-end h = record { is = t.is ∙ rw (rows_none text number before place h) (ap some (omega arith)); nothing = λ z. absurd (no_true z) }
+  count-end h = t.is ∙ rw (rows_none number before rest h) (ap some (omega arith))
 
-  module _ (h : place < length text) (good : Bool) (row : List ℕ) (end : ℕ) (r : RowRead text (timed_row number before (drop place text)) good row end) where
-    pub count-more : good ≡ true → RowsTo text at row end (suc number)
-    count-more g =
+  module _ (h : 0 < length rest) where
+    pub count-more : (row end : List ℕ) → timed_row number before rest ≡ row_then row end → length row ≡ 49 → RowsTo text row (suc number) end
+    count-more row end e l =
         record {
-          within = r.within;
-          few = omega (arith, row-progress text number before place h good row end r g, t.few);
-          long = r.long;
-          is = t.is ∙ rw (rows-good text number before place h good row end r g) (one-row number row (rows_at text (suc number) row end));
+          few = omega (arith, timed-shorter number before rest row end e, t.few);
+          long = l;
+          is = t.is ∙ rw (rows-good number before rest h row end e) (one-row number row (rows_of (suc number) row end));
         }
 
-    pub count-bad : good ≡ false → RowsCounted (rows_at text 0 no_values at) false 0
+    pub count-bad : timed_row number before rest ≡ none → how_many (rows_of 0 no_values text) ≡ none
     unfolding plus_rows how_many
-    count-bad g = record { is = t.is ∙ rw (rows-bad text number before place h good row end r g); nothing = λ z. refl }
+    count-bad e = t.is ∙ rw (rows-bad number before rest h e)

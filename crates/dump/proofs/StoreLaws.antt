@@ -5,8 +5,6 @@ use mathlib.Core.List.{List, [], ◌∷◌, ◌++◌, append-nil}
 use mathlib.Core.Option.{Option, none, some}
 use Prim.Native.Nat.{ℕ, zero, suc, ◌+◌, ◌*◌, ◌≤◌, ◌<◌}
 use native.Mathlib.Omega.{arith}
-use borrow.Author.Tests.{ltb-true, ltb-false}
-use lib.Dec.{ltb}
 use lib.ListN.{length, drop, take, get_or, length-drop, length-append}
 use lib.Seq.{drop-cons, take-suc, take_at, drop_at, drop-drop, take-length, length-take-le}
 use Rattle.field.specs.Cells.{reduced}
@@ -17,10 +15,10 @@ use Rattle.rows.proofs.records.Rooms.{copied-row}
 use Rattle.rows.specs.records.Buffers.{flat}
 use Rattle.rows.proofs.passes.RowLists.{Wide, length-flat, flat-app}
 use Rattle.theory_dumps.specs.Dumps.{header}
-use Rattle.theory_dumps.specs.ways.Undump.{behind, or_none, with_row, read_rows, no_values, has_all, from_first, undump}
-use Rattle.theory_dumps.proofs.ReadBack.{Rows, Below, read-dumped}
-use Rattle.dump.specs.ways.Reading.{RowRead, timed_row, the_rows, Storable}
-use Rattle.dump.proofs.RowsLaws.{no-some, rows_at, rows_none, rows-good, rows-bad}
+use Rattle.theory_dumps.specs.ways.Undump.{or_none, with_row, no_values, has_all, from_first, undump}
+use Rattle.theory_dumps.proofs.ReadBack.{Rows, Below, behind-front, read-dumped}
+use Rattle.dump.specs.ways.Reading.{row_then, timed_row, rows_behind, the_rows, Storable}
+use Rattle.dump.proofs.RowsLaws.{no-some, rows_of, rows_none, rows-good, rows-bad}
 
 -- ROWS OF CELLS
 
@@ -64,13 +62,18 @@ first-same (row ∷ rows) rows' e = go (has_all row) e
     go true e = cc
     go false e = absurd (no-some rows' e)
 
-all_read : (text lines : List ℕ) (rows : List (List ℕ)) → behind header text ≡ some lines → undump text ≡ some rows → read_rows (length lines) 0 no_values lines ≡ some rows
-unfolding undump
-all_read text lines rows h e = go (read_rows (length lines) 0 no_values lines) (rw h at e)
+all_read : (lines : List ℕ) (rows : List (List ℕ)) → rows_behind lines ≡ some rows → rows_of 0 no_values lines ≡ some rows
+unfolding rows_behind
+all_read lines rows e = go (rows_of 0 no_values lines) e
   where
     go : (o : Option (List (List ℕ))) → or_none o from_first ≡ some rows → o ≡ some rows
     go none f = absurd (no-some rows f)
     go (some rs) f = ap some (first-same rs rows f)
+
+-- they are rows of cells: those of the text with the header in front
+cells-read : (lines : List ℕ) (rows : List (List ℕ)) → rows_behind lines ≡ some rows → Rows rows
+unfolding undump rows_behind
+cells-read lines rows e = (read-dumped (header ++ lines) rows (rw (behind-front header lines) e)).cells
 
 with-row : (row : List ℕ) (o : Option (List (List ℕ))) (rows : List (List ℕ)) (next : List ℕ) → with_row row o ≡ some (next ∷ rows) → (o ≡ some rows) × (row ≡ next)
 with-row row none rows next e = absurd (no-some (next ∷ rows) e)
@@ -79,104 +82,89 @@ with-row row (some more) rows next e = (cc, cc)
 -- STORING
 
 abbrev pub rows_in : List ℕ → List (List ℕ)
-rows_in text = the_rows (undump text)
+rows_in lines = the_rows (rows_behind lines)
 
-pub record StoredTo (text : List ℕ) (at rows : ℕ) (lent cells row : List ℕ) (place number : ℕ) : Type 0 where
-  pub storable : Storable text at rows (length lent)
-  pub within : place ≤ length text
-  pub few : number ≤ rows
+pub record StoredTo (lines : List ℕ) (rows : ℕ) (lent cells row : List ℕ) (number : ℕ) (rest : List ℕ) : Type 0 where
   pub long : length row ≡ 49
-  pub is : rows_at text number row place ≡ some (drop number (rows_in text))
-  pub stored : cells ≡ flat (take number (rows_in text)) ++ drop (49 * number) lent
+  pub is : rows_of number row rest ≡ some (drop number (rows_in lines))
+  pub stored : cells ≡ flat (take number (rows_in lines)) ++ drop (49 * number) lent
   pub same : length cells ≡ length lent
 
-pub stored-none : (text : List ℕ) (at rows : ℕ) (lent : List ℕ) → Storable text at rows (length lent) → StoredTo text at rows lent lent no_values at 0
-stored-none text at rows lent s =
-    record {
-      storable = s;
-      within = s.within;
-      few = omega arith;
-      long = refl;
-      is = all_read text (drop at text) (rows_in text) s.start s.is;
-      stored = unfold flat in refl;
-      same = refl;
-    }
+module _ (lines : List ℕ) (rows : ℕ) (lent : List ℕ) (s : Storable lines rows (length lent)) where
+  pub stored-none : StoredTo lines rows lent lent no_values 0 lines
+  stored-none =
+      record {
+        long = refl;
+        is = all_read lines (rows_in lines) s.is;
+        stored = unfold flat in refl;
+        same = refl;
+      }
 
-module _ (text : List ℕ) (at rows : ℕ) (lent cells before : List ℕ) (place number : ℕ) (s : StoredTo text at rows lent cells before place number) where
-  pub stored-all : rows ≤ number → cells ≡ flat (rows_in text) ++ drop (49 * rows) lent
-  stored-all h =
-      let e : number ≡ rows = omega (arith, s.few) in
-      let t : take number (rows_in text) ≡ rows_in text = rw (e, ← s.storable.long) (take-length (rows_in text)) in
-      s.stored ∙ rw (t, e)
+  module _ (cells before : List ℕ) (number : ℕ) (rest : List ℕ) (t : StoredTo lines rows lent cells before number rest) where
+    pub stored-all : number ≡ rows → cells ≡ flat (rows_in lines) ++ drop (49 * rows) lent
+    stored-all e =
+        let f : take number (rows_in lines) ≡ rows_in lines = rw (e, ← s.long) (take-length (rows_in lines)) in
+        t.stored ∙ rw (f, e)
 
-  module _ (h : number < rows) (good : Bool) (row : List ℕ) (end : ℕ) (r : RowRead text (timed_row number before (drop place text)) good row end) where
-    abbrev next : List ℕ
-    next = get_or (rows_in text) number []
+    module _ (h : number < rows) where
+      abbrev next : List ℕ
+      next = get_or (rows_in lines) number []
 
-    inside : number < length (rows_in text)
-    inside = omega (arith, s.storable.long)
+      inside : number < length (rows_in lines)
+      inside = omega (arith, s.long)
 
-    left : drop number (rows_in text) ≡ next ∷ drop (suc number) (rows_in text)
-    left = drop-cons (rows_in text) number [] inside
+      is-more : rows_of number before rest ≡ some (next ∷ drop (suc number) (rows_in lines))
+      is-more = t.is ∙ ap some (drop-cons (rows_in lines) number [] inside)
 
-    is-more : rows_at text number before place ≡ some (next ∷ drop (suc number) (rows_in text))
-    is-more = s.is ∙ ap some left
+      no_end : 0 < length rest
+      no_end = go (length rest) refl
+        where
+          go : (n : ℕ) → length rest ≡ n → 0 < n
+          go zero e =
+              let n = rows_none number before rest e in
+              let z : ◌≡◌ {A = ℕ} 0 1 = cc is-more in
+              absurd (omega arith)
+          go (suc n) e = omega arith
 
-    no_end : place < length text
-    no_end = go (ltb place (length text)) refl
-      where
-        go : (t : Bool) → ltb place (length text) ≡ t → place < length text
-        go true e = ltb-true place (length text) e
-        go false e =
-            let n = rows_none text number before place (ltb-false place (length text) e) in
-            let z : ◌≡◌ {A = ℕ} 0 1 = cc is-more in
-            absurd (omega arith)
+      pub is-row : timed_row number before rest ≡ none → ⊥
+      is-row e = no-some (next ∷ drop (suc number) (rows_in lines)) (sym (rows-bad number before rest no_end e) ∙ is-more)
 
-    is-good : good ≡ true
-    is-good = go good refl
-      where
-        go : (t : Bool) → good ≡ t → t ≡ true
-        go true e = refl
-        go false e = absurd (no-some (next ∷ drop (suc number) (rows_in text)) (sym (rows-bad text number before place no_end good row end r e) ∙ is-more))
+      module _ (row end : List ℕ) (e : timed_row number before rest ≡ row_then row end) (wide : length row ≡ 49) where
+        parts : (rows_of (suc number) row end ≡ some (drop (suc number) (rows_in lines))) × (row ≡ next)
+        parts = with-row row (rows_of (suc number) row end) (drop (suc number) (rows_in lines)) next (sym (rows-good number before rest no_end row end e) ∙ is-more)
 
-    parts : (rows_at text (suc number) row end ≡ some (drop (suc number) (rows_in text))) × (row ≡ next)
-    parts = with-row row (rows_at text (suc number) row end) (drop (suc number) (rows_in text)) next (sym (rows-good text number before place no_end good row end r is-good) ∙ is-more)
+        all-cells : Rows (rows_in lines)
+        all-cells = cells-read lines (rows_in lines) s.is
 
-    all-cells : Rows (rows_in text)
-    all-cells = (read-dumped text (rows_in text) s.storable.is).cells
+        copied : copied_in cells (49 * number) row ≡ put_row cells number row
+        copied =
+            let b : Below row = rw parts.1 (row_below (rows_in lines) number all-cells inside) in
+            copied-row cells number row wide (omega (arith, t.same, s.room)) ∙ ap (put_row cells number) (below-reduced row b)
 
-    copied : copied_in cells (49 * number) row ≡ put_row cells number row
-    copied =
-        let b : Below row = rw parts.1 (row_below (rows_in text) number all-cells inside) in
-        copied-row cells number row r.long (omega (arith, s.same, s.storable.room)) ∙ ap (put_row cells number) (below-reduced row b)
+        front_long : length (flat (take number (rows_in lines))) ≡ 49 * number
+        front_long = flat-long number (rows_in lines) all-cells (omega (arith, inside))
 
-    front_long : length (flat (take number (rows_in text))) ≡ 49 * number
-    front_long = flat-long number (rows_in text) all-cells (omega (arith, inside))
+        put : put_row cells number row ≡ flat (take (suc number) (rows_in lines)) ++ drop (49 * suc number) lent
+        unfolding put_row
+        put =
+            let f : List ℕ = flat (take number (rows_in lines)) in
+            let next_place : 49 * number + 49 ≡ 49 * suc number = omega arith in
+            let taken : take (49 * number) cells ≡ f = ap (take (49 * number)) t.stored ∙ take_at f (drop (49 * number) lent) (49 * number) front_long in
+            let dropped : drop (49 * number + 49) cells ≡ drop (49 * suc number) lent =
+            sym (drop-drop 49 (49 * number) cells)
+            ∙ ap (drop 49) (ap (drop (49 * number)) t.stored ∙ drop_at f (drop (49 * number) lent) (49 * number) front_long)
+            ∙ drop-drop 49 (49 * number) lent
+            ∙ ap (λ (n : ℕ). drop n lent) next_place in
+            let flats : flat (take (suc number) (rows_in lines)) ≡ f ++ row = flat-next (rows_in lines) number inside ∙ ap (λ (l : List ℕ). f ++ l) (sym parts.1) in
+            rw (taken, dropped, flats)
 
-    put : put_row cells number row ≡ flat (take (suc number) (rows_in text)) ++ drop (49 * suc number) lent
-    unfolding put_row
-    put =
-        let f : List ℕ = flat (take number (rows_in text)) in
-        let next_place : 49 * number + 49 ≡ 49 * suc number = omega arith in
-        let taken : take (49 * number) cells ≡ f = ap (take (49 * number)) s.stored ∙ take_at f (drop (49 * number) lent) (49 * number) front_long in
-        let dropped : drop (49 * number + 49) cells ≡ drop (49 * suc number) lent =
-        sym (drop-drop 49 (49 * number) cells)
-        ∙ ap (drop 49) (ap (drop (49 * number)) s.stored ∙ drop_at f (drop (49 * number) lent) (49 * number) front_long)
-        ∙ drop-drop 49 (49 * number) lent
-        ∙ ap (λ (n : ℕ). drop n lent) next_place in
-        let flats : flat (take (suc number) (rows_in text)) ≡ f ++ row = flat-next (rows_in text) number inside ∙ ap (λ (l : List ℕ). f ++ l) (sym parts.1) in
-        rw (taken, dropped, flats)
-
-    pub stored_more : StoredTo text at rows lent (copied_in cells (49 * number) row) row end (suc number)
-    stored_more =
-        record {
-          storable = s.storable;
-          within = r.within;
-          few = h;
-          long = r.long;
-          is = parts.0;
-          stored = copied ∙ put;
-          same =
-              ap (λ (l : List ℕ). length l) (copied ∙ put)
-              ∙ omega (arith, length-append (flat (take (suc number) (rows_in text))) (drop (49 * suc number) lent), flat-long (suc number) (rows_in text) all-cells inside, length-drop (49 * suc number) lent, s.storable.room);
-        }
+        pub stored_more : StoredTo lines rows lent (copied_in cells (49 * number) row) row (suc number) end
+        stored_more =
+            record {
+              long = wide;
+              is = parts.0;
+              stored = copied ∙ put;
+              same =
+                  ap (λ (l : List ℕ). length l) (copied ∙ put)
+                  ∙ omega (arith, length-append (flat (take (suc number) (rows_in lines))) (drop (49 * suc number) lent), flat-long (suc number) (rows_in lines) all-cells inside, length-drop (49 * suc number) lent, s.room);
+            }

@@ -3,12 +3,12 @@ use mathlib.Core.Path.{◌≡◌, ◌∙◌, refl, sym, ap}
 use mathlib.Core.Bool.{Bool, true, false, ◌&&◌}
 use mathlib.Core.List.{List, [], ◌∷◌}
 use mathlib.Core.Option.{Option, none, some}
-use Prim.Native.Nat.{ℕ, suc, ◌+◌, ◌*◌, ◌/◌, ◌%◌, ◌≤◌, ◌<◌}
+use Prim.Native.Nat.{ℕ, ◌+◌, ◌*◌, ◌/◌, ◌%◌, ◌≤◌, ◌<◌}
 use native.Mathlib.Omega.{arith}
 use borrow.Author.Tests.{ltb-false, lt-ltb, le-ltb}
 use lib.Dec.{ltb}
-use lib.ListN.{length, drop, get_or, drop_of_length-le}
-use lib.Seq.{drop-cons}
+use lib.ListN.{length}
+use Rattle.std.specs.List.{list_all}
 use Rattle.field.specs.Modulus.{P}
 use Rattle.groups.specs.Answer.{accepted, refused, pick}
 use Rattle.rows.specs.records.Buffers.{buffer_wrong}
@@ -16,25 +16,15 @@ use Rattle.rows.proofs.passes.Checks.{neither}
 use Rattle.theory_dumps.specs.Dumps.{header, time_line}
 use Rattle.theory_dumps.specs.ways.Undump.{behind, or_none, with_row, read_rows, no_values, has_all, from_first, undump}
 use Rattle.dump.specs.ways.Undumping.{few_rows, undumping, reading_dump}
-use Rattle.dump.specs.ways.Reading.{Behind, RowRead, RowsCounted, timed_row, whole_first, how_many, the_rows, Storable}
-use Rattle.dump.proofs.RowsLaws.{no-some, rows_step, rows_from, rows_at, RowsTo, plus_rows}
+use Rattle.dump.specs.ways.Reading.{row_then, timed_row, whole_first, rows_behind, how_many, the_rows, Storable}
+use Rattle.dump.proofs.RowsLaws.{no-some, rows_step, rows_from, rows_of, RowsTo, plus_rows}
 
 -- ALL VALUES
 
-module _ (row : List ℕ) (i : ℕ) where
-  has-cons : (x : ℕ) (l : List ℕ) → has_all (x ∷ l) ≡ (ltb x P && has_all l)
-  unfolding has_all
-  has-cons x l = refl
-
-  pub has-next : i < length row → get_or row i 0 < P → has_all (drop i row) ≡ has_all (drop (suc i) row)
-  has-next h l = ap has_all (drop-cons row i 0 h) ∙ has-cons (get_or row i 0) (drop (suc i) row) ∙ rw (lt-ltb (get_or row i 0) P l)
-
-  pub has-not : i < length row → P ≤ get_or row i 0 → has_all (drop i row) ≡ false
-  has-not h l = ap has_all (drop-cons row i 0 h) ∙ has-cons (get_or row i 0) (drop (suc i) row) ∙ rw (le-ltb (get_or row i 0) P l)
-
-  pub has_end : length row ≤ i → has_all (drop i row) ≡ true
-  unfolding has_all
-  has_end h = rw (drop_of_length-le row {i = i} h)
+pub all-values : (values : List ℕ) → list_all (λ value. ltb value P) values ≡ has_all values
+unfolding has_all
+all-values [] = refl
+all-values (value ∷ values) = ap (λ (b : Bool). ltb value P && b) (all-values values)
 
 -- THE FIRST ROW
 
@@ -57,51 +47,47 @@ first_by (byte ∷ text) = rw (rows_step (length text) 0 no_values (byte ∷ tex
     go (some x) = first-row x.0 (read_rows (length text) 1 x.0 x.1)
 
 -- by a row that was read
-module _ (text : List ℕ) (o : Option (List ℕ × List ℕ)) (good : Bool) (row : List ℕ) (end : ℕ) (r : RowRead text o good row end) where
-  pub whole-good : good ≡ true → whole_first o ≡ has_all row
-  unfolding whole_first
-  whole-good e = rw (r.is, e)
+pub whole-by : (o : Option (List ℕ × List ℕ)) (row rest : List ℕ) → row_then row rest ≡ o → has_all row ≡ whole_first o
+unfolding whole_first
+whole-by o row rest e = rw (← e)
 
-  pub whole-bad : good ≡ false → whole_first o ≡ false
-  unfolding whole_first
-  whole-bad e = rw (r.is, e)
+pub whole-none : (o : Option (List ℕ × List ℕ)) → none ≡ o → false ≡ whole_first o
+unfolding whole_first
+whole-none o e = rw (← e)
 
 -- FEW ROWS
 
-pub counted_none : RowsCounted none false 0
-unfolding how_many
-counted_none = record { is = refl; nothing = λ z. refl }
-
-pub counted-few : (o : Option (List (List ℕ))) (good : Bool) (rows : ℕ) → RowsCounted o good rows → rows ≤ 16777216 → RowsCounted (few_rows o) good rows
+pub counted-few : (o : Option (List (List ℕ))) (rows : ℕ) → how_many o ≡ some rows → rows ≤ 16777216 → how_many (few_rows o) ≡ some rows
 unfolding how_many few_rows
-counted-few none good rows c h = c
-counted-few (some rs) true rows c h =
-    let e : length rs ≡ rows = cc c.is in
-    rw (le-ltb 16777216 (length rs) (omega arith)) c
-counted-few (some rs) false rows c h = absurd (no-some (length rs) (sym c.is))
+counted-few none rows e h = e
+counted-few (some rs) rows e h =
+    let l : length rs ≡ rows = cc in
+    rw (le-ltb 16777216 (length rs) (omega arith)) e
+
+pub none-few : (o : Option (List (List ℕ))) → how_many o ≡ none → how_many (few_rows o) ≡ none
+unfolding how_many few_rows
+none-few none e = refl
+none-few (some rs) e = absurd (no-some (length rs) (sym e))
 
 -- too many rows were read already
-pub count-over : (text : List ℕ) (at : ℕ) (row : List ℕ) (place number : ℕ) → RowsTo text at row place number → 16777216 < number → RowsCounted (few_rows (rows_at text 0 no_values at)) false 0
+pub count-over : (text row : List ℕ) (number : ℕ) (rest : List ℕ) → RowsTo text row number rest → 16777216 < number → how_many (few_rows (rows_of 0 no_values text)) ≡ none
 unfolding how_many few_rows plus_rows
-count-over text at row place number t h = go (rows_at text 0 no_values at) (rows_at text number row place) t.is
+count-over text row number rest t h = go (rows_of 0 no_values text) (rows_of number row rest) t.is
   where
-    go : (o q : Option (List (List ℕ))) → how_many o ≡ plus_rows number (how_many q) → RowsCounted (few_rows o) false 0
-    go none q e = counted_none
+    go : (o q : Option (List (List ℕ))) → how_many o ≡ plus_rows number (how_many q) → how_many (few_rows o) ≡ none
+    go none q e = refl
     go (some rows) none e = absurd (no-some (length rows) (sym e))
     go (some rows) (some more) e =
         let n : length rows ≡ number + length more = cc in
-        rw (lt-ltb 16777216 (length rows) (omega arith)) counted_none
+        rw (lt-ltb 16777216 (length rows) (omega arith)) refl
 
 module _ (lines : List ℕ) where
-  abbrev all : Option (List (List ℕ))
-  all = read_rows (length lines) 0 no_values lines
+  pub not-whole : whole_first (timed_row 0 no_values lines) ≡ false → how_many (few_rows (rows_behind lines)) ≡ none
+  unfolding rows_behind how_many few_rows
+  not-whole e = rw (first_by lines, e)
 
-  pub not-whole : whole_first (timed_row 0 no_values lines) ≡ false → RowsCounted (few_rows (or_none all from_first)) false 0
-  not-whole e =
-      let n : or_none all from_first ≡ none = first_by lines ∙ rw e in
-      rw n (unfold few_rows in counted_none)
-
-  pub is_whole : whole_first (timed_row 0 no_values lines) ≡ true → or_none all from_first ≡ all
+  pub is_whole : whole_first (timed_row 0 no_values lines) ≡ true → rows_behind lines ≡ rows_of 0 no_values lines
+  unfolding rows_behind
   is_whole e = first_by lines ∙ rw e
 
 -- THE ANSWER
@@ -129,65 +115,58 @@ pub wrong-buffer : (text : List ℕ) (lent : ℕ) → buffer_wrong lent ≡ true
 unfolding reading_dump
 wrong-buffer text lent w = rw w
 
-pub no_header : (text : List ℕ) (lent : ℕ) → buffer_wrong lent ≡ false → (good : Bool) (at : ℕ) → Behind text (behind header text) good at → good ≡ false → reading_dump text lent ≡ refused 29
-unfolding reading_dump undump few_rows undumping
-no_header text lent w good at b e = rw (w, b.is, e)
+module _ (text : List ℕ) (lent : ℕ) (w : buffer_wrong lent ≡ false) where
+  pub no_header : behind header text ≡ none → reading_dump text lent ≡ refused 29
+  unfolding reading_dump undump few_rows undumping
+  no_header e = rw (w, e)
 
-module _ (text : List ℕ) (lent : ℕ) (w : buffer_wrong lent ≡ false) (good : Bool) (at : ℕ) (b : Behind text (behind header text) good at) (e : good ≡ true) where
-  pub start_is : behind header text ≡ some (drop at text)
-  start_is = b.is ∙ rw e
+  module _ (lines : List ℕ) (start : behind header text ≡ some lines) where
+    read_by : undump text ≡ rows_behind lines
+    unfolding undump rows_behind
+    read_by = rw start
 
-  read_by : undump text ≡ or_none (read_rows (length (drop at text)) 0 no_values (drop at text)) from_first
-  unfolding undump
-  read_by = rw start_is
-
-  module _ (good' : Bool) (rows : ℕ) (c : RowsCounted (few_rows (or_none (read_rows (length (drop at text)) 0 no_values (drop at text)) from_first)) good' rows) where
-    counts : how_many (few_rows (undump text)) ≡ pick good' (some rows) none
-    counts = rw read_by c.is
-
-    pub no_rows : good' ≡ false → reading_dump text lent ≡ refused 29
+    pub no_rows : how_many (few_rows (rows_behind lines)) ≡ none → reading_dump text lent ≡ refused 29
     unfolding reading_dump undumping
-    no_rows f =
-        let n : few_rows (undump text) ≡ none = none-many (few_rows (undump text)) (counts ∙ rw f) in
+    no_rows e =
+        let n : few_rows (undump text) ≡ none = ap few_rows read_by ∙ none-many (few_rows (rows_behind lines)) e in
         rw (w, n)
 
-    module _ (f : good' ≡ true) where
-      few : (few_rows (undump text) ≡ some (the_rows (few_rows (undump text)))) × (length (the_rows (few_rows (undump text))) ≡ rows)
-      few = some-many (few_rows (undump text)) rows (counts ∙ rw f)
+    module _ (rows : ℕ) (e : how_many (few_rows (rows_behind lines)) ≡ some rows) where
+      few : (few_rows (rows_behind lines) ≡ some (the_rows (few_rows (rows_behind lines)))) × (length (the_rows (few_rows (rows_behind lines))) ≡ rows)
+      few = some-many (few_rows (rows_behind lines)) rows e
 
-      is_read : undump text ≡ some (the_rows (few_rows (undump text)))
-      is_read = few-some (undump text) (the_rows (few_rows (undump text))) few.0
+      is_read : rows_behind lines ≡ some (the_rows (few_rows (rows_behind lines)))
+      is_read = few-some (rows_behind lines) (the_rows (few_rows (rows_behind lines))) few.0
 
-      same_rows : the_rows (undump text) ≡ the_rows (few_rows (undump text))
+      same_rows : the_rows (rows_behind lines) ≡ the_rows (few_rows (rows_behind lines))
       same_rows = ap the_rows is_read ∙ unfold the_rows in refl
 
-      answered : reading_dump text lent ≡ pick (ltb lent (49 * rows)) (refused 11) (accepted (the_rows (undump text)))
+      answered : reading_dump text lent ≡ pick (ltb lent (49 * rows)) (refused 11) (accepted (the_rows (rows_behind lines)))
       unfolding reading_dump undumping
       answered =
           rw w
-          (ap (λ (o : Option (List (List ℕ))). undumping o lent) few.0
+          (ap (λ (o : Option (List (List ℕ))). undumping o lent) (ap few_rows read_by ∙ few.0)
           ∙ rw (few.1, same_rows))
 
       pub too_short : lent / 49 < rows → reading_dump text lent ≡ refused 11
       too_short h = answered ∙ rw (lt-ltb lent (49 * rows) (omega arith))
 
-      pub read_all : ¬ (lent / 49 < rows) → reading_dump text lent ≡ accepted (the_rows (undump text))
-      read_all h = answered ∙ rw (le-ltb lent (49 * rows) (omega arith))
-
-      pub rows_long : length (the_rows (undump text)) ≡ rows
+      pub rows_long : length (the_rows (rows_behind lines)) ≡ rows
       rows_long = rw same_rows few.1
 
       right-rows : lent / 49 ≤ 16777216
       unfolding buffer_wrong
       right-rows = ltb-false 16777216 (lent / 49) (neither (ltb 0 (lent % 49)) (ltb 16777216 (lent / 49)) w).1
 
-      pub may-store : ¬ (lent / 49 < rows) → Storable text at rows lent
-      may-store h =
-          record {
-            within = b.within;
-            start = start_is;
-            is = rw same_rows is_read;
-            long = rows_long;
-            few = omega (arith, right-rows);
-            room = omega arith;
-          }
+      module _ (h : rows ≤ lent / 49) where
+        pub read_all : reading_dump text lent ≡ accepted (the_rows (rows_behind lines))
+        read_all = answered ∙ rw (le-ltb lent (49 * rows) (omega arith))
+
+        pub may-store : Storable lines rows lent
+        may-store =
+            record {
+              is = rw same_rows is_read;
+              long = rows_long;
+              few = omega (arith, right-rows);
+              room = omega arith;
+            }

@@ -1,13 +1,15 @@
 // The lines in front of the rows.
+ghost use Rattle.std.specs.Prelude.{◌≡◌};
 ghost use Rattle.theory_dumps.specs.Dumps.{header};
 ghost use Rattle.theory_dumps.specs.ways.Undump.{behind};
 ghost use Rattle.dump.specs.ways.Putting.{Put};
-ghost use Rattle.dump.specs.ways.Reading.{Behind};
+ghost use Rattle.dump.specs.ways.Reading.{rest_of};
 
-use crate::read::{LineEnd, after};
 use crate::text::put_bytes;
 
-const HEADER: [u8; 1400] = *b"$timescale 1 ns $end\n\
+pub(crate) const HEADER_BYTES: usize = 1400;
+
+const HEADER: [u8; HEADER_BYTES] = *b"$timescale 1 ns $end\n\
 $scope module trace $end\n\
 $var wire 64 ! clk $end\n\
 $var wire 64 \" ctx $end\n\
@@ -69,8 +71,8 @@ pub(crate) fn put_header(text: &mut [u8]) -> usize
 }
 
 // Behind them in a text.
-pub(crate) fn after_header(text: &[u8]) -> LineEnd
-    ensures { Behind text.now (behind header text.now) result.good result.at }
+pub(crate) fn after_header(text: &[u8]) -> Option<&[u8]>
+    ensures { rest_of result ≡ behind header text.now }
 {
-    after(text, 0, &HEADER)
+    text.strip_prefix(&HEADER)
 }

@@ -3,6 +3,7 @@
 
 mod header;
 mod lengths;
+mod lent_row;
 mod lines;
 mod numeral;
 mod read;

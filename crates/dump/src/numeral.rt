@@ -13,10 +13,10 @@ pub(crate) fn put_digits(base: u64, n: u64, out: &mut [u8]) -> usize
     let mut rest = n;
     while base <= rest {
         at -= 1;
-        out[at] = 48 + (rest % base) as u8;
-        rest = rest / base;
+        out[at] = b'0' + (rest % base) as u8;
+        rest /= base;
     }
     at -= 1;
-    out[at] = 48 + rest as u8;
+    out[at] = b'0' + rest as u8;
     at
 }

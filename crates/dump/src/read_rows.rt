@@ -1,117 +1,68 @@
-// Rows of a dump read from a place of a text on.
+// Rows of a dump that a text begins with.
 ghost use Rattle.std.specs.Prelude.{◌≡◌, ◌++◌, ◌*◌, ◌≤◌, length, drop};
 ghost use Rattle.groups.specs.Constants.{row_width, most_rows};
-ghost use Rattle.theory_dumps.specs.ways.Undump.{read_changes, no_values, read_rows, undump};
+ghost use Rattle.theory_dumps.specs.ways.Undump.{read_changes, no_values, read_rows};
 ghost use Rattle.rows.specs.records.Buffers.{flat};
 ghost use Rattle.dump.specs.ways.Undumping.{few_rows};
-ghost use Rattle.dump.specs.ways.Reading.{RowRead, timed_row, RowsCounted, the_rows, Storable};
+ghost use Rattle.dump.specs.ways.Reading.{with_rest, timed_row, how_many, count_of, rows_behind, the_rows, Storable};
 
-use crate::read::{LineEnd, after_time, changed_at};
-use crate::scan::line_at;
+use crate::read::{after_time, after_value};
+use crate::scan::line_from;
 use field::felt::Felt;
 use groups::constants::Row;
 use rows::records::row::copy_in;
 
-// An identifier as a number.
-fn index_of(identifier: u8) -> usize
-    ensures { result ≡ identifier }
+// Behind the values of a row whose time line was read, which are put over those before: by the next line's column at once, since the
+// columns between have none.
+fn after_changes<'a>(text: &'a [u8], row: &mut [u64; 49]) -> Option<&'a [u8]>
+    ensures { with_rest row.new result ≡ read_changes 0 row.old text.now }
 {
-    identifier as usize
-}
-
-// The values of a row behind its time line, put over those before: by its next line's column at once, since the columns between have none.
-fn changes_at(text: &[u8], at: usize, row: &mut [u64; 49]) -> LineEnd
-    requires { (at ≤ length text.now) × (length row.old ≡ row_width) }
-    ensures { RowRead text.now (read_changes 0 row.old (drop at text.now)) result.good row.new result.at }
-{
-    let mut place = at;
+    let mut rest = text;
     let mut column = 0;
-    while column < Row::WIDTH {
-        let line = line_at(text, place);
-        let index = index_of(line.identifier);
-        if (index < 33 + column) | (81 < index) {
-            return LineEnd {
-                good: true,
-                at: place,
-            };
-        }
-        let next = index - 33;
-        let end = changed_at(text, place, next, line, row[next]);
-        if !end.good {
-            return LineEnd { good: false, at: 0 };
-        }
-        row[next] = line.value;
-        place = end.at;
-        column = next + 1;
+    while let Some(line) = line_from(rest, column) {
+        rest = after_value(rest, line, row[line.column])?;
+        row[line.column] = line.value;
+        column = line.column + 1;
     }
-    LineEnd {
-        good: true,
-        at: place,
-    }
+    Some(rest)
 }
 
-// A row with its time line, put over the values before.
-pub(crate) fn row_at(text: &[u8], at: usize, number: usize, row: &mut [u64; 49]) -> LineEnd
-    requires { (at ≤ length text.now) × (number ≤ most_rows) × (length row.old ≡ row_width) }
-    ensures { RowRead text.now (timed_row number row.old (drop at text.now)) result.good row.new result.at }
+// Behind a row with its time line, which is put over the values before.
+#[tactic(auto, unfolding(crate::specs::ways::Reading::timed_row))]
+pub(crate) fn after_row<'a>(text: &'a [u8], number: usize, row: &mut [u64; 49]) -> Option<&'a [u8]>
+    requires { number ≤ most_rows }
+    ensures { with_rest row.new result ≡ timed_row number row.old text.now }
 {
-    let start = after_time(text, at, number);
-    if start.good {
-        return changes_at(text, start.at, row);
-    }
-    LineEnd { good: false, at: 0 }
+    let lines = after_time(text, number)?;
+    after_changes(lines, row)
 }
 
-// How many rows there are. `good` where the text is rows up to its end, and not too many; where not, there are 0.
-#[derive(Clone, Copy)]
-pub(crate) struct Counted {
-    pub(crate) good: bool,
-    pub(crate) rows: usize,
-}
-
-// Counts the rows from a place on.
-pub(crate) fn count_rows(text: &[u8], at: usize) -> Counted
-    requires { at ≤ length text.now }
-    ensures { RowsCounted (few_rows (read_rows (length (drop at text.now)) 0 no_values (drop at text.now))) result.good result.rows }
+// How many rows a text is, up to its end, where they are not too many.
+pub(crate) fn count_rows(text: &[u8]) -> Option<usize>
+    ensures { count_of result ≡ how_many (few_rows (read_rows (length text.now) 0 no_values text.now)) }
 {
     let mut row = [Felt::MODULUS; 49];
-    let mut place = at;
+    let mut rest = text;
     let mut number = 0;
-    while place < text.len() {
-        let next = row_at(text, place, number, &mut row);
-        if !next.good {
-            return Counted {
-                good: false,
-                rows: 0,
-            };
-        }
+    while !rest.is_empty() {
+        rest = after_row(rest, number, &mut row)?;
         if number == Row::MOST {
-            return Counted {
-                good: false,
-                rows: 0,
-            };
+            return None;
         }
-        place = next.at;
         number += 1;
     }
-    Counted {
-        good: true,
-        rows: number,
-    }
+    Some(number)
 }
 
 // Stores the rows of a good text.
-pub(crate) fn store_rows(text: &[u8], at: usize, rows: usize, cells: &mut [u64])
-    requires { Storable text.now at rows (length cells.old) }
-    ensures { cells.new ≡ flat (the_rows (undump text.now)) ++ drop (row_width * rows) cells.old }
+pub(crate) fn store_rows(text: &[u8], rows: usize, cells: &mut [u64])
+    requires { Storable text.now rows (length cells.old) }
+    ensures { cells.new ≡ flat (the_rows (rows_behind text.now)) ++ drop (row_width * rows) cells.old }
 {
     let mut row = [Felt::MODULUS; 49];
-    let mut place = at;
-    let mut number = 0;
-    while number < rows {
-        let next = row_at(text, place, number, &mut row);
-        place = next.at;
+    let mut rest = text;
+    for number in 0..rows {
+        rest = after_row(rest, number, &mut row).unwrap();
         copy_in(cells, Row::WIDTH * number, &row);
-        number += 1;
     }
 }

@@ -1,210 +1,75 @@
-// A text scanned from a place on.
-ghost use Rattle.std.specs.Prelude.{◌≡◌, ◌+◌, ◌≤◌, ◌<◌, ltb, length, drop, take, get_or};
-ghost use Rattle.field.specs.Modulus.{P};
-ghost use Rattle.groups.specs.Answer.{pick};
-ghost use Rattle.groups.specs.Constants.{most_rows};
+// How a text begins.
+ghost use Rattle.std.specs.Prelude.{◌≡◌, ◌≤◌, ◌<◌, MatchOption};
+ghost use Rattle.groups.specs.Constants.{row_width};
 ghost use Rattle.theory_dumps.specs.ways.Spelled.{plain};
-ghost use Rattle.dump.specs.ways.Reading.{DigitsRead};
-ghost use Rattle.dump.specs.ways.Scanning.{in_front, Scanned, AllScanned, FirstScanned, LineScanned, digits_in};
+ghost use Rattle.dump.specs.ways.Scanning.{digits_in, DigitsRead, LineFrom, NoLineFrom};
 
-use field::felt::Felt;
+use field::cell::item_or;
+use groups::constants::Row;
 
-// Digits from a place on: how many, and the number that they spell, of binary ones the first 64.
+// The digits that a text begins with: how many, and the number that they spell, where 64 bits hold as many digits.
 #[derive(Clone, Copy)]
 pub(crate) struct Digits {
     pub(crate) count: usize,
     pub(crate) value: u64,
 }
 
-// Whether a line stands in a text from a place on.
-pub(crate) fn stands_at(text: &[u8], at: usize, line: &[u8]) -> bool
-    requires { at ≤ length text.now }
-    ensures { result ≡ in_front line.now (drop at text.now) }
+// The digits in a base.
+pub(crate) fn digits_of(text: &[u8], base: u64) -> Digits
+    requires { (1 < base) × (base ≤ 10) }
+    ensures { DigitsRead base (digits_in base text.now) result.count result.value }
 {
-    if text.len() - at < line.len() {
-        return false;
-    }
-    let mut i = 0;
-    while i < line.len() {
-        if text[at + i] != line[i] {
-            return false;
+    let mut value: u64 = 0;
+    for (count, byte) in text.iter().enumerate() {
+        // past the base where the byte is none of its digits
+        let digit = u64::from(byte.wrapping_sub(b'0'));
+        if base <= digit {
+            return Digits { count, value };
         }
-        i += 1;
-    }
-    true
-}
-
-// A byte as a number.
-fn wide(x: u8) -> u64
-    ensures { result ≡ x }
-{
-    x as u64
-}
-
-// At most 64 of a number of bytes.
-fn at_most_64(bytes: usize) -> usize
-    ensures { (result ≤ 64) × (result ≤ bytes) × ((result < 64) → result ≡ bytes) }
-{
-    if bytes < 64 { bytes } else { 64 }
-}
-
-// The binary digits from a place on, at most the first 64.
-fn first_bits(text: &[u8], at: usize) -> Digits
-    requires { at ≤ length text.now }
-    ensures { FirstScanned (drop at text.now) result.count result.value }
-{
-    let most = at_most_64(text.len() - at);
-    let mut count = 0;
-    let mut value = 0;
-    while count < most {
-        let digit = wide(text[at + count]);
-        // 48 and 49 are the digits
-        if digit / 2 != 24 {
-            return Digits {
-                count: count,
-                value: value,
-            };
-        }
-        value = value * 2 + (digit - 48);
-        count += 1;
+        value = value.wrapping_mul(base).wrapping_add(digit);
     }
     Digits {
-        count: count,
-        value: value,
+        count: text.len(),
+        value,
     }
 }
 
-// How many binary digits there are where the first 64 are scanned.
-fn more_bits(text: &[u8], at: usize, value: u64) -> usize
-    requires { (at ≤ length text.now) × Scanned (drop at text.now) 64 value }
-    ensures { AllScanned (drop at text.now) result value }
+// Whether digits are written without leading zeros.
+pub(crate) fn is_plain(digits: &[u8]) -> bool
+    ensures { result ≡ plain digits.now }
 {
-    let mut count = 64;
-    while count < text.len() - at {
-        let digit = wide(text[at + count]);
-        if digit / 2 != 24 {
-            return count;
-        }
-        count += 1;
-    }
-    count
-}
-
-// All binary digits from a place on.
-fn bits_at(text: &[u8], at: usize) -> Digits
-    requires { at ≤ length text.now }
-    ensures { AllScanned (drop at text.now) result.count result.value }
-{
-    let first = first_bits(text, at);
-    if first.count < 64 {
-        return first;
-    }
-    Digits {
-        count: more_bits(text, at, first.value),
-        value: first.value,
+    match digits {
+        [] => false,
+        [_] => true,
+        [first, ..] => *first != b'0',
     }
 }
 
-// The decimal digits from a place on: how many, and the number that they spell; or a number above `most` where they spell one above it.
-pub(crate) fn digits_at(text: &[u8], at: usize, most: u64) -> Digits
-    requires { (at ≤ length text.now) × (most ≤ most_rows) }
-    ensures { DigitsRead (digits_in (drop at text.now)) most result.count result.value }
-{
-    let mut count = 0;
-    let mut value = 0;
-    while count < text.len() - at {
-        let digit = wide(text[at + count]);
-        if (digit < 48) | (57 < digit) {
-            return Digits {
-                count: count,
-                value: value,
-            };
-        }
-        value = value * 10 + (digit - 48);
-        if most < value {
-            return Digits {
-                count: count,
-                value: value,
-            };
-        }
-        count += 1;
-    }
-    Digits {
-        count: count,
-        value: value,
-    }
-}
-
-// Whether digits from a place on are written without leading zeros.
-pub(crate) fn plain_digits(text: &[u8], at: usize, count: usize) -> bool
-    requires { at + count ≤ length text.now }
-    ensures { result ≡ plain (take count (drop at text.now)) }
-{
-    if count == 0 {
-        return false;
-    }
-    if count == 1 {
-        return true;
-    }
-    text[at] != 48
-}
-
-// A line like `b101 !`: its identifier, its value and how many digits it has.
+// A line like `b101 !`: the column of its identifier, its value, where 64 bits hold it, and how many digits it has.
 #[derive(Clone, Copy)]
 pub(crate) struct Line {
-    pub(crate) identifier: u8,
+    pub(crate) column: usize,
     pub(crate) value: u64,
     pub(crate) count: usize,
 }
 
-// The byte behind that at a place, 0 past the end.
-fn byte_behind(text: &[u8], at: usize) -> u8
-    requires { at ≤ length text.now }
-    ensures { result ≡ get_or text.now (at + 1) 0 }
+// The line that a text begins with, where it is one of the columns from `first` on.
+pub(crate) fn line_from(text: &[u8], first: usize) -> Option<Line>
+    requires { first ≤ row_width }
+    ensures { MatchOption result (NoLineFrom text.now first) (λ line. LineFrom text.now first line.column line.value line.count) }
 {
-    if text.len() - at < 2 {
-        return 0;
+    let [b'b', behind @ ..] = text else {
+        return None;
+    };
+    let digits = digits_of(behind, 2);
+    let identifier = usize::from(item_or(behind, digits.count + 1, 0));
+    let column = identifier.checked_sub(usize::from(b'!'))?;
+    if column < first || Row::WIDTH <= column {
+        return None;
     }
-    text[at + 1]
-}
-
-// The number that they spell; p, which is no cell, where there are more of them than a number of 64 bits has.
-fn number_of(bits: Digits) -> u64
-    ensures { result ≡ pick (ltb 64 bits.count) P bits.value }
-{
-    if 64 < bits.count {
-        Felt::MODULUS
-    } else {
-        bits.value
-    }
-}
-
-// The line from a place on; the identifier 0, which is none, where there is no such line.
-pub(crate) fn line_at(text: &[u8], at: usize) -> Line
-    requires { at ≤ length text.now }
-    ensures { LineScanned (drop at text.now) result.identifier result.value result.count }
-{
-    if at == text.len() {
-        return Line {
-            identifier: 0,
-            value: Felt::MODULUS,
-            count: 0,
-        };
-    }
-    if text[at] != 98 {
-        return Line {
-            identifier: 0,
-            value: Felt::MODULUS,
-            count: 0,
-        };
-    }
-    let bits = bits_at(text, at + 1);
-    let end = at + 1 + bits.count;
-    let identifier = byte_behind(text, end);
-    let value = number_of(bits);
-    Line {
-        identifier: identifier,
-        value: value,
-        count: bits.count,
-    }
+    Some(Line {
+        column,
+        value: digits.value,
+        count: digits.count,
+    })
 }

@@ -1,7 +1,8 @@
 // Lines put into a text. Where one does not fit, the place behind it is answered all the same, and nothing is said of the text.
-ghost use Rattle.std.specs.Prelude.{◌≤◌, ◌<◌, length};
+ghost use Rattle.std.specs.Prelude.{◌++◌, ◌^◌, ◌≤◌, ◌<◌, length};
 ghost use Rattle.groups.specs.Constants.{row_width};
 ghost use Rattle.theory_dumps.specs.Dumps.{time_line, value_line};
+ghost use Rattle.theory_dumps.specs.Numerals.{numeral_within};
 ghost use Rattle.dump.specs.ways.Putting.{Put};
 
 use crate::numeral::put_digits;
@@ -12,15 +13,32 @@ pub(crate) fn put_bytes(text: &mut [u8], at: usize, bytes: &[u8]) -> usize
     ensures { Put text.old at bytes.now text.new result }
 {
     let end = at + bytes.len();
-    if text.len() < end {
-        return end;
-    }
-    let mut j = 0;
-    while j < bytes.len() {
-        text[at + j] = bytes[j];
-        j += 1;
+    if end <= text.len() {
+        text[at..end].copy_from_slice(bytes);
     }
     end
+}
+
+// A line of a mark, the digits of a number, of which it has at most N, and an end.
+fn put_line<const N: usize>(
+    text: &mut [u8],
+    at: usize,
+    mark: &[u8],
+    base: u64,
+    number: u64,
+    end: &[u8],
+) -> usize
+    requires place { at ≤ 2305843009213693952 }
+    requires short { (length mark.now ≤ 1024) × (length end.now ≤ 1024) }
+    requires digits { (1 < base) × (base ≤ 10) × (0 < N) × (N ≤ 64) × (number < base ^ N) }
+    ensures { Put text.old at (mark.now ++ numeral_within base N number ++ end.now) text.new result }
+{
+    let mut room = [0u8; N];
+    let digits = &mut room[..];
+    let first = put_digits(base, number, digits);
+    let from = put_bytes(text, at, mark);
+    let to = put_bytes(text, from, &digits[first..]);
+    put_bytes(text, to, end)
 }
 
 // The line of a value, as `b101 !`.
@@ -28,12 +46,14 @@ pub(crate) fn put_value(text: &mut [u8], at: usize, column: usize, value: u64) -
     requires { (at ≤ 2305843009213693952) × (column < row_width) }
     ensures { Put text.old at (value_line column value) text.new result }
 {
-    let mut digits = [0u8; 64];
-    let first = put_digits(2, value, &mut digits);
-    let from = put_bytes(text, at, b"b");
-    let to = put_bytes(text, from, &digits[first..]);
-    let end = [32, 33 + column as u8, 10];
-    put_bytes(text, to, &end)
+    put_line::<64>(
+        text,
+        at,
+        b"b",
+        2,
+        value,
+        &[b' ', b'!' + column as u8, b'\n'],
+    )
 }
 
 // The time line of a row, as `#0`.
@@ -41,9 +61,5 @@ pub(crate) fn put_time(text: &mut [u8], at: usize, row: usize) -> usize
     requires { at ≤ 2305843009213693952 }
     ensures { Put text.old at (time_line row) text.new result }
 {
-    let mut digits = [0u8; 20];
-    let first = put_digits(10, row as u64, &mut digits);
-    let from = put_bytes(text, at, b"#");
-    let to = put_bytes(text, from, &digits[first..]);
-    put_bytes(text, to, b"\n")
+    put_line::<20>(text, at, b"#", 10, row as u64, b"\n")
 }

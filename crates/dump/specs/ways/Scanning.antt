@@ -1,64 +1,41 @@
--- How a text is scanned from a place on.
-use Rattle.std.specs.Prelude.{◌≡◌, Bool, true, false, ◌&&◌, ◌||◌, List, [], ◌∷◌, ℕ, ◌+◌, ◌-◌, ◌^◌, ◌≤◌, ◌<◌, eqb, ltb, length, get_or, take, drop}
+-- How a text is scanned.
+use Rattle.std.specs.Prelude.{◌≡◌, ◌||◌, List, [], ◌∷◌, ℕ, ◌+◌, ◌^◌, ◌≤◌, ◌<◌, eqb, ltb, length, get_or}
 use Rattle.std.proofs.Math.Option.{Option, some}
-use Rattle.field.specs.Modulus.{P}
 use Rattle.groups.specs.Answer.{pick}
+use Rattle.groups.specs.Constants.{row_width}
 use Rattle.theory_dumps.specs.ways.Spelled.{spelled}
 use Rattle.theory_dumps.specs.Dumps.{identifier}
-use Rattle.theory_dumps.specs.ways.Undump.{bits_in, line_bits, line_value, is_line_of, after_value, or_none}
+use Rattle.theory_dumps.specs.ways.Undump.{line_bits, line_value, is_line_of, after_value, or_none}
 
--- whether a text stands in front of another
-unfoldable pub in_front : (front text : List ℕ) → Bool
-in_front [] text = true
-in_front (x ∷ front) [] = false
-in_front (x ∷ front) (y ∷ text) = eqb x y && in_front front text
+-- the digits in a base that a text begins with
+unfoldable pub digits_in : (base : ℕ) → List ℕ → List ℕ
+digits_in base [] = []
+digits_in base (d ∷ text) = pick (ltb d 48 || ltb (47 + base) d) [] (d ∷ digits_in base text)
 
--- the first binary digits of a text, and the number that they spell, at most 64 of them
-pub record Scanned (text : List ℕ) (count value : ℕ) : Type 0 where
-  pub within : count ≤ length text
-  pub long : length (bits_in text) ≡ count + length (bits_in (drop count text))
-  pub small : count ≤ 64 → value < 2 ^ count
-  pub number : spelled 2 0 (take 64 (bits_in text)) ≡ spelled 2 value (take (64 - count) (bits_in (drop count text)))
-
--- all of them
-pub record AllScanned (text : List ℕ) (count value : ℕ) : Type 0 where
-  pub is_count : count ≡ length (bits_in text)
-  pub is_value : value ≡ spelled 2 0 (take 64 (bits_in text))
-
--- the first 64 of them, or all
-pub record FirstScanned (text : List ℕ) (count value : ℕ) : Type 0 where
-  pub scanned : Scanned text count value
-  pub few : count ≤ 64
-  pub all : count < 64 → AllScanned text count value
+-- digits, how many they are, and the number that they spell, where 64 bits hold as many digits
+pub record DigitsRead (base : ℕ) (digits : List ℕ) (count value : ℕ) : Type 0 where
+  pub is_count : count ≡ length digits
+  pub is_value : base ^ count ≤ 2 ^ 64 → value ≡ spelled base 0 digits
 
 -- of a line like `b101 !` its identifier; 0, which is none, where the text begins with no such line
 unfoldable pub line_identifier : List ℕ → ℕ
 line_identifier text = pick (eqb (get_or text 0 0) 98) (get_or text (2 + length (line_bits text)) 0) 0
 
--- its value; p, which is no cell, where it has more digits than a number of 64 bits, or the text begins with no such line
-unfoldable pub line_number : List ℕ → ℕ
-line_number text = pick (eqb (get_or text 0 0) 98) (pick (ltb 64 (length (line_bits text))) P (line_value text)) P
-
--- how many digits it has; 0 where the text begins with no such line
-unfoldable pub line_count : List ℕ → ℕ
-line_count text = pick (eqb (get_or text 0 0) 98) (length (line_bits text)) 0
-
-pub record LineScanned (text : List ℕ) (id value count : ℕ) : Type 0 where
-  pub is_identifier : id ≡ line_identifier text
-  pub is_value : value ≡ line_number text
-  pub is_count : count ≡ line_count text
-
--- a line of a column, with a cell as its value
+-- a line of a column, its value, where 64 bits hold it, and how many digits it has
 pub record LineOf (text : List ℕ) (column value count : ℕ) : Type 0 where
   pub is_line : line_identifier text ≡ identifier column
-  pub is_value : value ≡ line_number text
-  pub is_count : count ≡ line_count text
-  pub below : value < P
+  pub is_count : count ≡ length (line_bits text)
+  pub is_value : count ≤ 64 → value ≡ line_value text
 
--- the decimal digits that a text begins with
-unfoldable pub digits_in : List ℕ → List ℕ
-digits_in [] = []
-digits_in (d ∷ text) = pick (ltb d 48 || ltb 57 d) [] (d ∷ digits_in text)
+-- a line of one of the columns from `first` on
+pub record LineFrom (text : List ℕ) (first column value count : ℕ) : Type 0 where
+  pub line : LineOf text column value count
+  pub from : first ≤ column
+  pub is_column : column < row_width
+
+-- no such line
+abbrev pub NoLineFrom : (text : List ℕ) → (first : ℕ) → Type 0
+NoLineFrom text first = (c : ℕ) → first ≤ c → c < row_width → line_identifier text ≡ identifier c → ⊥
 
 abbrev pub found : (value : ℕ) → (rest : List ℕ) → Option (ℕ × List ℕ)
 found value rest = some (value, rest)

@@ -1,18 +1,9 @@
 -- `lengths::binary_digits` meets its contract.
-use mathlib.Core.Path.{sym, ap, ◌∙◌}
-use Prim.Native.Nat.{ℕ}
+use mathlib.Core.Path.{◌∙◌}
 use native.Mathlib.Omega.{arith}
-use lib.Count.{leading_le}
-use lib.ListN.{length}
-use Rattle.theory_dumps.specs.Numerals.{binary}
-use Rattle.theory_dumps.proofs.NumeralLengths.{binary-count, binary-zero}
+use Rattle.dump.proofs.LengthLaws.{digits-by, at-least-one}
 use Rattle.dump.proofs.lengths.binary_digits.Goals as goal
 
-pub returns-then-value-eq0 : goal.returns-then-value-eq0
-returns-then-value-eq0 c = sym (ap (λ (n : ℕ). length (binary n)) c.if-value-eq0.true ∙ binary-zero)
-
-pub overflow_sub-result : goal.overflow_sub-result
-overflow_sub-result c = leading_le 64 c.args.value
-
 pub returns : goal.returns
-returns c = binary-count c.args.value (omega (arith, c.if-value-eq0.false))
+returns c = digits-by 2 64 c.max.result c.ilog2.result (omega arith) c.ilog2.ensures.power_le c.ilog2.ensures.next_power_gt c.ilog2.ensures.bound
+    ∙ at-least-one 2 64 c.args.value c.max.result (omega arith) (omega arith) (λ z. omega (arith, c.max.ensures)) (λ z. omega (arith, c.max.ensures))

@@ -1,8 +1,6 @@
 -- `lengths::rows_bytes` meets its contract. The loop's invariant: the lines of the rows passed are counted.
-use mathlib.Core.Path.{◌≡◌, ◌∙◌, ap}
-use Prim.Native.Nat.{◌+◌, ◌/◌}
+use Prim.Native.Nat.{◌+◌}
 use native.Mathlib.Omega.{arith}
-use lib.ListN.{length}
 use Rattle.dump.specs.ways.Places.{lines_to}
 use Rattle.dump.proofs.LengthLaws.{row-bytes}
 use Rattle.dump.proofs.Places.{lines-length}
@@ -10,26 +8,16 @@ use Rattle.dump.proofs.lengths.rows_bytes.Goals as goal
 
 pub loop-row-init : goal.loop-row-init
 unfolding lines_to
-loop-row-init c = (omega arith, omega arith)
-
-pub decimal_digits-requires : goal.decimal_digits-requires
-decimal_digits-requires c = omega (arith, c.requires, c.loop-row-test.true)
+loop-row-init c = omega arith
 
 pub overflow_add-bytes : goal.overflow_add-bytes
-overflow_add-bytes c = omega (arith, c.loop-row.invariant.0, c.decimal_digits.ensures, row-bytes c.args.cells.now c.loop-row.row, lines-length c.args.cells.now (c.loop-row.row + 1), c.loop-row-test.true, c.requires)
+overflow_add-bytes c = omega (arith, c.loop-row.invariant, c.decimal_digits.ensures, row-bytes c.args.cells.now c.loop-row.row, lines-length c.args.cells.now (c.loop-row.row + 1), c.loop-row-test.true, c.requires)
 
 pub overflow_add-bytes-in-loop-row : goal.overflow_add-bytes-in-loop-row
-overflow_add-bytes-in-loop-row c = omega (arith, c.loop-row.invariant.0, c.decimal_digits.ensures, row-bytes c.args.cells.now c.loop-row.row, lines-length c.args.cells.now (c.loop-row.row + 1), c.loop-row-test.true, c.requires)
-
-pub changes_bytes-bytes-requires : goal.changes_bytes-bytes-requires
-changes_bytes-bytes-requires c = (omega (arith, c.requires, c.loop-row-test.true), omega (arith, c.loop-row-test.true))
+overflow_add-bytes-in-loop-row c = omega (arith, c.loop-row.invariant, c.decimal_digits.ensures, row-bytes c.args.cells.now c.loop-row.row, lines-length c.args.cells.now (c.loop-row.row + 1), c.loop-row-test.true, c.requires)
 
 pub overflow_add-bytes-in-loop-row-2 : goal.overflow_add-bytes-in-loop-row-2
-overflow_add-bytes-in-loop-row-2 c = omega (arith, c.loop-row.invariant.0, c.decimal_digits.ensures, c.changes_bytes-bytes.ensures, row-bytes c.args.cells.now c.loop-row.row, lines-length c.args.cells.now (c.loop-row.row + 1), c.loop-row-test.true, c.requires)
+overflow_add-bytes-in-loop-row-2 c = omega (arith, c.loop-row.invariant, c.decimal_digits.ensures, c.changes_bytes-bytes.ensures, row-bytes c.args.cells.now c.loop-row.row, lines-length c.args.cells.now (c.loop-row.row + 1), c.loop-row-test.true, c.requires)
 
 pub loop-row-preserved : goal.loop-row-preserved
-loop-row-preserved c = (omega (arith, c.loop-row.invariant.0, c.decimal_digits.ensures, c.changes_bytes-bytes.ensures, row-bytes c.args.cells.now c.loop-row.row), omega (arith, c.loop-row-test.true))
-
-pub returns : goal.returns
-returns c = let e : c.loop-row.row ≡ length c.args.cells.now / 49 = omega (arith, c.loop-row.invariant.1, c.loop-row-test.false) in
-    c.loop-row.invariant.0 ∙ ap (λ n. length (lines_to c.args.cells.now n)) e
+loop-row-preserved c = omega (arith, c.loop-row.invariant, c.decimal_digits.ensures, c.changes_bytes-bytes.ensures, row-bytes c.args.cells.now c.loop-row.row)

@@ -1,46 +1,31 @@
 -- `read::after_value` meets its contract.
-use mathlib.Core.Path.{◌≡◌, ◌∙◌, sym, ap}
-use mathlib.Core.Bool.{false}
+use mathlib.Core.Path.{◌≡◌, ◌∙◌, refl, sym, ap}
 use mathlib.Core.List.{List}
-use Prim.Native.Nat.{ℕ, ◌+◌}
+use mathlib.Core.Option.{Option}
+use Prim.Native.Nat.{ℕ}
 use native.Mathlib.Omega.{arith}
-use borrow.Author.Tests.{not-true, not-false}
-use lib.ListN.{get_or, drop, take, length-drop}
-use lib.Seq.{get_or-drop, drop-drop}
-use Rattle.theory_dumps.specs.ways.Spelled.{plain}
-use Rattle.dump.proofs.InPlace.{value_there, value-not-there}
-use Rattle.dump.proofs.ReadLaws.{no_true}
+use Rattle.std.specs.Prelude.{Option as Answered, Some, None}
+use Rattle.std.specs.Borrow.{Bor}
+use Rattle.theory_dumps.specs.ways.Undump.{or_none}
+use Rattle.dump.specs.ways.Reading.{rest_of, with_rest}
+use Rattle.dump.specs.ways.Scanning.{found}
+use Rattle.dump.proofs.ReadLaws.{value_long, value-wrong, value-old, value-behind}
 use Rattle.dump.proofs.read.after_value.Goals as goal
+use Rattle.dump.proofs.read.after_value.Goals.{then-line-gt64-via-then-line-gt64, then-line-gt64-via-else-line-gt64+then-line-ge-MODULUS, then-line-gt64-via-else-line-gt64+else-line-ge-MODULUS+then-old-line}
 
--- the digits, as parts of the text
-digits_from : (text : List ℕ) (at count : ℕ) → plain (take count (drop (at + 1) text)) ≡ plain (take count (drop 1 (drop at text)))
-digits_from text at count = ap (λ (l : List ℕ). plain (take count l)) (sym (drop-drop 1 at text))
+with_found : (value : ℕ) (answer : Answered (Bor (List ℕ))) → with_rest value answer ≡ or_none (rest_of answer) (found value)
+with_found value (Some rest) = refl
+with_found value None = refl
 
-byte-from : (text : List ℕ) (at i j : ℕ) → at + i ≡ j → get_or (drop at text) i 0 ≡ get_or text j 0
-byte-from text at i j e = get_or-drop at text i 0 ∙ ap (λ (k : ℕ). get_or text k 0) e
-
-pub returns-then-text-at-lt4 : goal.returns-then-text-at-lt4
-returns-then-text-at-lt4 c = value-not-there c.args.text.now c.args.at c.args.column c.args.line.value c.args.line.count c.requires.1 (λ w. omega (arith, w.long, length-drop c.args.at c.args.text.now))
-
-pub returns-then-text-at : goal.returns-then-text-at
-returns-then-text-at c = value-not-there c.args.text.now c.args.at c.args.column c.args.line.value c.args.line.count c.requires.1 (λ w. omega (arith, w.long, length-drop c.args.at c.args.text.now))
-
-pub returns-then-not-plain_digits : goal.returns-then-not-plain_digits
-returns-then-not-plain_digits c = let e : plain (take c.args.line.count (drop 1 (drop c.args.at c.args.text.now))) ≡ false = sym (digits_from c.args.text.now c.args.at c.args.line.count) ∙ sym c.plain_digits.ensures ∙ not-true c.plain_digits.result c.if-not-plain_digits.true-raw in
-    value-not-there c.args.text.now c.args.at c.args.column c.args.line.value c.args.line.count c.requires.1 (λ w. no_true (sym w.is_plain ∙ e))
-
-pub returns-then-text-at-ne32 : goal.returns-then-text-at-ne32
-returns-then-text-at-ne32 c = value-not-there c.args.text.now c.args.at c.args.column c.args.line.value c.args.line.count c.requires.1
-    (λ w. c.if-text-at-ne32.true (sym (byte-from c.args.text.now c.args.at (1 + c.args.line.count) (c.args.at + 1 + c.args.line.count) (omega arith)) ∙ w.space))
-
-pub returns-then-text-at-ne10 : goal.returns-then-text-at-ne10
-returns-then-text-at-ne10 c = value-not-there c.args.text.now c.args.at c.args.column c.args.line.value c.args.line.count c.requires.1
-    (λ w. c.if-text-at-ne10.true (sym (byte-from c.args.text.now c.args.at (3 + c.args.line.count) (c.args.at + 3 + c.args.line.count) (omega arith)) ∙ w.feed))
+pub returns-then-line-gt64 : goal.returns-then-line-gt64
+returns-then-line-gt64 c = elim c.then-line-gt64.branch [
+  | then-line-gt64-via-then-line-gt64 w ↦ sym (value_long c.args.text.now c.args.line.column c.args.old c.args.line.value c.args.line.count c.requires (omega arith))
+  | then-line-gt64-via-else-line-gt64+then-line-ge-MODULUS w ↦ sym (value-wrong c.args.text.now c.args.line.column c.args.old c.args.line.value c.args.line.count c.requires (omega arith) (omega arith))
+  | then-line-gt64-via-else-line-gt64+else-line-ge-MODULUS+then-old-line w ↦ sym (value-old c.args.text.now c.args.line.column c.args.old c.args.line.value c.args.line.count c.requires (omega arith) (omega arith))
+]
 
 pub returns : goal.returns
-returns c = value_there c.args.text.now c.args.at c.args.column c.args.line.value c.args.line.count c.requires.1 c.requires.0 (record {
-  long = omega (arith, length-drop c.args.at c.args.text.now);
-  is_plain = sym (digits_from c.args.text.now c.args.at c.args.line.count) ∙ sym c.plain_digits.ensures ∙ not-false c.plain_digits.result c.if-not-plain_digits.false-raw;
-  space = byte-from c.args.text.now c.args.at (1 + c.args.line.count) (c.args.at + 1 + c.args.line.count) (omega arith) ∙ c.if-text-at-ne32.false;
-  feed = byte-from c.args.text.now c.args.at (3 + c.args.line.count) (c.args.at + 3 + c.args.line.count) (omega arith) ∙ c.if-text-at-ne10.false;
-})
+returns c =
+    with_found c.args.line.value c.after_line.result
+    ∙ ap (λ (o : Option (List ℕ)). or_none o (found c.args.line.value)) c.after_line.ensures
+    ∙ sym (value-behind c.args.text.now c.args.line.column c.args.old c.args.line.value c.args.line.count c.requires (omega arith) (omega arith) c.if-old-line.false)

@@ -1,21 +1,32 @@
 -- `read_rows::store_rows` meets its contract. The loop's invariant: the first rows are stored.
+use mathlib.Core.Path.{◌≡◌, sym}
+use mathlib.Core.List.{List}
+use mathlib.Core.Option.{Option, none}
+use Prim.Native.Nat.{ℕ}
 use native.Mathlib.Omega.{arith}
 use native.Mathlib.Numerals.{add-one}
-use Rattle.dump.proofs.StoreLaws.{stored-none, stored_more, stored-all}
+use borrow.Author.Rules.{rules}
+use Rattle.std.specs.Prelude.{Option as Answered, Some, None, IsSome}
+use Rattle.std.specs.Borrow.{Bor}
+use Rattle.dump.specs.ways.Reading.{with_rest, timed_row}
+use Rattle.dump.proofs.StoreLaws.{stored-none, is-row, stored_more, stored-all}
 use Rattle.dump.proofs.read_rows.store_rows.Goals as goal
 
+some_rest : (row : List ℕ) (answer : Answered (Bor (List ℕ))) (o : Option (List ℕ × List ℕ)) → with_rest row answer ≡ o → (o ≡ none → ⊥) → IsSome answer
+some_rest row (Some rest) o e h = search rules
+some_rest row None o e h = absurd (h (sym e))
+
 pub loop-number-init : goal.loop-number-init
-loop-number-init c = stored-none c.args.text.now c.args.at c.args.rows c.args.cells.now c.requires
+loop-number-init c = stored-none c.args.text.now c.args.rows c.args.cells.now c.requires
 
-pub row_at-next-requires : goal.row_at-next-requires
-row_at-next-requires c = (c.loop-number.invariant.within, omega (arith, c.loop-number.invariant.storable.few, c.loop-number-test.true), c.loop-number.invariant.long)
-
-pub overflow_mul-number : goal.overflow_mul-number
-overflow_mul-number c = omega (arith, c.loop-number.invariant.storable.few, c.loop-number-test.true)
+pub unwrap-rest-requires : goal.unwrap-rest-requires
+unwrap-rest-requires c = some_rest c.after_row.new.row c.after_row.result (timed_row c.loop-number.number c.loop-number.row c.loop-number.rest.now) c.after_row.ensures
+    (is-row c.args.text.now c.args.rows c.args.cells.now c.requires c.loop-number.cells c.loop-number.row c.loop-number.number c.loop-number.rest.now c.loop-number.invariant c.loop-number-test.true)
 
 pub loop-number-preserved : goal.loop-number-preserved
 loop-number-preserved c = rw (add-one, c.copy_in.ensures)
-    (stored_more c.args.text.now c.args.at c.args.rows c.args.cells.now c.loop-number.cells c.loop-number.row c.loop-number.place c.loop-number.number c.loop-number.invariant (omega (arith, c.loop-number-test.true)) c.row_at-next.result.good c.row_at-next.new.row c.row_at-next.result.at c.row_at-next.ensures)
+    (stored_more c.args.text.now c.args.rows c.args.cells.now c.requires c.loop-number.cells c.loop-number.row c.loop-number.number c.loop-number.rest.now c.loop-number.invariant c.loop-number-test.true
+    c.after_row.new.row c.unwrap-rest.result.now (sym (rw c.unwrap-rest.ensures at c.after_row.ensures)) c.after_row.array_long)
 
 pub returns : goal.returns
-returns c = stored-all c.args.text.now c.args.at c.args.rows c.args.cells.now c.loop-number.cells c.loop-number.row c.loop-number.place c.loop-number.number c.loop-number.invariant (omega arith)
+returns c = stored-all c.args.text.now c.args.rows c.args.cells.now c.requires c.loop-number.cells c.loop-number.row c.loop-number.number c.loop-number.rest.now c.loop-number.invariant (omega arith)
