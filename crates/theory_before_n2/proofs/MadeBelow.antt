@@ -33,7 +33,8 @@ use Rattle.rows.specs.records.Addresses.{Queues, started_at, after_start, end_at
 use Rattle.rows.specs.records.DecoderRows.{zero_word, word_cells, control_flow, basic_block_batch, operation, flag_word}
 use Rattle.rows.specs.declared.cycles.made.MadeRow.{MadeRow}
 use Rattle.rows.specs.declared.cycles.made.Finish.{Finish}
-use Rattle.rows.specs.cycles.Made.{Cursor, made_with, start_block, start_two, start_one, start_dyn, callee_of, info_of, start_dyncall, start_kind, cursor, start_node, entry_kind, made_end, body_of, made_repeat, condition_of, finish_loop, operation_made, resumed, made_respan, made}
+use Rattle.rows.specs.declared.records.address_state.Cursor.{Cursor}
+use Rattle.rows.specs.cycles.Made.{made_with, start_block, start_two, start_one, start_dyn, callee_of, info_of, start_dyncall, start_kind, cursor, start_node, entry_kind, made_end, body_of, made_repeat, condition_of, finish_loop, operation_made, resumed, made_respan, made}
 use Rattle.theory_reductions.specs.Below.{Below}
 use Rattle.theory_before_n2.specs.BeforeN2.{callee_cells, info_cells, depth_in, Narrow32}
 use Rattle.theory_before_n2.proofs.SameCells.{below_both}

@@ -13,7 +13,7 @@ use Rattle.rows.specs.declared.records.profile.Profile.{Profile}
 use Rattle.rows.specs.records.Profiles.{profile_wrong}
 use Rattle.rows.specs.records.Forests.{Forest}
 use Rattle.rows.specs.records.Addresses.{Queues}
-use Rattle.rows.specs.cycles.Made.{Cursor}
+use Rattle.rows.specs.declared.records.address_state.Cursor.{Cursor}
 use Rattle.rows.specs.records.Buffers.{rows_of}
 use Rattle.rows.specs.passes.Passes.{sum_of, no_fragment, not_full, loop_without_body, fragments_wrong, height_wrong, refusal_all}
 use Rattle.groups.specs.Answer.{first_of}

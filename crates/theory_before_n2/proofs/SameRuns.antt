@@ -13,7 +13,7 @@ use Rattle.rows.specs.declared.records.profile.Profile.{Profile}
 use Rattle.rows.specs.declared.records.continuation.StoredValues.{StoredValues}
 use Rattle.rows.specs.records.Profiles.{profile_wrong}
 use Rattle.rows.specs.records.Addresses.{Queues}
-use Rattle.rows.specs.cycles.Made.{Cursor}
+use Rattle.rows.specs.declared.records.address_state.Cursor.{Cursor}
 use Rattle.rows.specs.records.Buffers.{rows_of, on_rows, buffer_wrong, fewer_rows}
 use Rattle.rows.specs.passes.Passes.{fixed_up, built_of, halted, sum_of, last_built, fragments_wrong, no_fragment, not_full, height_wrong, loop_without_body, unless_refused, refusal1, refusal2, refusal3, refusal4, refusal5, refusal_all, all_passes}
 use Rattle.groups.specs.Answer.{first_of}

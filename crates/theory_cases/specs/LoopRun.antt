@@ -7,7 +7,7 @@ use Rattle.rows.specs.declared.records.profile.Profile.{Profile}
 use Rattle.rows.specs.declared.records.continuation.Continuation.{Continuation}
 use Rattle.rows.specs.records.Forests.{Forest, node_id}
 use Rattle.rows.specs.records.Addresses.{Queues}
-use Rattle.rows.specs.cycles.Made.{Cursor}
+use Rattle.rows.specs.declared.records.address_state.Cursor.{Cursor}
 use Rattle.theory_runs.specs.Calls.{Call, store, finish, Fragment}
 use Rattle.theory_runs.specs.Finished.{written_by_finisher}
 

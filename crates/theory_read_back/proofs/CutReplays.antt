@@ -9,7 +9,7 @@ use Rattle.rows.specs.declared.records.profile.Profile.{Profile}
 use Rattle.rows.specs.records.Forests.{Forest}
 use Rattle.rows.specs.records.Addresses.{Queues}
 use Rattle.rows.specs.records.CallRecords.{call_in, record_at}
-use Rattle.rows.specs.cycles.Made.{Cursor}
+use Rattle.rows.specs.declared.records.address_state.Cursor.{Cursor}
 use Rattle.theory_runs.specs.SameCalls.{all_calls, Cut}
 use Rattle.theory_runs.specs.Finished.{WrittenOf}
 use Rattle.theory_runs.proofs.AnySize.{runs-cut}

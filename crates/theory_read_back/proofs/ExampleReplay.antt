@@ -22,7 +22,8 @@ use Rattle.rows.specs.records.Addresses.{Queues, entry_at, started_at, end_at, r
 use Rattle.rows.specs.records.Captured.{read_captured}
 use Rattle.rows.specs.records.DecoderRows.{control_flow, basic_block_batch, operation, decoder_cells}
 use Rattle.rows.specs.records.Built.{built_system, built_stack, no_system, no_stack, system_cells, stack_cells, read_system, read_stack}
-use Rattle.rows.specs.cycles.Made.{Cursor, start_block, start_one, start_kind, start_node, block_kind, entry_kind, made_end, body_of, made_repeat, finish_loop, operation_made, resumed, made}
+use Rattle.rows.specs.declared.records.address_state.Cursor.{Cursor}
+use Rattle.rows.specs.cycles.Made.{start_block, start_one, start_kind, start_node, block_kind, entry_kind, made_end, body_of, made_repeat, finish_loop, operation_made, resumed, made}
 use Rattle.rows.specs.records.Cells.{row_cells, put_row}
 use Rattle.rows.specs.cycles.Scans.{any_big_opcode, any_long_block, any_large_batch, forest_too_large, scan_of}
 use Rattle.rows.specs.records.Cells.{fragment_wrong}

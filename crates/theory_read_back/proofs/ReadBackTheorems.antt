@@ -11,7 +11,7 @@ use Rattle.rows.specs.records.Forests.{Forest}
 use Rattle.rows.specs.records.Addresses.{Queues}
 use Rattle.rows.specs.records.Buffers.{buffer_row, on_rows}
 use Rattle.rows.specs.passes.Passes.{multiplied, sum_of, refusal2}
-use Rattle.rows.specs.cycles.Made.{Cursor}
+use Rattle.rows.specs.declared.records.address_state.Cursor.{Cursor}
 use Rattle.theory_readings.specs.Readings.{Block, program_rows, Trace}
 use Rattle.theory_readings.specs.Answers.{ReaderAnswer, accepted, Right}
 use Rattle.theory_readings.proofs.OneReading as readings

@@ -15,7 +15,7 @@ use Rattle.rows.specs.declared.records.profile.Profile.{Profile}
 use Rattle.rows.specs.declared.cycles.tracer.CoreTraceGenerationTracer.{CoreTraceGenerationTracer}
 use Rattle.rows.specs.records.Forests.{Forest, node_id}
 use Rattle.rows.specs.records.Addresses.{Queues}
-use Rattle.rows.specs.cycles.Made.{Cursor}
+use Rattle.rows.specs.declared.records.address_state.Cursor.{Cursor}
 use Rattle.rows.specs.cycles.Cycles.{fresh, keeping}
 use Rattle.rows.specs.records.CallRecords as records
 use Rattle.rows.specs.replay.Calls.{scanned, refusing, through, ending, replayed}

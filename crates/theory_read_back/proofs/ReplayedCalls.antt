@@ -17,7 +17,8 @@ use Rattle.rows.specs.declared.replay.calls.Replayed.{Replayed}
 use Rattle.rows.specs.declared.cycles.tracer.CoreTraceGenerationTracer.{CoreTraceGenerationTracer}
 use Rattle.rows.specs.records.Forests.{Forest}
 use Rattle.rows.specs.records.Addresses.{Queues}
-use Rattle.rows.specs.cycles.Made.{Cursor, cursor}
+use Rattle.rows.specs.declared.records.address_state.Cursor.{Cursor}
+use Rattle.rows.specs.cycles.Made.{cursor}
 use Rattle.rows.specs.cycles.Cycles.{fresh, storing_of, stored_in, keeping, tracer_after, fragment_after, final_state, for_passes}
 use Rattle.rows.specs.records.CallRecords as records
 use Rattle.rows.specs.replay.Calls.{directory_entry, forest_in, forest_of, Setting, scanned, refusing, told, next_state, next_positions}

@@ -5,7 +5,7 @@ use Rattle.rows.specs.declared.records.profile.Profile.{Profile}
 use Rattle.rows.specs.records.Forests.{Forest}
 use Rattle.rows.specs.records.Addresses.{Queues}
 use Rattle.rows.specs.records.Buffers.{buffer_row}
-use Rattle.rows.specs.cycles.Made.{Cursor}
+use Rattle.rows.specs.declared.records.address_state.Cursor.{Cursor}
 use Rattle.theory_readings.specs.Readings.{Trace}
 use Rattle.theory_runs.specs.Calls.{AllAccepted, final_states, counts_of, OneSize}
 use Rattle.theory_runs.specs.Finished.{Runs}

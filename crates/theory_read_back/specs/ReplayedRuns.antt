@@ -8,7 +8,8 @@ use Rattle.rows.specs.declared.replay.calls.Replayed.{Replayed}
 use Rattle.rows.specs.records.Forests.{Forest}
 use Rattle.rows.specs.records.Addresses.{Queues}
 use Rattle.rows.specs.records.Profiles.{two_equal}
-use Rattle.rows.specs.cycles.Made.{Cursor, cursor}
+use Rattle.rows.specs.declared.records.address_state.Cursor.{Cursor}
+use Rattle.rows.specs.cycles.Made.{cursor}
 use Rattle.rows.specs.records.CallRecords as records
 use Rattle.rows.specs.replay.Calls.{directory_entry, forest_in, Setting, scanned, replayed, replayed_fragment}
 use Rattle.rows.specs.records.CallRecords.{stores, finishes, call_in, record_at}

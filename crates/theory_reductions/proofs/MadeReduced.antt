@@ -26,7 +26,8 @@ use Rattle.rows.specs.records.Forests.{Forest, node_at, digest_at, opcode_at, bl
 use Rattle.rows.specs.records.Addresses.{Queues, read_state, started_at, respan_step}
 use Rattle.rows.specs.records.Captured.{read_callee, read_info, read_captured}
 use Rattle.rows.specs.records.DecoderRows.{control_flow, basic_block_batch, operation}
-use Rattle.rows.specs.cycles.Made.{Cursor, condition_of, start_block, start_two, start_one, start_dyn, start_dyncall, start_kind, start_node, made_end, body_of, made_repeat, finish_loop, operation_made, resumed, made_respan, made}
+use Rattle.rows.specs.declared.records.address_state.Cursor.{Cursor}
+use Rattle.rows.specs.cycles.Made.{condition_of, start_block, start_two, start_one, start_dyn, start_dyncall, start_kind, start_node, made_end, body_of, made_repeat, finish_loop, operation_made, resumed, made_respan, made}
 use Rattle.theory_reductions.specs.Inputs.{read_forest, read_queues}
 use Rattle.theory_reductions.specs.ways.ReadSteps.{read_cursor, read_row, read_made, read_answer}
 use Rattle.theory_reductions.proofs.LentReduced.{word-twice, node-reduced, digest-reduced, batch-reduced, op-context-reduced, batch-context-reduced, helpers-reduced, started-reduced, ended-reduced, grown}

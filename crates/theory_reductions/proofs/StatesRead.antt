@@ -32,7 +32,8 @@ use Rattle.rows.specs.declared.cycles.scan.Scan.{Scan}
 use Rattle.rows.specs.declared.cycles.tracer.CoreTraceGenerationTracer.{CoreTraceGenerationTracer}
 use Rattle.rows.specs.records.Forests.{Forest, node_at, digest_at, opcode_at, block_of}
 use Rattle.rows.specs.records.Addresses.{Queues, read_state, entry_at, started_at, end_at, after_start, state_after_end, respan_step}
-use Rattle.rows.specs.cycles.Made.{Cursor, cursor, callee_of, info_of, condition_of, start_block, start_two, start_one, start_dyn, start_dyncall, start_kind, start_node, entry_kind, made_end, body_of, made_repeat, finish_loop, operation_made, resumed, made_respan, made}
+use Rattle.rows.specs.declared.records.address_state.Cursor.{Cursor}
+use Rattle.rows.specs.cycles.Made.{cursor, callee_of, info_of, condition_of, start_block, start_two, start_one, start_dyn, start_dyncall, start_kind, start_node, entry_kind, made_end, body_of, made_repeat, finish_loop, operation_made, resumed, made_respan, made}
 use Rattle.rows.specs.records.Cells.{fragment_wrong}
 use Rattle.rows.specs.cycles.Scans.{scan_of}
 use Rattle.rows.specs.cycles.Cycles.{continuation_of, refuse_if, cycle_with, cycle, tracer_after}

@@ -37,7 +37,8 @@ use Rattle.rows.specs.records.Addresses.{Queues, entry_at, started_at, after_sta
 use Rattle.rows.specs.records.Profiles.{profile_wrong}
 use Rattle.rows.specs.cycles.Scans.{any_big_opcode, forest_too_large, scan_of}
 use Rattle.rows.specs.records.Cells.{fragment_wrong}
-use Rattle.rows.specs.cycles.Made.{Cursor, cursor, callee_of, info_of, condition_of, start_block, start_two, start_one, start_dyn, start_dyncall, start_kind, start_node, call_kind, dyn_kind, block_kind, entry_kind, made_end, body_of, made_repeat, finish_loop, operation_made, resumed, made_respan, made}
+use Rattle.rows.specs.declared.records.address_state.Cursor.{Cursor}
+use Rattle.rows.specs.cycles.Made.{cursor, callee_of, info_of, condition_of, start_block, start_two, start_one, start_dyn, start_dyncall, start_kind, start_node, call_kind, dyn_kind, block_kind, entry_kind, made_end, body_of, made_repeat, finish_loop, operation_made, resumed, made_respan, made}
 use Rattle.rows.specs.cycles.Cycles.{continuation_of, refuse_if, cycle_with, cycle}
 use Rattle.theory_reductions.proofs.Accepted.{unrefused}
 

@@ -14,7 +14,7 @@ use Rattle.rows.specs.records.Buffers.{flat}
 use Rattle.rows.specs.records.Built.{no_system, no_stack}
 use Rattle.rows.specs.records.Profiles.{two_equal}
 use Rattle.rows.specs.records.Forests.{Forest}
-use Rattle.rows.specs.cycles.Made.{Cursor}
+use Rattle.rows.specs.declared.records.address_state.Cursor.{Cursor}
 use Rattle.rows.specs.cycles.Cycles.{fresh, cycle_with, cycle}
 use Rattle.rows.specs.passes.Passes.{inverted, multiplied, halted, padded}
 use Rattle.rows.proofs.passes.RowLists.{length-flat}

@@ -14,7 +14,7 @@ use Rattle.rows.specs.declared.records.address_state.DecoderState.{DecoderState}
 use Rattle.rows.specs.records.Forests.{Forest}
 use Rattle.rows.specs.records.Addresses.{Queues, respan_step, read_state}
 use Rattle.rows.specs.records.Profiles.{opcodes, profile_wrong}
-use Rattle.rows.specs.cycles.Made.{Cursor}
+use Rattle.rows.specs.declared.records.address_state.Cursor.{Cursor}
 use Rattle.rows.specs.records.Buffers.{addr_of, h4_of, opcode_of}
 use Rattle.rows.specs.passes.Passes.{body_ends, any_without_body, loop_without_body}
 use Rattle.theory_readings.specs.Tokens.{count_of}

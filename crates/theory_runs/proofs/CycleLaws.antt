@@ -30,7 +30,8 @@ use Rattle.rows.specs.declared.cycles.made.Finish.{Finish}
 use Rattle.rows.specs.records.Forests.{Forest, node_at, digest_at, opcode_at, block_of}
 use Rattle.rows.specs.records.Addresses.{Queues, started_at, after_start, end_at, state_after_end, after_end, respan_step}
 use Rattle.rows.specs.records.DecoderRows.{zero_word, control_flow, basic_block_batch, operation, bit, flag_word}
-use Rattle.rows.specs.cycles.Made.{Cursor, cursor, made_with, made_row, start_block, start_two, start_one, callee_of, info_of, condition_of, start_dyn, start_dyncall, start_kind, start_node, entry_kind, made_end, body_of, made_repeat, finish_loop, operation_made, resumed, made_respan, made}
+use Rattle.rows.specs.declared.records.address_state.Cursor.{Cursor}
+use Rattle.rows.specs.cycles.Made.{cursor, made_with, made_row, start_block, start_two, start_one, callee_of, info_of, condition_of, start_dyn, start_dyncall, start_kind, start_node, entry_kind, made_end, body_of, made_repeat, finish_loop, operation_made, resumed, made_respan, made}
 use Rattle.theory_readings.specs.Tokens.{OneChild, Kind, opcode_of_kind}
 use Rattle.theory_runs.specs.Happened.{Ending, Did, InForce, start_of, operation_at, finish_of, did_by, used_by, positions_after}
 

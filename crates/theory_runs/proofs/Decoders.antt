@@ -17,7 +17,8 @@ use Rattle.rows.specs.records.Forests.{Forest}
 use Rattle.rows.specs.records.Addresses.{Queues}
 use Rattle.rows.specs.records.DecoderRows.{decoder_cells}
 use Rattle.rows.specs.records.Built.{system_cells, stack_cells}
-use Rattle.rows.specs.cycles.Made.{Cursor, cursor, made}
+use Rattle.rows.specs.declared.records.address_state.Cursor.{Cursor}
+use Rattle.rows.specs.cycles.Made.{cursor, made}
 use Rattle.rows.specs.records.Cells.{row_cells}
 use Rattle.rows.specs.cycles.Cycles.{cycle, last_system, last_stack}
 use Rattle.theory_runs.specs.Calls.{Handed, Call, store, finish, Fragment, Held, answered, after, call_refusal, after_all, Accepted, opened, closed, cursor_of, AllAccepted}

@@ -24,7 +24,8 @@ use Rattle.rows.specs.records.Addresses.{Queues, started_at, end_at, read_state}
 use Rattle.field.specs.Bounds.{any_from}
 use Rattle.field.specs.Cells.{reduced}
 use Rattle.rows.specs.cycles.Scans.{any_big_opcode}
-use Rattle.rows.specs.cycles.Made.{Cursor, condition_of}
+use Rattle.rows.specs.declared.records.address_state.Cursor.{Cursor}
+use Rattle.rows.specs.cycles.Made.{condition_of}
 use Rattle.rows.specs.records.DecoderRows.{decoder_cells}
 use Rattle.rows.specs.records.Built.{system_cells, stack_cells}
 use Rattle.rows.specs.records.Cells.{row_cells, put_row}

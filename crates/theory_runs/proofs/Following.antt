@@ -32,7 +32,8 @@ use Rattle.rows.specs.declared.cycles.made.Finish.{Finish}
 use Rattle.rows.specs.declared.cycles.tracer.CoreTraceGenerationTracer.{CoreTraceGenerationTracer}
 use Rattle.rows.specs.records.Forests.{Forest, node_at, digest_at, opcode_at, block_of}
 use Rattle.rows.specs.records.Addresses.{Queues, started_at, end_at}
-use Rattle.rows.specs.cycles.Made.{Cursor, cursor, callee_of, info_of, condition_of, entry_kind, body_of, start_block, start_two, start_one, start_dyn, start_dyncall, start_kind, start_node, made_end, made_repeat, finish_loop, operation_made, resumed, made_respan, made}
+use Rattle.rows.specs.declared.records.address_state.Cursor.{Cursor}
+use Rattle.rows.specs.cycles.Made.{cursor, callee_of, info_of, condition_of, entry_kind, body_of, start_block, start_two, start_one, start_dyn, start_dyncall, start_kind, start_node, made_end, made_repeat, finish_loop, operation_made, resumed, made_respan, made}
 use Rattle.rows.specs.cycles.Cycles.{cycle, following_of}
 use Rattle.theory_runs.specs.Following.{FollowingBy, ToldOfNode}
 use Rattle.theory_runs.proofs.Answers.{accepted-came}

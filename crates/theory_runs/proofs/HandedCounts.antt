@@ -6,7 +6,7 @@ use lib.ListN.{length}
 use Rattle.rows.specs.declared.records.profile.Profile.{Profile}
 use Rattle.rows.specs.declared.cycles.tracer.TracerFinalState.{TracerFinalState}
 use Rattle.rows.specs.records.Addresses.{Queues}
-use Rattle.rows.specs.cycles.Made.{Cursor}
+use Rattle.rows.specs.declared.records.address_state.Cursor.{Cursor}
 use Rattle.rows.specs.cycles.Cycles.{fresh, final_state, for_passes}
 use Rattle.rows.proofs.cycles.RowCounts.{FewRows, storing-few, cycle-few, count-handed}
 use Rattle.theory_runs.specs.Calls.{Call, store, finish, Fragment, Held, after, after_all, opened, closed, cursor_of, final_states, counts_of}

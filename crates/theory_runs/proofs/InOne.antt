@@ -23,7 +23,8 @@ use Rattle.rows.specs.records.Profiles.{profile_wrong}
 use Rattle.rows.specs.records.Built.{no_system, no_stack}
 use Rattle.rows.specs.cycles.Scans.{any_big_opcode, forest_too_large, scan_of}
 use Rattle.rows.specs.records.Cells.{fragment_wrong}
-use Rattle.rows.specs.cycles.Made.{Cursor, cursor, made}
+use Rattle.rows.specs.declared.records.address_state.Cursor.{Cursor}
+use Rattle.rows.specs.cycles.Made.{cursor, made}
 use Rattle.rows.specs.cycles.Cycles.{fresh, continuation_of, refuse_if, cycle_with, cycle}
 use Rattle.rows.specs.passes.Passes.{fixed_up, built_of, sum_of}
 use Rattle.rows.proofs.passes.Checks.{neither}

@@ -4,7 +4,7 @@ use mathlib.Core.List.{List}
 use Prim.Native.Nat.{ℕ}
 use Rattle.rows.specs.declared.records.profile.Profile.{Profile}
 use Rattle.rows.specs.records.Addresses.{Queues}
-use Rattle.rows.specs.cycles.Made.{Cursor}
+use Rattle.rows.specs.declared.records.address_state.Cursor.{Cursor}
 use Rattle.rows.specs.cycles.Cycles.{fresh, cycle_with}
 use Rattle.rows.specs.cycles.LentTally.{unless_full, tallied_cycle}
 use Rattle.theory_runs.specs.Calls.{Handed, Call, finish}

@@ -19,7 +19,8 @@ use Rattle.rows.specs.records.Forests.{Forest}
 use Rattle.rows.specs.records.Addresses.{Queues}
 use Rattle.rows.specs.records.Cells.{fragment_wrong}
 use Rattle.rows.specs.cycles.Scans.{scan_of}
-use Rattle.rows.specs.cycles.Made.{Cursor, cursor, made}
+use Rattle.rows.specs.declared.records.address_state.Cursor.{Cursor}
+use Rattle.rows.specs.cycles.Made.{cursor, made}
 use Rattle.rows.specs.cycles.Cycles.{continuation_of, refuse_if, cycle_with, cycle, final_state}
 use Rattle.rows.specs.cycles.LentTally.{place_for, cannot_count, counts_next, row_addr, with_tally, unless_full, tallied_cycle}
 use Rattle.groups.proofs.Answers.{then-accepted}

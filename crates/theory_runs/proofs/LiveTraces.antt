@@ -3,7 +3,7 @@ use mathlib.Core.List.{List}
 use Prim.Native.Nat.{ℕ}
 use Rattle.rows.specs.declared.records.profile.Profile.{Profile}
 use Rattle.rows.specs.records.Addresses.{Queues}
-use Rattle.rows.specs.cycles.Made.{Cursor}
+use Rattle.rows.specs.declared.records.address_state.Cursor.{Cursor}
 use Rattle.theory_runs.specs.LiveCalls.{LiveFragment, plain_all, AllLiveAccepted}
 use Rattle.theory_runs.specs.Finished.{written_by_five, written_by_finisher, FivePass, FinisherPasses}
 use Rattle.theory_runs.specs.LiveFinished.{live_by_five, live_by_finisher, LiveFivePass, LiveFinisherPasses}

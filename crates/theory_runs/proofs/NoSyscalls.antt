@@ -19,7 +19,8 @@ use Rattle.rows.specs.declared.records.continuation.Captured.{Captured}
 use Rattle.rows.specs.declared.records.decoder_row.DecoderRow.{DecoderRow}
 use Rattle.rows.specs.records.Forests.{Forest}
 use Rattle.rows.specs.records.Addresses.{Queues, started_at}
-use Rattle.rows.specs.cycles.Made.{Cursor, start_kind, start_node, made}
+use Rattle.rows.specs.declared.records.address_state.Cursor.{Cursor}
+use Rattle.rows.specs.cycles.Made.{start_kind, start_node, made}
 use Rattle.rows.specs.cycles.Cycles.{fresh}
 use Rattle.rows.proofs.passes.RowLists.{length-rows}
 use Rattle.theory_readings.specs.Tokens.{OneChild, Kind, Token, token_of, tokens_of}

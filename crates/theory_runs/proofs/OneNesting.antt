@@ -6,7 +6,7 @@ use Prim.Native.Nat.{ℕ}
 use Rattle.rows.specs.declared.records.profile.Profile.{Profile}
 use Rattle.rows.specs.records.Forests.{Forest}
 use Rattle.rows.specs.records.Addresses.{Queues}
-use Rattle.rows.specs.cycles.Made.{Cursor}
+use Rattle.rows.specs.declared.records.address_state.Cursor.{Cursor}
 use Rattle.theory_readings.proofs.OneReading.{one-tree}
 use Rattle.theory_runs.specs.Calls.{Fragment}
 use Rattle.theory_runs.specs.Happened.{Cycle}

@@ -24,7 +24,7 @@ use Rattle.rows.specs.records.DecoderRows.{decoder_cells, control_flow}
 use Rattle.rows.specs.records.Built.{built_system, built_stack, no_system, no_stack, system_cells, stack_cells}
 use Rattle.rows.specs.records.Cells.{row_cells}
 use Rattle.rows.specs.records.Buffers.{addr_of, opcode_of, last_row}
-use Rattle.rows.specs.cycles.Made.{Cursor}
+use Rattle.rows.specs.declared.records.address_state.Cursor.{Cursor}
 use Rattle.rows.specs.passes.Passes.{with_sides, first_row, fixed_up, body_ends, with_counts, multiplied, inverted, halt_decoder, halt_stack, halt_row, halted, padding_row, padding_rows, padded, not_full, last_built}
 use Rattle.rows.proofs.passes.RowLists.{Wide}
 use Rattle.theory_runs.specs.Calls.{Call, store, finish, Fragment, Held, answered, after, Accepted, opened, closed, cursor_of, AllAccepted, final_states, counts_of, built_cells}

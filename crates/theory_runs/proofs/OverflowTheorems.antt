@@ -12,7 +12,7 @@ use Rattle.field.proofs.InverseLaws.{inverse-law, inverse-mod, inverse-zero}
 use Rattle.rows.specs.declared.records.profile.Profile.{Profile}
 use Rattle.rows.specs.records.Addresses.{Queues}
 use Rattle.rows.specs.records.Buffers.{buffer_row, flat}
-use Rattle.rows.specs.cycles.Made.{Cursor}
+use Rattle.rows.specs.declared.records.address_state.Cursor.{Cursor}
 use Rattle.rows.specs.passes.Passes.{fixed_up, built_of, last_built}
 use Rattle.rows.proofs.passes.RowLists.{Wide, row-at}
 use Rattle.rows.proofs.passes.FirstRows.{fixed-wide}

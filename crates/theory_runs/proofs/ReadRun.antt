@@ -7,7 +7,7 @@ use lib.ListN.{length, take, length-take}
 use Rattle.rows.specs.declared.records.profile.Profile.{Profile}
 use Rattle.rows.specs.declared.records.address_state.DecoderState.{DecoderState}
 use Rattle.rows.specs.records.Addresses.{Queues}
-use Rattle.rows.specs.cycles.Made.{Cursor}
+use Rattle.rows.specs.declared.records.address_state.Cursor.{Cursor}
 use Rattle.theory_readings.specs.Readings.{Row, numbered, program_rows}
 use Rattle.theory_readings.specs.Answers.{accepted, Right}
 use Rattle.theory_readings.proofs.SpelledRows.{numbered-length}

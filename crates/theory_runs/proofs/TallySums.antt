@@ -18,7 +18,7 @@ use Rattle.rows.specs.declared.cycles.tracer.TracerFinalState.{TracerFinalState}
 use Rattle.rows.specs.records.Addresses.{Queues}
 use Rattle.rows.specs.records.Buffers.{rows_of, buffer_row, flat, on_rows, last_row, addr_of, low_bits, opcode_of, buffer_wrong, fewer_rows}
 use Rattle.rows.specs.passes.Passes.{fixed_up, built_of, flagged_end, body_ends, with_counts, multiplied, inverted, halt_row, halted, padded, sum_of, not_full, refusal2}
-use Rattle.rows.specs.cycles.Made.{Cursor}
+use Rattle.rows.specs.declared.records.address_state.Cursor.{Cursor}
 use Rattle.rows.specs.cycles.Cycles.{final_state, for_passes}
 use Rattle.rows.proofs.passes.Checks.{none_first}
 use Rattle.rows.proofs.records.Occurrences.{occurrences-append}

@@ -22,7 +22,7 @@ use Rattle.rows.specs.records.Cells.{row_cells, put_row}
 use Rattle.rows.specs.records.DecoderRows.{decoder_cells}
 use Rattle.rows.specs.records.Built.{system_cells, stack_cells}
 use Rattle.rows.specs.passes.Passes.{flagged_end}
-use Rattle.rows.specs.cycles.Made.{Cursor}
+use Rattle.rows.specs.declared.records.address_state.Cursor.{Cursor}
 use Rattle.rows.specs.cycles.Cycles.{fresh, storing_of, stored_in, tracer_after, fragment_after, last_system, last_stack}
 use Rattle.rows.specs.cycles.LentTally.{place_for, counted_at, cannot_count, counts_next, row_addr, tally_after}
 use Rattle.rows.proofs.passes.RowLists.{Wide, wide_rows, length-rows, wide-app, as_rows, rows-flat, put-behind, drop-rows}

@@ -14,7 +14,7 @@ use Rattle.rows.specs.records.Forests.{Forest}
 use Rattle.rows.specs.records.Addresses.{Queues, read_state}
 use Rattle.field.proofs.CellLaws.{length-reduced}
 use Rattle.rows.specs.records.Profiles.{profile_wrong}
-use Rattle.rows.specs.cycles.Made.{Cursor}
+use Rattle.rows.specs.declared.records.address_state.Cursor.{Cursor}
 use Rattle.rows.specs.records.Buffers.{rows_of, flat, on_rows, buffer_wrong, fewer_rows}
 use Rattle.rows.specs.passes.Passes.{fixed_up, built_of, multiplied, inverted, halted, padded, sum_of, any_above, no_fragment, not_full, fragments_wrong, height_wrong, last_built, refusal1, refusal2, refusal5, unless_refused, refusal_all, all_passes}
 use Rattle.groups.specs.Answer.{first_of}

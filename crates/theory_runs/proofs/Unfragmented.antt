@@ -23,7 +23,7 @@ use Rattle.rows.specs.declared.cycles.made.MadeRow.{MadeRow}
 use Rattle.rows.specs.declared.cycles.tracer.CoreTraceGenerationTracer.{CoreTraceGenerationTracer}
 use Rattle.rows.specs.declared.cycles.tracer.TracerFinalState.{TracerFinalState}
 use Rattle.rows.specs.records.Addresses.{Queues, read_state}
-use Rattle.rows.specs.cycles.Made.{Cursor}
+use Rattle.rows.specs.declared.records.address_state.Cursor.{Cursor}
 use Rattle.rows.specs.records.DecoderRows.{decoder_cells}
 use Rattle.rows.specs.records.Built.{built_system, built_stack, no_system, no_stack, read_system, read_stack, system_cells, stack_cells}
 use Rattle.rows.specs.records.Cells.{row_cells}

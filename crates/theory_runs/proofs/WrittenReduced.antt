@@ -8,7 +8,7 @@ use Rattle.rows.specs.declared.cycles.made.MadeRow.{MadeRow}
 use Rattle.groups.specs.Answer.{Answer, accepted, refused}
 use Rattle.rows.specs.records.Addresses.{Queues}
 use Rattle.rows.specs.records.Cells.{row_cells}
-use Rattle.rows.specs.cycles.Made.{Cursor}
+use Rattle.rows.specs.declared.records.address_state.Cursor.{Cursor}
 use Rattle.rows.specs.records.Buffers.{flat}
 use Rattle.theory_runs.specs.Calls.{Call, store, finish, Fragment, Held, answered, after, opened, closed, cursor_of, AllAccepted, final_states, counts_of, OneSize}
 use Rattle.theory_runs.specs.Written.{row_made, rows_in, rows_run}

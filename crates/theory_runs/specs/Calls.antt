@@ -14,7 +14,8 @@ use Rattle.rows.specs.declared.cycles.tracer.CoreTraceGenerationTracer.{CoreTrac
 use Rattle.rows.specs.declared.cycles.tracer.TracerFinalState.{TracerFinalState}
 use Rattle.rows.specs.records.Forests.{Forest}
 use Rattle.rows.specs.records.Addresses.{Queues}
-use Rattle.rows.specs.cycles.Made.{Cursor, cursor}
+use Rattle.rows.specs.declared.records.address_state.Cursor.{Cursor}
+use Rattle.rows.specs.cycles.Made.{cursor}
 use Rattle.rows.specs.cycles.Cycles.{fresh, stored_in, cycle, tracer_after, fragment_after, final_state, for_passes}
 
 -- what a cycle is handed: its own forest, the states and the helper registers

@@ -6,7 +6,7 @@ use Rattle.rows.specs.declared.records.profile.Profile.{Profile}
 use Rattle.rows.specs.records.Forests.{Forest}
 use Rattle.rows.specs.records.Addresses.{Queues}
 use Rattle.rows.specs.records.Profiles.{two_equal}
-use Rattle.rows.specs.cycles.Made.{Cursor}
+use Rattle.rows.specs.declared.records.address_state.Cursor.{Cursor}
 use Rattle.rows.specs.records.Buffers.{on_rows}
 use Rattle.rows.specs.passes.Passes.{fixed_up, built_of, multiplied, inverted, halted, padded, sum_of, last_built, refusal1, refusal2, refusal3, refusal4, refusal5, unless_refused, refusal_all, all_passes}
 use Rattle.theory_readings.specs.Readings as readings

@@ -6,7 +6,7 @@ use Rattle.rows.specs.declared.records.profile.Profile.{Profile}
 use Rattle.rows.specs.declared.cycles.made.MadeRow.{MadeRow}
 use Rattle.rows.specs.declared.cycles.tracer.TracerFinalState.{TracerFinalState}
 use Rattle.rows.specs.records.Addresses.{Queues}
-use Rattle.rows.specs.cycles.Made.{Cursor}
+use Rattle.rows.specs.declared.records.address_state.Cursor.{Cursor}
 use Rattle.rows.specs.cycles.Cycles.{fresh, stored_in, tracer_after, fragment_after, final_state}
 use Rattle.rows.specs.cycles.LentTally.{most_places, tallied_cycle, tally_after}
 use Rattle.theory_runs.specs.Calls.{Handed, Call, store, finish, Fragment, Held, cursor_of}

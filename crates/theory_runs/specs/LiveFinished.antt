@@ -4,7 +4,7 @@ use Rattle.std.specs.Prelude.{◌≡◌, List, ◌++◌, ℕ, ◌*◌, take}
 use Rattle.groups.specs.Constants.{row_width}
 use Rattle.rows.specs.declared.records.profile.Profile.{Profile}
 use Rattle.rows.specs.records.Addresses.{Queues}
-use Rattle.rows.specs.cycles.Made.{Cursor}
+use Rattle.rows.specs.declared.records.address_state.Cursor.{Cursor}
 use Rattle.rows.specs.passes.Passes.{refusal_all}
 use Rattle.theory_runs.specs.Calls.{Call, AllAccepted, final_states, cells_of, counts_of, built_cells, OneSize}
 use Rattle.theory_runs.specs.Finished.{buffer5, finisher_buffer, FiveAccepted, FinishedTo}

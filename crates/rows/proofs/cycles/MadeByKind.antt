@@ -7,7 +7,8 @@ use Rattle.rows.specs.declared.records.continuation.Continuation.{Continuation}
 use Rattle.rows.specs.declared.records.continuation.Captured.{Captured}
 use Rattle.rows.specs.records.Forests.{Forest}
 use Rattle.rows.specs.records.Addresses.{Queues}
-use Rattle.rows.specs.cycles.Made.{Cursor, made}
+use Rattle.rows.specs.declared.records.address_state.Cursor.{Cursor}
+use Rattle.rows.specs.cycles.Made.{made}
 use Rattle.rows.specs.ways.ContinuationKinds.{continuation_kind, made_of_kind}
 
 pub made-by-kind : (f : Forest) (q : Queues) (p : Profile) (registers : OperationHelperRegisters) (continuation : Continuation) (is_loop_body : Bool) (captured : Captured) (here : Cursor) →

@@ -32,7 +32,8 @@ use Rattle.rows.specs.records.Built.{built_system, built_stack, system_cells}
 use Rattle.rows.specs.records.Cells.{row_written}
 use Rattle.rows.specs.records.DecoderRows.{operation, decoder_cells}
 use Rattle.rows.specs.records.CallRecords.{of32, stored_in_record, system_in, stack_in, record_at}
-use Rattle.rows.specs.cycles.Made.{Cursor, cursor, made}
+use Rattle.rows.specs.declared.records.address_state.Cursor.{Cursor}
+use Rattle.rows.specs.cycles.Made.{cursor, made}
 use Rattle.rows.specs.ways.Pairs.{SystemBuilt, StackBuilt, RowBehind, StoresOperation, OperationIn, HelpersIn, pair_made, Makes, ArePair, PutBehind, TakesOperation, TakesPair, Onward, tracer_behind, StandsAt}
 use Rattle.rows.proofs.records.Rooms.{cells-in-two}
 

@@ -13,7 +13,8 @@ use Rattle.rows.specs.declared.cycles.made.Finish.{Finish}
 use Rattle.rows.specs.declared.cycles.made.ContinuationKind.{ContinuationKind}
 use Rattle.rows.specs.records.Forests.{Forest}
 use Rattle.rows.specs.records.Addresses.{Queues}
-use Rattle.rows.specs.cycles.Made.{Cursor, start_node, made_end, finish_loop, resumed, made_respan}
+use Rattle.rows.specs.declared.records.address_state.Cursor.{Cursor}
+use Rattle.rows.specs.cycles.Made.{start_node, made_end, finish_loop, resumed, made_respan}
 
 -- the kind of a continuation
 abbrev pub continuation_kind : Continuation → ContinuationKind

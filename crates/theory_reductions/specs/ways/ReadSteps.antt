@@ -7,7 +7,8 @@ use Rattle.rows.specs.declared.records.decoder_row.DecoderRow.{DecoderRow}
 use Rattle.rows.specs.declared.cycles.made.MadeRow.{MadeRow}
 use Rattle.rows.specs.records.Addresses.{read_state}
 use Rattle.rows.specs.records.CallRecords.{RecordedCall, stores, finishes}
-use Rattle.rows.specs.cycles.Made.{Cursor, cursor}
+use Rattle.rows.specs.declared.records.address_state.Cursor.{Cursor}
+use Rattle.rows.specs.cycles.Made.{cursor}
 use Rattle.theory_reductions.specs.Inputs.{read_system_state, read_stack_state, read_values}
 
 -- where a cycle stands
