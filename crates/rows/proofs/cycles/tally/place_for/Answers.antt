@@ -1,5 +1,5 @@
 -- `tally::place_for` meets its contract. The loop's invariant: no place before is in use with the address, and `free` is the first free one of them.
-use mathlib.Core.Path.{◌≡◌, refl, sym, ◌∙◌}
+use mathlib.Core.Path.{◌≡◌, sym, ◌∙◌}
 use Prim.Native.Nat.{◌<◌}
 use native.Mathlib.Omega.{arith}
 use borrow.Author.Tests.{eqb-true}

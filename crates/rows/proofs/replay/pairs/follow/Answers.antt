@@ -4,7 +4,7 @@ use lib.ListN.{length}
 use Rattle.rows.specs.records.Lent.{lent_forest}
 use Rattle.rows.specs.replay.Calls.{forest_of}
 use Rattle.rows.specs.ways.Inner.{lent_setting}
-use Rattle.rows.proofs.replay.Stretches.{Sound, sound, none-followed, stayed, goes_on, behind-two}
+use Rattle.rows.proofs.replay.Stretches.{sound, none-followed, stayed, goes_on, behind-two}
 use Rattle.rows.proofs.replay.pairs.follow.Goals as goal
 
 pub returns-then-scan-wrong : goal.returns-then-scan-wrong
