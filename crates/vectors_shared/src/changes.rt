@@ -2,19 +2,44 @@
 ghost use Rattle.std.specs.Prelude.{◌+◌, ◌≤◌, ◌<◌};
 
 use crate::copies::put;
+use crate::numbers::Numbers;
 use crate::text::{at_most, item};
 
+// The longest run.
+const MOST_NUMBERS: usize = 900;
+
+// Puts the numbers of the run that begins the list into their places, and answers the list behind it.
+fn put_run<'a>(list: Numbers<'a>, to: &mut [u64]) -> Numbers<'a> {
+    let place = list.item(0);
+    let length = list.at_most(1, MOST_NUMBERS);
+    let numbers = list.behind(2);
+    for i in 0..length {
+        put(numbers.number(i), to, place, i);
+    }
+    numbers.behind(length)
+}
+
+// Makes the changes that begin the list, and answers the list behind them.
+pub fn make_changes<'a>(list: Numbers<'a>, to: &mut [u64]) -> Numbers<'a> {
+    let mut rest = list.behind(1);
+    for _ in 0..list.number(0) {
+        if rest.is_empty() {
+            return rest;
+        }
+        rest = put_run(rest, to);
+    }
+    rest
+}
+
 // Puts the numbers of the run that begins at `at` into their places, and answers the place behind it.
-fn put_run(v: &[u64], at: usize, to: &mut [u64]) -> usize
+fn put_run_at(v: &[u64], at: usize, to: &mut [u64]) -> usize
     requires { at < 8192 }
     ensures { result ≤ 9200 }
 {
     let place = item(v, at, 0) as usize;
     let length = at_most(item(v, at, 1), 900);
-    let mut i = 0;
-    while i < length {
+    for i in 0..length {
         put(item(v, at, i + 2), to, place, i);
-        i += 1;
     }
     at + 2 + length
 }
@@ -24,15 +49,12 @@ pub fn change(v: &[u64], at: usize, to: &mut [u64]) -> usize
     requires { at ≤ 20000 }
     ensures { result ≤ at + 9200 }
 {
-    let runs = item(v, at, 0);
     let mut next = at + 1;
-    let mut k: u64 = 0;
-    while k < runs {
+    for _ in 0..item(v, at, 0) {
         if 8192 <= next {
             return next;
         }
-        next = put_run(v, next, to);
-        k += 1;
+        next = put_run_at(v, next, to);
     }
     next
 }

@@ -1,55 +1,29 @@
 // A file of decimal numbers, read into an array.
 ghost use Rattle.std.specs.Prelude.{◌≤◌, ◌<◌, length, IfOk};
 
-use field::cell::number_at;
+use field::cell::item_or;
 use std::io::Read;
 use std::rt::Files;
 use std::{fs, io, str};
 
-fn wide(b: u8) -> u64 {
-    b as u64
-}
-
-fn is_digit(b: u64) -> bool {
-    48 <= b && b <= 57
-}
-
-// The value with one more decimal digit, 0 at another byte; a number that does not fit 64 bits comes out as the largest.
-fn with_byte(value: u64, b: u64) -> u64 {
-    if b < 48 || 57 < b {
-        return 0;
-    }
-    let d = b - 48;
-    if (18446744073709551615 - d) / 10 < value {
-        return 18446744073709551615;
-    }
-    value * 10 + d
-}
-
-// Stores the value at `at` where a number has ended and there is room, and answers the next place.
-fn put(out: &mut [u64], at: usize, value: u64, ended: bool) -> usize {
-    if !ended {
-        return at;
-    }
-    if out.len() <= at {
-        return at;
-    }
-    out[at] = value;
-    at + 1
+// The number with one more decimal digit; one that does not fit 64 bits comes out as the largest.
+fn with_digit(number: u64, digit: u8) -> u64 {
+    number.saturating_mul(10).saturating_add(u64::from(digit))
 }
 
 // Puts the numbers of a text into `out`, in order, and answers how many there are. A number ends at the byte after its digits.
 pub fn numbers(text: &[u8], out: &mut [u64]) -> usize {
     let mut count = 0;
-    let mut value: u64 = 0;
-    let mut inside = false;
-    let mut i = 0;
-    while i < text.len() {
-        let b = wide(text[i]);
-        count = put(out, count, value, inside && !is_digit(b));
-        value = with_byte(value, b);
-        inside = is_digit(b);
-        i += 1;
+    let mut begun = None;
+    for byte in text {
+        if byte.is_ascii_digit() {
+            begun = Some(with_digit(begun.unwrap_or(0), *byte - b'0'));
+        } else if let Some(number) = begun.take() {
+            if let Some(place) = out.get_mut(count) {
+                *place = number;
+                count += 1;
+            }
+        }
     }
     count
 }
@@ -57,16 +31,16 @@ pub fn numbers(text: &[u8], out: &mut [u64]) -> usize {
 // As many bytes of a file are read.
 const MOST_BYTES: usize = 65536;
 
-// Reads into the text as far as the file and the room go, and answers how many bytes there are. A read that fails ends it.
+// Reads into the text as far as the file and the room go, and answers how many bytes there are. A read that fails ends it. One read may
+// take fewer bytes than there is room for, so that their number is counted.
 fn read_full(file: &mut impl Read, text: &mut [u8]) -> usize
     ensures { result ≤ length text.old }
 {
     let mut n = 0;
     while n < text.len() {
         match file.read(&mut text[n..]) {
-            Ok(0) => return n,
+            Ok(0) | Err(_) => return n,
             Ok(k) => n += k,
-            Err(_) => return n,
         }
     }
     n
@@ -90,6 +64,7 @@ fn fail(rt: &impl Eprint, name: &[u8], error: io::Error) -> io::Result<()> {
 }
 
 // Puts the numbers of a file into `out`, and answers how many there are; 0 where the file cannot be read, which a line on standard error says.
+// A name may be any bytes, as always: a `&str` would ask more of callers. The text has fixed room, since no heap is used.
 pub fn load(rt: &(impl Files + Eprint), name: &[u8], out: &mut [u64]) -> io::Result<usize> {
     let mut text = [0u8; MOST_BYTES];
     match first_bytes(rt, name, &mut text) {
@@ -105,22 +80,19 @@ pub fn load(rt: &(impl Files + Eprint), name: &[u8], out: &mut [u64]) -> io::Res
 pub fn one_if(holds: bool) -> u64
     ensures { result ≤ 1 }
 {
-    if holds { 1 } else { 0 }
+    u64::from(holds)
 }
 
 // The number, or `most` where it is larger.
 pub fn at_most(n: u64, most: usize) -> usize
     ensures { result ≤ most }
 {
-    if n < most as u64 { n as usize } else { most }
+    (n as usize).min(most)
 }
 
 // Number i of the record that begins at `at`, 0 past the end.
 pub fn item(v: &[u64], at: usize, i: usize) -> u64 {
-    if v.len() <= at {
-        return 0;
-    }
-    number_at(&v[at..], i)
+    item_or(&v[at.min(v.len())..], i, 0)
 }
 
 // How many numbers are lent of a part that begins at `at`: its length stands in the place before.
@@ -148,7 +120,7 @@ pub struct Step {
     pub next: usize,
 }
 
-// Writes how many vectors of a list came out right.
+// Writes how many vectors of a list came out right. A name is the bytes that `load` takes.
 pub fn report(rt: &impl Print, name: &[u8], right: u64, all: u64) -> io::Result<()> {
     rt.write_all(name)?;
     println!(rt; ": {right} of {all} right")

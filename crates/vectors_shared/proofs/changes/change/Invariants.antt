@@ -1,9 +1,6 @@
--- `changes::change` is safe and ends.
-use Rattle.std.proofs.Common.{◌≡◌, ◌+◌, ◌-◌, ◌≤◌, length}
+-- `changes::change`: how far a list of changes goes.
+use Rattle.std.proofs.Common.{◌+◌, ◌≤◌}
 use Rattle.vectors_shared.proofs.changes.change.Given as goal
 
-abbrev pub invariant-loop-k : goal.invariant-loop-k
-invariant-loop-k l = (l.k ≤ l.runs) × (l.next ≤ l.at + 9200) × (length l.to ≡ length l.initial.to)
-
-abbrev pub decreases-loop-k : goal.decreases-loop-k
-decreases-loop-k l = l.runs - l.k
+abbrev pub invariant-loop : goal.invariant-loop
+invariant-loop l = l.next ≤ l.at + 9200
