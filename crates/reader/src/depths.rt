@@ -34,7 +34,7 @@ fn open_behind(kind: RowKind, depth: u32) -> u32
     let RowKind::End = kind else {
         return depth;
     };
-    if depth == 0 { 0 } else { depth - 1 }
+    depth.saturating_sub(1)
 }
 
 // Fills one depth a row; the numbers past the rows stay.
@@ -50,13 +50,11 @@ pub(crate) fn fill(
     ensures { depths.new ≡ levels 0 (word_in profile cells.now)
         ++ drop (length cells.now / row_width) depths.old }
 {
-    let mut at = 0;
     let mut opened: u32 = 0;
-    while at < cells.len() / Row::WIDTH {
+    for at in 0..cells.len() / Row::WIDTH {
         let kind = kept_kind(profile, cells, at, table, kinds);
         let depth = depth_at(kind, opened);
         depths[at] = depth;
         opened = open_behind(kind, depth);
-        at += 1;
     }
 }

@@ -2,69 +2,69 @@
 ghost use Rattle.std.specs.Prelude.{◌≡◌, ◌/◌, ◌<◌, ◌≤◌, eqb, length};
 ghost use Rattle.field.specs.Cells.{cell_at};
 ghost use Rattle.groups.specs.Constants.{row_width};
+ghost use Rattle.groups.specs.declared.refusal.Refusal.{Refusal};
 ghost use Rattle.theory_readings.specs.Readings.{row_at, all_rows};
-ghost use Rattle.theory_readings.specs.ways.Parser.{or_else};
 ghost use Rattle.reader.specs.Rows.{word_in};
 ghost use Rattle.reader.specs.KeptKinds.{KeptKinds};
-ghost use Rattle.reader.specs.ways.Parts.{told_wrong, told_part, wrong_unless, too_deep, closed_at, OpsRead, BlockRead, PassesRead};
+ghost use Rattle.reader.specs.ways.Parts.{told_wrong, told_part, told_refused, refused_for, wrong_unless, too_deep, closed_at, OpsRead, BlockRead, PassesRead};
 
 use crate::kept::note_kind;
 use crate::token::RowKind;
 use field::cell::cell;
-use groups::constants::{Column, Refusal, Row};
+use groups::constants::{Column, Row};
+use groups::refusal::Refusal;
 use rows::records::profile::Profile;
 
-// The lowest row with a cell that is not as asked.
+// Where a part of the word is refused.
 #[derive(Clone, Copy)]
-pub(crate) enum Wrong {
-    Nowhere,
-    At(usize),
+pub(crate) struct PartRefused {
+    pub(crate) refusal: Refusal,
+    pub(crate) row: usize,
 }
 
-// A part of the word: the row behind it and its lowest wrong row; or the number and the row of its refusal.
-#[derive(Clone, Copy)]
-pub(crate) enum Part {
-    Done(usize, Wrong),
-    Refused(u32, usize),
-}
+// A part of the word: the row behind it, and its lowest row with a cell that is not as asked, if there is one.
+pub(crate) type Part = Result<(usize, Option<usize>), PartRefused>;
 
-// The lower of two wrong rows, the first one's rows being before the second one's.
-fn first(a: Wrong, b: Wrong) -> Wrong
-    ensures { told_wrong result ≡ or_else (told_wrong a) (told_wrong b) }
+// A row that fits no word of the grammar.
+fn no_word(row: usize) -> PartRefused
+    ensures { result ≡ refused_for Refusal.NoWordOfGrammar row }
 {
-    match a {
-        Wrong::Nowhere => b,
-        Wrong::At(_) => a,
+    PartRefused {
+        refusal: Refusal::NoWordOfGrammar,
+        row,
     }
 }
 
-// Whether cell k of a row is as asked.
-fn ask(cells: &[u64], row: usize, k: usize, value: u64) -> Wrong
+// The row, where its cell k is not as asked.
+fn ask(cells: &[u64], row: usize, k: usize, value: u64) -> Option<usize>
     requires { (row < length cells.now / row_width) × (k < row_width) }
     ensures { told_wrong result ≡ wrong_unless (eqb (cell_at (row_at (all_rows cells.now) row) k) value) row }
 {
     if cell(cells, Row::WIDTH * row + k) == value {
-        Wrong::Nowhere
+        None
     } else {
-        Wrong::At(row)
+        Some(row)
     }
 }
 
 // The refusal of a row where no more block may start: 15 if it starts one, else 12.
-fn too_deep(kind: RowKind, row: usize) -> Part
-    ensures { told_part result ≡ too_deep kind row }
+fn too_deep(kind: RowKind, row: usize) -> PartRefused
+    ensures { told_refused result ≡ too_deep kind row }
 {
     match kind {
-        RowKind::Span | RowKind::Join | RowKind::One | RowKind::Loop => Part::Refused(
-            Refusal::BLOCK_65_DEEP,
+        RowKind::Span | RowKind::Join | RowKind::One | RowKind::Loop => PartRefused {
+            refusal: Refusal::Block65Deep,
             row,
-        ),
+        },
         RowKind::Op
         | RowKind::Respan
         | RowKind::Repeat
         | RowKind::End
         | RowKind::Halt
-        | RowKind::Nothing => Part::Refused(Refusal::NO_WORD_OF_GRAMMAR, row),
+        | RowKind::Nothing => PartRefused {
+            refusal: Refusal::NoWordOfGrammar,
+            row,
+        },
     }
 }
 
@@ -74,7 +74,7 @@ fn close(
     cells: &[u64],
     row: usize,
     flag: u64,
-    wrong: Wrong,
+    wrong: Option<usize>,
     table: &[u8; 256],
     kinds: &mut [u8],
 ) -> Part
@@ -85,9 +85,9 @@ fn close(
     let kind = note_kind(profile, cells, row, table, kinds);
     if let RowKind::End = kind {
         let own = ask(cells, row, Column::H4, flag);
-        Part::Done(row + 1, first(wrong, own))
+        Ok((row + 1, wrong.or(own)))
     } else {
-        Part::Refused(Refusal::NO_WORD_OF_GRAMMAR, row)
+        Err(no_word(row))
     }
 }
 
@@ -113,7 +113,7 @@ fn ops(
             }
             RowKind::End => {
                 let own = ask(cells, at, Column::H4, flag);
-                return Part::Done(at + 1, own);
+                return Ok((at + 1, own));
             }
             RowKind::Span
             | RowKind::Join
@@ -122,7 +122,7 @@ fn ops(
             | RowKind::Repeat
             | RowKind::Halt
             | RowKind::Nothing => {
-                return Part::Refused(Refusal::NO_WORD_OF_GRAMMAR, at);
+                return Err(no_word(at));
             }
         }
     }
@@ -145,26 +145,17 @@ pub(crate) fn block(
 {
     let kind = note_kind(profile, cells, row, table, kinds);
     if left == 0 {
-        return too_deep(kind, row);
+        return Err(too_deep(kind, row));
     }
     match kind {
         RowKind::Span => ops(profile, cells, row + 1, flag, table, kinds),
         RowKind::Join => {
-            let one = block(profile, cells, row + 1, left - 1, 0, table, kinds);
-            let Part::Done(a, v) = one else {
-                return one;
-            };
-            let two = block(profile, cells, a, left - 1, 0, table, kinds);
-            let Part::Done(b, w) = two else {
-                return two;
-            };
-            close(profile, cells, b, flag, first(v, w), table, kinds)
+            let (a, v) = block(profile, cells, row + 1, left - 1, 0, table, kinds)?;
+            let (b, w) = block(profile, cells, a, left - 1, 0, table, kinds)?;
+            close(profile, cells, b, flag, v.or(w), table, kinds)
         }
         RowKind::One => {
-            let only = block(profile, cells, row + 1, left - 1, 0, table, kinds);
-            let Part::Done(a, v) = only else {
-                return only;
-            };
+            let (a, v) = block(profile, cells, row + 1, left - 1, 0, table, kinds)?;
             close(profile, cells, a, flag, v, table, kinds)
         }
         RowKind::Loop => passes(profile, cells, row, left - 1, flag, table, kinds),
@@ -173,7 +164,7 @@ pub(crate) fn block(
         | RowKind::Repeat
         | RowKind::End
         | RowKind::Halt
-        | RowKind::Nothing => Part::Refused(Refusal::NO_WORD_OF_GRAMMAR, row),
+        | RowKind::Nothing => Err(no_word(row)),
     }
 }
 
@@ -195,14 +186,11 @@ fn passes(
 {
     let mut at = row + 1;
     let mut count: u64 = 1;
-    let mut so_far = Wrong::Nowhere;
+    let mut so_far: Option<usize> = None;
     loop {
-        let body = block(profile, cells, at, left, 1, table, kinds);
-        let Part::Done(next, wrong) = body else {
-            return body;
-        };
+        let (next, wrong) = block(profile, cells, at, left, 1, table, kinds)?;
         let kind = note_kind(profile, cells, next, table, kinds);
-        so_far = first(so_far, wrong);
+        so_far = so_far.or(wrong);
         match kind {
             RowKind::Repeat => {
                 at = next + 1;
@@ -211,7 +199,7 @@ fn passes(
             RowKind::End => {
                 let counted = ask(cells, row, Column::GROUP_COUNT, count);
                 let own = ask(cells, next, Column::H4, flag);
-                return Part::Done(next + 1, first(counted, first(so_far, own)));
+                return Ok((next + 1, counted.or(so_far.or(own))));
             }
             RowKind::Span
             | RowKind::Join
@@ -221,7 +209,7 @@ fn passes(
             | RowKind::Respan
             | RowKind::Halt
             | RowKind::Nothing => {
-                return Part::Refused(Refusal::NO_WORD_OF_GRAMMAR, next);
+                return Err(no_word(next));
             }
         }
     }

@@ -70,11 +70,9 @@ fn table_of(profile: Profile) -> [u8; 256]
     ensures { KindTable profile result }
 {
     let mut table = [UNKNOWN; 256];
-    let mut code: usize = 0;
-    while code < 256 {
+    for code in 0..256 {
         let kind = kind_of_code(profile, code as u8);
         table[code] = kind_number(kind);
-        code += 1;
     }
     table
 }
@@ -126,11 +124,7 @@ fn kind_told(profile: Profile, cells: &[u64], row: usize, number: u8) -> RowKind
 pub(crate) fn forget(kinds: &mut [u8])
     ensures { KeepsNothing kinds.new }
 {
-    let mut row = 0;
-    while row < kinds.len() {
-        kinds[row] = UNKNOWN;
-        row += 1;
-    }
+    kinds.fill(UNKNOWN);
 }
 
 // What a row is, which is kept; past the end, nothing.

@@ -6,14 +6,16 @@ ghost use Rattle.reader.specs.Rows.{word_in};
 ghost use Rattle.reader.specs.Reads.{trace_read, TellsTrace, ReadsTrace};
 ghost use Rattle.reader.specs.KeptKinds.{KeptKinds};
 ghost use Rattle.reader.specs.ways.Parts.{told_wrong};
-ghost use Rattle.reader.specs.ways.WholeWord.{HaltsRead, BehindRead, cells_answer};
+ghost use Rattle.groups.specs.Refusals.{number_of};
+ghost use Rattle.reader.specs.ways.WholeWord.{HaltsRead, BehindRead, cells_answer, refused_read};
 
 use crate::depths::fill;
-use crate::grammar::{Part, Wrong, block};
+use crate::grammar::block;
 use crate::kept::{FEW_ROWS, LONG_LIST, SHORT_LIST, UNKNOWN, forget, note_kind, table_for};
 use crate::scan::refusal;
 use crate::token::RowKind;
-use groups::constants::{Refusal, Row};
+use groups::constants::Row;
+use groups::refusal::Refusal;
 use rows::records::profile::Profile;
 
 // What is answered of a buffer: 0, or the number and the row of its refusal; the number of program rows, 0 on a refusal.
@@ -25,21 +27,30 @@ pub struct TraceRead {
     pub program_rows: usize,
 }
 
+// What is answered of a refusal at a row.
+fn refused(refusal: Refusal, row: usize) -> TraceRead
+    ensures { result ≡ refused_read (number_of refusal) row }
+{
+    TraceRead {
+        refusal: u32::from(refusal),
+        row,
+        program_rows: 0,
+    }
+}
+
 // The first row from `from` on that is no HALT, or the end.
 fn halts(profile: Profile, cells: &[u64], from: usize, table: &[u8; 256], kinds: &mut [u8]) -> usize
     requires { (from ≤ length cells.now / row_width) × KeptKinds profile cells.now table.now kinds.old }
     ensures halts_read { HaltsRead (word_in profile cells.now) from result }
     ensures kept_kinds { KeptKinds profile cells.now table.now kinds.new }
 {
-    let mut at = from;
-    while at < cells.len() / Row::WIDTH {
+    for at in from..cells.len() / Row::WIDTH {
         let kind = note_kind(profile, cells, at, table, kinds);
         let RowKind::Halt = kind else {
             return at;
         };
-        at += 1;
     }
-    at
+    cells.len() / Row::WIDTH
 }
 
 // The answer behind a Block that ends before row `next`.
@@ -47,7 +58,7 @@ fn behind_block(
     profile: Profile,
     cells: &[u64],
     next: usize,
-    wrong: Wrong,
+    wrong: Option<usize>,
     table: &[u8; 256],
     kinds: &mut [u8],
 ) -> TraceRead
@@ -58,19 +69,11 @@ fn behind_block(
     let end = halts(profile, cells, next, table, kinds);
     let rows = cells.len() / Row::WIDTH;
     if (next == rows) | (end < rows) {
-        return TraceRead {
-            refusal: Refusal::NO_WORD_OF_GRAMMAR,
-            row: end,
-            program_rows: 0,
-        };
+        return refused(Refusal::NoWordOfGrammar, end);
     }
     match wrong {
-        Wrong::At(row) => TraceRead {
-            refusal: Refusal::WRONG_FLAG_OR_COUNT,
-            row,
-            program_rows: 0,
-        },
-        Wrong::Nowhere => TraceRead {
+        Some(row) => refused(Refusal::WrongFlagOrCount, row),
+        None => TraceRead {
             refusal: 0,
             row: 0,
             program_rows: next,
@@ -86,12 +89,8 @@ fn read_cells(profile: Profile, cells: &[u64], table: &[u8; 256], kinds: &mut [u
 {
     let root = block(profile, cells, 0, 64, 0, table, kinds);
     match root {
-        Part::Refused(number, row) => TraceRead {
-            refusal: number,
-            row,
-            program_rows: 0,
-        },
-        Part::Done(next, wrong) => behind_block(profile, cells, next, wrong, table, kinds),
+        Err(part) => refused(part.refusal, part.row),
+        Ok((next, wrong)) => behind_block(profile, cells, next, wrong, table, kinds),
     }
 }
 
@@ -107,13 +106,8 @@ fn tell_trace(
     ensures tells_trace { TellsTrace profile cells.now depths result }
     ensures kept_kinds { KeptKinds profile cells.now table.now kinds.new }
 {
-    let number = refusal(profile, cells, depths);
-    if number != 0 {
-        return TraceRead {
-            refusal: number,
-            row: 0,
-            program_rows: 0,
-        };
+    if let Err(number) = refusal(profile, cells, depths) {
+        return refused(number, 0);
     }
     read_cells(profile, cells, table, kinds)
 }

@@ -48,10 +48,10 @@ returns-in-End c = let h = stands _ _ _ _ End c.note_kind-kind.ensures.value c.i
 
 pub returns-in-Span : goal.returns-in-Span
 unfolding Ahead
-returns-in-Span c = record {
+returns-in-Span c = rw c.no_word.ensures (record {
   ops_read = record {
     ahead = tt;
     right = c.loop-at.invariant.4 _ (ops-no _ _ _ _ (rw c.note_kind-kind.ensures.value at (opened c.in-Span.in-Span-own.keys3)) (omega (arith, rows_in c.args.profile c.args.cells.now)));
   };
   kept_kinds = c.note_kind-kind.ensures.kept_kinds;
-}
+})

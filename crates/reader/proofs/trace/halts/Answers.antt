@@ -1,5 +1,7 @@
 -- `trace::halts` meets its contract.
-use mathlib.Core.Path.{◌∙◌, refl}
+use mathlib.Core.Path.{◌≡◌, ◌∙◌, refl}
+use Prim.Native.Nat.{◌/◌}
+use lib.ListN.{length}
 use native.Mathlib.Omega.{arith}
 use borrow.Author.Rules.{rules}
 use Rattle.reader.specs.Rows.{word_in}
@@ -28,4 +30,5 @@ loop-at-preserved c = let h = stands _ _ _ _ Halt c.note_kind-kind.ensures.value
 pub returns : goal.returns
 unfolding HaltsRead
 returns c = let n = rows_in c.args.profile c.args.cells.now in
-    record { halts_read = (omega arith, omega arith, λ b. c.loop-at.invariant.4 b ∙ halt-end (word_in c.args.profile c.args.cells.now) c.loop-at.at (omega arith) b); kept_kinds = c.loop-at.invariant.1 }
+    let e : c.loop-at.at ≡ length c.args.cells.now / 49 = omega arith in
+    record { halts_read = rw (← e) (omega arith, omega arith, λ b. c.loop-at.invariant.4 b ∙ halt-end (word_in c.args.profile c.args.cells.now) c.loop-at.at (omega arith) b); kept_kinds = c.loop-at.invariant.1 }
