@@ -8,12 +8,11 @@ ghost use Rattle.reader.specs.Rows.{word_in};
 ghost use Rattle.reader.specs.KeptKinds.{KeptKinds};
 ghost use Rattle.reader.specs.ways.Parts.{told_wrong, told_part, told_refused, refused_for, wrong_unless, too_deep, closed_at, OpsRead, BlockRead, PassesRead};
 
-use crate::kept::note_kind;
+use crate::kept::{LentTrace, note_kind};
 use crate::token::RowKind;
 use field::cell::cell;
 use groups::constants::{Column, Row};
 use groups::refusal::Refusal;
-use rows::records::profile::Profile;
 
 // Where a part of the word is refused.
 #[derive(Clone, Copy)]
@@ -70,21 +69,19 @@ fn too_deep(kind: RowKind, row: usize) -> PartRefused
 
 // The END of a block; `flag` is what its h4 has to be, `wrong` the lowest wrong row of the block's parts.
 fn close(
-    profile: Profile,
-    cells: &[u64],
+    lent: &LentTrace<'_>,
     row: usize,
     flag: u64,
     wrong: Option<usize>,
-    table: &[u8; 256],
     kinds: &mut [u8],
 ) -> Part
-    requires { KeptKinds profile cells.now table.now kinds.old }
-    ensures result_value { told_part result ≡ closed_at profile cells.now row flag (told_wrong wrong) }
-    ensures kept_kinds { KeptKinds profile cells.now table.now kinds.new }
+    requires { KeptKinds lent.now.profile lent.now.cells.now lent.now.table.now kinds.old }
+    ensures result_value { told_part result ≡ closed_at lent.now.profile lent.now.cells.now row flag (told_wrong wrong) }
+    ensures kept_kinds { KeptKinds lent.now.profile lent.now.cells.now lent.now.table.now kinds.new }
 {
-    let kind = note_kind(profile, cells, row, table, kinds);
+    let kind = note_kind(lent, row, kinds);
     if let RowKind::End = kind {
-        let own = ask(cells, row, Column::H4, flag);
+        let own = ask(lent.cells, row, Column::H4, flag);
         Ok((row + 1, wrong.or(own)))
     } else {
         Err(no_word(row))
@@ -92,27 +89,20 @@ fn close(
 }
 
 // The rows behind a SPAN: ops and RESPANs, then END.
-fn ops(
-    profile: Profile,
-    cells: &[u64],
-    row: usize,
-    flag: u64,
-    table: &[u8; 256],
-    kinds: &mut [u8],
-) -> Part
-    requires { (row ≤ length cells.now / row_width) × KeptKinds profile cells.now table.now kinds.old }
-    ensures ops_read { OpsRead (all_rows cells.now) (word_in profile cells.now) row flag (told_part result) }
-    ensures kept_kinds { KeptKinds profile cells.now table.now kinds.new }
+fn ops(lent: &LentTrace<'_>, row: usize, flag: u64, kinds: &mut [u8]) -> Part
+    requires { (row ≤ length lent.now.cells.now / row_width) × KeptKinds lent.now.profile lent.now.cells.now lent.now.table.now kinds.old }
+    ensures ops_read { OpsRead (all_rows lent.now.cells.now) (word_in lent.now.profile lent.now.cells.now) row flag (told_part result) }
+    ensures kept_kinds { KeptKinds lent.now.profile lent.now.cells.now lent.now.table.now kinds.new }
 {
     let mut at = row;
     loop {
-        let kind = note_kind(profile, cells, at, table, kinds);
+        let kind = note_kind(lent, at, kinds);
         match kind {
             RowKind::Op | RowKind::Respan => {
                 at += 1;
             }
             RowKind::End => {
-                let own = ask(cells, at, Column::H4, flag);
+                let own = ask(lent.cells, at, Column::H4, flag);
                 return Ok((at + 1, own));
             }
             RowKind::Span
@@ -131,34 +121,32 @@ fn ops(
 // A Block, where `left` blocks may open one in another; `flag` is what h4 of its END has to be.
 #[cycle(block_passes)]
 pub(crate) fn block(
-    profile: Profile,
-    cells: &[u64],
+    lent: &LentTrace<'_>,
     row: usize,
     left: u32,
     flag: u64,
-    table: &[u8; 256],
     kinds: &mut [u8],
 ) -> Part
-    requires { (row ≤ length cells.now / row_width) × KeptKinds profile cells.now table.now kinds.old }
-    ensures block_read { BlockRead (all_rows cells.now) (word_in profile cells.now) row left flag (told_part result) }
-    ensures kept_kinds { KeptKinds profile cells.now table.now kinds.new }
+    requires { (row ≤ length lent.now.cells.now / row_width) × KeptKinds lent.now.profile lent.now.cells.now lent.now.table.now kinds.old }
+    ensures block_read { BlockRead (all_rows lent.now.cells.now) (word_in lent.now.profile lent.now.cells.now) row left flag (told_part result) }
+    ensures kept_kinds { KeptKinds lent.now.profile lent.now.cells.now lent.now.table.now kinds.new }
 {
-    let kind = note_kind(profile, cells, row, table, kinds);
+    let kind = note_kind(lent, row, kinds);
     if left == 0 {
         return Err(too_deep(kind, row));
     }
     match kind {
-        RowKind::Span => ops(profile, cells, row + 1, flag, table, kinds),
+        RowKind::Span => ops(lent, row + 1, flag, kinds),
         RowKind::Join => {
-            let (a, v) = block(profile, cells, row + 1, left - 1, 0, table, kinds)?;
-            let (b, w) = block(profile, cells, a, left - 1, 0, table, kinds)?;
-            close(profile, cells, b, flag, v.or(w), table, kinds)
+            let (a, v) = block(lent, row + 1, left - 1, 0, kinds)?;
+            let (b, w) = block(lent, a, left - 1, 0, kinds)?;
+            close(lent, b, flag, v.or(w), kinds)
         }
         RowKind::One => {
-            let (a, v) = block(profile, cells, row + 1, left - 1, 0, table, kinds)?;
-            close(profile, cells, a, flag, v, table, kinds)
+            let (a, v) = block(lent, row + 1, left - 1, 0, kinds)?;
+            close(lent, a, flag, v, kinds)
         }
-        RowKind::Loop => passes(profile, cells, row, left - 1, flag, table, kinds),
+        RowKind::Loop => passes(lent, row, left - 1, flag, kinds),
         RowKind::Op
         | RowKind::Respan
         | RowKind::Repeat
@@ -171,25 +159,17 @@ pub(crate) fn block(
 // The Passes behind a LOOP row: a body and END, or a body, REPEAT, and Passes again; the row's count has to be their number (`count` has the
 // pass that is read), and h4 of END `flag`.
 #[cycle(block_passes)]
-fn passes(
-    profile: Profile,
-    cells: &[u64],
-    row: usize,
-    left: u32,
-    flag: u64,
-    table: &[u8; 256],
-    kinds: &mut [u8],
-) -> Part
-    requires { (row < length cells.now / row_width) × KeptKinds profile cells.now table.now kinds.old }
-    ensures passes_read { PassesRead (all_rows cells.now) (word_in profile cells.now) row left flag (told_part result) }
-    ensures kept_kinds { KeptKinds profile cells.now table.now kinds.new }
+fn passes(lent: &LentTrace<'_>, row: usize, left: u32, flag: u64, kinds: &mut [u8]) -> Part
+    requires { (row < length lent.now.cells.now / row_width) × KeptKinds lent.now.profile lent.now.cells.now lent.now.table.now kinds.old }
+    ensures passes_read { PassesRead (all_rows lent.now.cells.now) (word_in lent.now.profile lent.now.cells.now) row left flag (told_part result) }
+    ensures kept_kinds { KeptKinds lent.now.profile lent.now.cells.now lent.now.table.now kinds.new }
 {
     let mut at = row + 1;
     let mut count: u64 = 1;
     let mut so_far: Option<usize> = None;
     loop {
-        let (next, wrong) = block(profile, cells, at, left, 1, table, kinds)?;
-        let kind = note_kind(profile, cells, next, table, kinds);
+        let (next, wrong) = block(lent, at, left, 1, kinds)?;
+        let kind = note_kind(lent, next, kinds);
         so_far = so_far.or(wrong);
         match kind {
             RowKind::Repeat => {
@@ -197,8 +177,8 @@ fn passes(
                 count += 1;
             }
             RowKind::End => {
-                let counted = ask(cells, row, Column::GROUP_COUNT, count);
-                let own = ask(cells, next, Column::H4, flag);
+                let counted = ask(lent.cells, row, Column::GROUP_COUNT, count);
+                let own = ask(lent.cells, next, Column::H4, flag);
                 return Ok((next + 1, counted.or(so_far.or(own))));
             }
             RowKind::Span

@@ -9,5 +9,5 @@ use Rattle.reader.proofs.depths.fill.Given as goal
 
 abbrev pub invariant-loop-at : goal.invariant-loop-at
 invariant-loop-at l =
-    (l.at ≤ length l.cells / 49) × (l.opened ≤ l.at) × (length l.depths ≡ length l.initial.depths) × (drop (length l.cells / 49) l.depths ≡ drop (length l.cells / 49) l.initial.depths)
-    × (take l.at l.depths ++ levels l.opened (drop l.at (word_in l.profile l.cells)) ≡ levels 0 (word_in l.profile l.cells))
+    (l.at ≤ length l.lent.cells.now / 49) × (l.opened ≤ l.at) × (length l.depths ≡ length l.initial.depths) × (drop (length l.lent.cells.now / 49) l.depths ≡ drop (length l.lent.cells.now / 49) l.initial.depths)
+    × (take l.at l.depths ++ levels l.opened (drop l.at (word_in l.lent.profile l.lent.cells.now)) ≡ levels 0 (word_in l.lent.profile l.lent.cells.now))

@@ -17,35 +17,35 @@ pub block-returns-then-left-eq0 : goal.block-returns-then-left-eq0
 block-returns-then-left-eq0 t c = record {
   block_read = record {
     ahead = rw c.too_deep.ensures (deep-ahead c.note_kind-kind.result _ _ _);
-    right = rw (c.too_deep.ensures, c.note_kind-kind.ensures.value) (block-deep _ _ _ _ _ c.if-left-eq0.true (omega (arith, rows_in c.args.profile c.args.cells.now)));
+    right = rw (c.too_deep.ensures, c.note_kind-kind.ensures.value) (block-deep _ _ _ _ _ c.if-left-eq0.true (omega (arith, rows_in c.args.lent.now.profile c.args.lent.now.cells.now)));
   };
   kept_kinds = c.note_kind-kind.ensures.kept_kinds;
 }
 
 pub block-overflow_add-row : goal.block-overflow_add-row
 block-overflow_add-row t c =
-    let span-row : Stands c.args.profile c.args.cells.now c.args.row Span = stands _ _ _ _ Span c.note_kind-kind.ensures.value c.in-Span.is tt in
+    let span-row : Stands c.args.lent.now.profile c.args.lent.now.cells.now c.args.row Span = stands _ _ _ _ Span c.note_kind-kind.ensures.value c.in-Span.is tt in
     omega (arith, (span-row).inside)
 
 pub block-ops-requires : goal.block-ops-requires
 block-ops-requires t c =
-    let span-row : Stands c.args.profile c.args.cells.now c.args.row Span = stands _ _ _ _ Span c.note_kind-kind.ensures.value c.in-Span.is tt in
+    let span-row : Stands c.args.lent.now.profile c.args.lent.now.cells.now c.args.row Span = stands _ _ _ _ Span c.note_kind-kind.ensures.value c.in-Span.is tt in
     (omega (arith, (span-row).inside), c.note_kind-kind.ensures.kept_kinds)
 
 pub block-overflow_add-row-in-Join : goal.block-overflow_add-row-in-Join
 block-overflow_add-row-in-Join t c =
-    let join-row : Stands c.args.profile c.args.cells.now c.args.row Join = stands _ _ _ _ Join c.note_kind-kind.ensures.value c.in-Join.is tt in
+    let join-row : Stands c.args.lent.now.profile c.args.lent.now.cells.now c.args.row Join = stands _ _ _ _ Join c.note_kind-kind.ensures.value c.in-Join.is tt in
     omega (arith, (join-row).inside)
 
 pub block-block-requires : goal.block-block-requires
 block-block-requires t c =
-    let join-row : Stands c.args.profile c.args.cells.now c.args.row Join = stands _ _ _ _ Join c.note_kind-kind.ensures.value c.in-Join.is tt in
+    let join-row : Stands c.args.lent.now.profile c.args.lent.now.cells.now c.args.row Join = stands _ _ _ _ Join c.note_kind-kind.ensures.value c.in-Join.is tt in
     let h = (join-row).inside in (omega arith, (omega arith, c.note_kind-kind.ensures.kept_kinds))
 
 pub block-returns-in_err-a-in-Join : goal.block-returns-in_err-a-in-Join
 block-returns-in_err-a-in-Join t c =
     let p = err_from_is_err_and c.from_residual.result c.from_residual.ensures.1 in
-    let join-row : Stands c.args.profile c.args.cells.now c.args.row Join = stands _ _ _ _ Join c.note_kind-kind.ensures.value c.in-Join.is tt in
+    let join-row : Stands c.args.lent.now.profile c.args.lent.now.cells.now c.args.row Join = stands _ _ _ _ Join c.note_kind-kind.ensures.value c.in-Join.is tt in
     let h = join-row in rw (p.1, p.2) (record {
       block_read = record {
         ahead = ahead-from _ _ _ _ (omega arith) c.in_err-a-in-Join.ensures.block_read.ahead;
@@ -56,16 +56,16 @@ block-returns-in_err-a-in-Join t c =
 
 pub block-block-requires-in-Join : goal.block-block-requires-in-Join
 block-block-requires-in-Join t c =
-    let join-row : Stands c.args.profile c.args.cells.now c.args.row Join = stands _ _ _ _ Join c.note_kind-kind.ensures.value c.in-Join.is tt in
+    let join-row : Stands c.args.lent.now.profile c.args.lent.now.cells.now c.args.row Join = stands _ _ _ _ Join c.note_kind-kind.ensures.value c.in-Join.is tt in
     let i = (join-row).inside in
     let h = ahead-done _ _ _ _ _ (ap told_part c.in_ok-a-in-Join.was) c.block.ensures.block_read.ahead in
-    let n = rows_in c.args.profile c.args.cells.now in
+    let n = rows_in c.args.lent.now.profile c.args.lent.now.cells.now in
     (omega arith, (omega arith, c.block.ensures.kept_kinds))
 
 pub block-returns-in_err-b-in-Join : goal.block-returns-in_err-b-in-Join
 block-returns-in_err-b-in-Join t c =
     let p = err_from_is_err_and c.from_residual-in_err-b-in-Join.result c.from_residual-in_err-b-in-Join.ensures.1 in
-    let join-row : Stands c.args.profile c.args.cells.now c.args.row Join = stands _ _ _ _ Join c.note_kind-kind.ensures.value c.in-Join.is tt in
+    let join-row : Stands c.args.lent.now.profile c.args.lent.now.cells.now c.args.row Join = stands _ _ _ _ Join c.note_kind-kind.ensures.value c.in-Join.is tt in
     let h = join-row in
     let l = ahead-done _ _ _ _ _ (ap told_part c.in_ok-a-in-Join.was) c.block.ensures.block_read.ahead in rw (p.1, p.2) (record {
       block_read = record {
@@ -82,18 +82,18 @@ block-close-requires t c = c.block-in-Join.ensures.kept_kinds
 
 pub block-overflow_add-row-in-One : goal.block-overflow_add-row-in-One
 block-overflow_add-row-in-One t c =
-    let one-row : Stands c.args.profile c.args.cells.now c.args.row One = stands _ _ _ _ One c.note_kind-kind.ensures.value c.in-One.is tt in
+    let one-row : Stands c.args.lent.now.profile c.args.lent.now.cells.now c.args.row One = stands _ _ _ _ One c.note_kind-kind.ensures.value c.in-One.is tt in
     omega (arith, (one-row).inside)
 
 pub block-block-requires-in-One : goal.block-block-requires-in-One
 block-block-requires-in-One t c =
-    let one-row : Stands c.args.profile c.args.cells.now c.args.row One = stands _ _ _ _ One c.note_kind-kind.ensures.value c.in-One.is tt in
+    let one-row : Stands c.args.lent.now.profile c.args.lent.now.cells.now c.args.row One = stands _ _ _ _ One c.note_kind-kind.ensures.value c.in-One.is tt in
     let h = (one-row).inside in (omega arith, (omega arith, c.note_kind-kind.ensures.kept_kinds))
 
 pub block-returns-in_err-a-in-One : goal.block-returns-in_err-a-in-One
 block-returns-in_err-a-in-One t c =
     let p = err_from_is_err_and c.from_residual-in_err-a-in-One.result c.from_residual-in_err-a-in-One.ensures.1 in
-    let one-row : Stands c.args.profile c.args.cells.now c.args.row One = stands _ _ _ _ One c.note_kind-kind.ensures.value c.in-One.is tt in
+    let one-row : Stands c.args.lent.now.profile c.args.lent.now.cells.now c.args.row One = stands _ _ _ _ One c.note_kind-kind.ensures.value c.in-One.is tt in
     let h = one-row in rw (p.1, p.2) (record {
       block_read = record {
         ahead = ahead-from _ _ _ _ (omega arith) c.in_err-a-in-One.ensures.block_read.ahead;
@@ -107,12 +107,12 @@ block-close-requires-in-One t c = c.block-in-One.ensures.kept_kinds
 
 pub block-passes-requires : goal.block-passes-requires
 block-passes-requires t c =
-    let loop-row : Stands c.args.profile c.args.cells.now c.args.row Loop = stands _ _ _ _ Loop c.note_kind-kind.ensures.value c.in-Loop.is tt in
+    let loop-row : Stands c.args.lent.now.profile c.args.lent.now.cells.now c.args.row Loop = stands _ _ _ _ Loop c.note_kind-kind.ensures.value c.in-Loop.is tt in
     let h = (loop-row).inside in (omega arith, (h, c.note_kind-kind.ensures.kept_kinds))
 
 pub block-returns-in-Span : goal.block-returns-in-Span
 block-returns-in-Span t c =
-    let span-row : Stands c.args.profile c.args.cells.now c.args.row Span = stands _ _ _ _ Span c.note_kind-kind.ensures.value c.in-Span.is tt in
+    let span-row : Stands c.args.lent.now.profile c.args.lent.now.cells.now c.args.row Span = stands _ _ _ _ Span c.note_kind-kind.ensures.value c.in-Span.is tt in
     let h = span-row in record {
       block_read = record {
         ahead = ahead-from _ _ _ _ (omega arith) c.ops.ensures.ops_read.ahead;
@@ -126,7 +126,7 @@ block-shape_of-kinds-in_ok-b-in-Join t c = search (rules, c, c) depth 9
 
 pub block-returns-in_ok-b-in-Join : goal.block-returns-in_ok-b-in-Join
 block-returns-in_ok-b-in-Join t c =
-    let join-row : Stands c.args.profile c.args.cells.now c.args.row Join = stands _ _ _ _ Join c.note_kind-kind.ensures.value c.in-Join.is tt in
+    let join-row : Stands c.args.lent.now.profile c.args.lent.now.cells.now c.args.row Join = stands _ _ _ _ Join c.note_kind-kind.ensures.value c.in-Join.is tt in
     let h = join-row in
     let l = ahead-done _ _ _ _ _ (ap told_part c.in_ok-a-in-Join.was) c.block.ensures.block_read.ahead in
     let m = ahead-done _ _ _ _ _ (ap told_part c.in_ok-b-in-Join.was) c.block-in-Join.ensures.block_read.ahead in record {
@@ -142,7 +142,7 @@ block-returns-in_ok-b-in-Join t c =
 
 pub block-returns-in_ok-a-in-One : goal.block-returns-in_ok-a-in-One
 block-returns-in_ok-a-in-One t c =
-    let one-row : Stands c.args.profile c.args.cells.now c.args.row One = stands _ _ _ _ One c.note_kind-kind.ensures.value c.in-One.is tt in
+    let one-row : Stands c.args.lent.now.profile c.args.lent.now.cells.now c.args.row One = stands _ _ _ _ One c.note_kind-kind.ensures.value c.in-One.is tt in
     let h = one-row in
     let l = ahead-done _ _ _ _ _ (ap told_part c.in_ok-a-in-One.was) c.block-in-One.ensures.block_read.ahead in record {
       block_read = record {
@@ -156,7 +156,7 @@ block-returns-in_ok-a-in-One t c =
 
 pub block-returns-in-Loop : goal.block-returns-in-Loop
 block-returns-in-Loop t c =
-    let loop-row : Stands c.args.profile c.args.cells.now c.args.row Loop = stands _ _ _ _ Loop c.note_kind-kind.ensures.value c.in-Loop.is tt in
+    let loop-row : Stands c.args.lent.now.profile c.args.lent.now.cells.now c.args.row Loop = stands _ _ _ _ Loop c.note_kind-kind.ensures.value c.in-Loop.is tt in
     let h = loop-row in record {
       block_read = record {
         ahead = c.passes.ensures.passes_read.ahead;
@@ -170,7 +170,7 @@ unfolding Ahead
 block-returns-in-Op t c = rw c.no_word.ensures (record {
   block_read = record {
     ahead = tt;
-    right = block_no _ _ _ _ _ (rw c.note_kind-kind.ensures.value at (opened c.in-Op.in-Op-own.keys5)) (omega (arith, rows_in c.args.profile c.args.cells.now));
+    right = block_no _ _ _ _ _ (rw c.note_kind-kind.ensures.value at (opened c.in-Op.in-Op-own.keys5)) (omega (arith, rows_in c.args.lent.now.profile c.args.lent.now.cells.now));
   };
   kept_kinds = c.note_kind-kind.ensures.kept_kinds;
 })
