@@ -9,6 +9,8 @@ use native.Mathlib.Nat.{zero-add}
 use native.Mathlib.Decide.{dec_lt}
 use lib.Dec.{eqb}
 use lib.ListN.{length}
+use Rattle.std.specs.Prelude.{Option as Answered, Some, None}
+use Rattle.std.specs.Option.{option_or}
 use Rattle.field.specs.Cells.{cell_at}
 use Rattle.theory_readings.specs.Tokens.{OneChild, Kind, Token, start, repeat, end, halt, nothing}
 use Rattle.theory_readings.specs.Readings.{Ops, Block, Passes, spell_ops, spell, spell_passes, depth_of, depth_of_passes, flag, passes_in, end_row_of, asks_of, asks_of_passes, row_at}
@@ -17,11 +19,18 @@ use Rattle.theory_readings.specs.ways.Parser.{PassesRead, no_pass, pass, OpsRead
 use Rattle.theory_readings.proofs.Parses.{parse-stop, parses}
 use Rattle.reader.specs.Rows.{token_in, row_kind_of}
 use Rattle.reader.specs.ways.FromRow.{rows_from}
-use Rattle.reader.specs.ways.Parts.{PartRead, up_to, refused_at, wrong_unless, too_deep, closed, Ahead, right_from, OpsRight, BlockRight, PassesRight}
+use Rattle.reader.specs.ways.Parts.{PartRead, up_to, refused_at, told_wrong, wrong_unless, too_deep, closed, Ahead, right_from, OpsRight, BlockRight, PassesRight}
 use Rattle.reader.specs.declared.token.RowKind.{RowKind}
 use Rattle.reader.specs.declared.token.RowKind.TheVariants.{Span, Join, One, Loop, Op, Respan, Repeat, End, Halt, Nothing}
 use Rattle.reader.proofs.RowTokens.{rows_none, rows_at, token-inside, tag, among}
 use Rattle.reader.proofs.WrongRows.{else-assoc, flag-alone, count-wrong, block-wrong}
+
+-- THE LOWEST WRONG ROW
+
+-- the first of two wrong rows that there is
+pub told-or : (r a b : Answered ℕ) → r ≡ option_or a b → told_wrong r ≡ or_else (told_wrong a) (told_wrong b)
+told-or r (Some row) b e = rw e
+told-or r None b e = rw e
 
 -- WHERE A PART GOES ON
 

@@ -6,10 +6,9 @@ ghost use Rattle.reader.specs.Rows.{word_in};
 ghost use Rattle.reader.specs.KeptKinds.{KeptKinds};
 ghost use Rattle.reader.specs.ways.Levels.{level_at, level_behind};
 
-use crate::kept::kept_kind;
+use crate::kept::{LentTrace, kept_kind};
 use crate::token::RowKind;
 use groups::constants::Row;
-use rows::records::profile::Profile;
 
 // The depth of a row, where so many blocks are open before it.
 fn depth_at(kind: RowKind, opened: u32) -> u32
@@ -34,29 +33,21 @@ fn open_behind(kind: RowKind, depth: u32) -> u32
     let RowKind::End = kind else {
         return depth;
     };
-    if depth == 0 { 0 } else { depth - 1 }
+    depth.saturating_sub(1)
 }
 
 // Fills one depth a row; the numbers past the rows stay.
-pub(crate) fn fill(
-    profile: Profile,
-    cells: &[u64],
-    depths: &mut [u32],
-    table: &[u8; 256],
-    kinds: &[u8],
-)
-    requires { (length cells.now / row_width ≤ most_rows) × (length cells.now / row_width ≤ length depths.old)
-        × KeptKinds profile cells.now table.now kinds.now }
-    ensures { depths.new ≡ levels 0 (word_in profile cells.now)
-        ++ drop (length cells.now / row_width) depths.old }
+pub(crate) fn fill(lent: &LentTrace<'_>, depths: &mut [u32], kinds: &[u8])
+    requires { (length lent.now.cells.now / row_width ≤ most_rows) × (length lent.now.cells.now / row_width ≤ length depths.old)
+        × KeptKinds lent.now.profile lent.now.cells.now lent.now.table.now kinds.now }
+    ensures { depths.new ≡ levels 0 (word_in lent.now.profile lent.now.cells.now)
+        ++ drop (length lent.now.cells.now / row_width) depths.old }
 {
-    let mut at = 0;
     let mut opened: u32 = 0;
-    while at < cells.len() / Row::WIDTH {
-        let kind = kept_kind(profile, cells, at, table, kinds);
+    for at in 0..lent.cells.len() / Row::WIDTH {
+        let kind = kept_kind(lent.profile, lent.cells, at, lent.table, kinds);
         let depth = depth_at(kind, opened);
         depths[at] = depth;
         opened = open_behind(kind, depth);
-        at += 1;
     }
 }

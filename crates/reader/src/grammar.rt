@@ -2,118 +2,108 @@
 ghost use Rattle.std.specs.Prelude.{◌≡◌, ◌/◌, ◌<◌, ◌≤◌, eqb, length};
 ghost use Rattle.field.specs.Cells.{cell_at};
 ghost use Rattle.groups.specs.Constants.{row_width};
+ghost use Rattle.groups.specs.declared.refusal.Refusal.{Refusal};
 ghost use Rattle.theory_readings.specs.Readings.{row_at, all_rows};
-ghost use Rattle.theory_readings.specs.ways.Parser.{or_else};
 ghost use Rattle.reader.specs.Rows.{word_in};
 ghost use Rattle.reader.specs.KeptKinds.{KeptKinds};
-ghost use Rattle.reader.specs.ways.Parts.{told_wrong, told_part, wrong_unless, too_deep, closed_at, OpsRead, BlockRead, PassesRead};
+ghost use Rattle.reader.specs.ways.Parts.{told_wrong, told_part, told_refused, refused_for, wrong_unless, too_deep, closed_at, OpsRead, BlockRead, PassesRead};
 
-use crate::kept::note_kind;
+use crate::kept::{LentTrace, note_kind};
 use crate::token::RowKind;
 use field::cell::cell;
-use groups::constants::{Column, Refusal, Row};
-use rows::records::profile::Profile;
+use groups::constants::{Column, Row};
+use groups::refusal::Refusal;
 
-// The lowest row with a cell that is not as asked.
+// Where a part of the word is refused.
 #[derive(Clone, Copy)]
-pub(crate) enum Wrong {
-    Nowhere,
-    At(usize),
+pub(crate) struct PartRefused {
+    pub(crate) refusal: Refusal,
+    pub(crate) row: usize,
 }
 
-// A part of the word: the row behind it and its lowest wrong row; or the number and the row of its refusal.
-#[derive(Clone, Copy)]
-pub(crate) enum Part {
-    Done(usize, Wrong),
-    Refused(u32, usize),
-}
+// A part of the word: the row behind it, and its lowest row with a cell that is not as asked, if there is one.
+pub(crate) type Part = Result<(usize, Option<usize>), PartRefused>;
 
-// The lower of two wrong rows, the first one's rows being before the second one's.
-fn first(a: Wrong, b: Wrong) -> Wrong
-    ensures { told_wrong result ≡ or_else (told_wrong a) (told_wrong b) }
+// A row that fits no word of the grammar.
+fn no_word(row: usize) -> PartRefused
+    ensures { result ≡ refused_for Refusal.NoWordOfGrammar row }
 {
-    match a {
-        Wrong::Nowhere => b,
-        Wrong::At(_) => a,
+    PartRefused {
+        refusal: Refusal::NoWordOfGrammar,
+        row,
     }
 }
 
-// Whether cell k of a row is as asked.
-fn ask(cells: &[u64], row: usize, k: usize, value: u64) -> Wrong
+// The row, where its cell k is not as asked.
+fn ask(cells: &[u64], row: usize, k: usize, value: u64) -> Option<usize>
     requires { (row < length cells.now / row_width) × (k < row_width) }
     ensures { told_wrong result ≡ wrong_unless (eqb (cell_at (row_at (all_rows cells.now) row) k) value) row }
 {
     if cell(cells, Row::WIDTH * row + k) == value {
-        Wrong::Nowhere
+        None
     } else {
-        Wrong::At(row)
+        Some(row)
     }
 }
 
 // The refusal of a row where no more block may start: 15 if it starts one, else 12.
-fn too_deep(kind: RowKind, row: usize) -> Part
-    ensures { told_part result ≡ too_deep kind row }
+fn too_deep(kind: RowKind, row: usize) -> PartRefused
+    ensures { told_refused result ≡ too_deep kind row }
 {
     match kind {
-        RowKind::Span | RowKind::Join | RowKind::One | RowKind::Loop => Part::Refused(
-            Refusal::BLOCK_65_DEEP,
+        RowKind::Span | RowKind::Join | RowKind::One | RowKind::Loop => PartRefused {
+            refusal: Refusal::Block65Deep,
             row,
-        ),
+        },
         RowKind::Op
         | RowKind::Respan
         | RowKind::Repeat
         | RowKind::End
         | RowKind::Halt
-        | RowKind::Nothing => Part::Refused(Refusal::NO_WORD_OF_GRAMMAR, row),
+        | RowKind::Nothing => PartRefused {
+            refusal: Refusal::NoWordOfGrammar,
+            row,
+        },
     }
 }
 
 // The END of a block; `flag` is what its h4 has to be, `wrong` the lowest wrong row of the block's parts.
 fn close(
-    profile: Profile,
-    cells: &[u64],
+    lent: &LentTrace<'_>,
     row: usize,
     flag: u64,
-    wrong: Wrong,
-    table: &[u8; 256],
+    wrong: Option<usize>,
     kinds: &mut [u8],
 ) -> Part
-    requires { KeptKinds profile cells.now table.now kinds.old }
-    ensures result_value { told_part result ≡ closed_at profile cells.now row flag (told_wrong wrong) }
-    ensures kept_kinds { KeptKinds profile cells.now table.now kinds.new }
+    requires { KeptKinds lent.now.profile lent.now.cells.now lent.now.table.now kinds.old }
+    ensures result_value { told_part result ≡ closed_at lent.now.profile lent.now.cells.now row flag (told_wrong wrong) }
+    ensures kept_kinds { KeptKinds lent.now.profile lent.now.cells.now lent.now.table.now kinds.new }
 {
-    let kind = note_kind(profile, cells, row, table, kinds);
+    let kind = note_kind(lent, row, kinds);
     if let RowKind::End = kind {
-        let own = ask(cells, row, Column::H4, flag);
-        Part::Done(row + 1, first(wrong, own))
+        let own = ask(lent.cells, row, Column::H4, flag);
+        Ok((row + 1, wrong.or(own)))
     } else {
-        Part::Refused(Refusal::NO_WORD_OF_GRAMMAR, row)
+        Err(no_word(row))
     }
 }
 
 // The rows behind a SPAN: ops and RESPANs, then END.
-fn ops(
-    profile: Profile,
-    cells: &[u64],
-    row: usize,
-    flag: u64,
-    table: &[u8; 256],
-    kinds: &mut [u8],
-) -> Part
-    requires { (row ≤ length cells.now / row_width) × KeptKinds profile cells.now table.now kinds.old }
-    ensures ops_read { OpsRead (all_rows cells.now) (word_in profile cells.now) row flag (told_part result) }
-    ensures kept_kinds { KeptKinds profile cells.now table.now kinds.new }
+fn ops(lent: &LentTrace<'_>, row: usize, flag: u64, kinds: &mut [u8]) -> Part
+    requires { (row ≤ length lent.now.cells.now / row_width) × KeptKinds lent.now.profile lent.now.cells.now lent.now.table.now kinds.old }
+    ensures ops_read { OpsRead (all_rows lent.now.cells.now) (word_in lent.now.profile lent.now.cells.now) row flag (told_part result) }
+    ensures kept_kinds { KeptKinds lent.now.profile lent.now.cells.now lent.now.table.now kinds.new }
 {
     let mut at = row;
     loop {
-        let kind = note_kind(profile, cells, at, table, kinds);
+        let kind = note_kind(lent, at, kinds);
         match kind {
             RowKind::Op | RowKind::Respan => {
                 at += 1;
             }
             RowKind::End => {
-                let own = ask(cells, at, Column::H4, flag);
-                return Part::Done(at + 1, own);
+                let own = ask(lent.cells, at, Column::H4, flag);
+                return Ok((at + 1, own));
             }
             RowKind::Span
             | RowKind::Join
@@ -122,7 +112,7 @@ fn ops(
             | RowKind::Repeat
             | RowKind::Halt
             | RowKind::Nothing => {
-                return Part::Refused(Refusal::NO_WORD_OF_GRAMMAR, at);
+                return Err(no_word(at));
             }
         }
     }
@@ -131,87 +121,65 @@ fn ops(
 // A Block, where `left` blocks may open one in another; `flag` is what h4 of its END has to be.
 #[cycle(block_passes)]
 pub(crate) fn block(
-    profile: Profile,
-    cells: &[u64],
+    lent: &LentTrace<'_>,
     row: usize,
     left: u32,
     flag: u64,
-    table: &[u8; 256],
     kinds: &mut [u8],
 ) -> Part
-    requires { (row ≤ length cells.now / row_width) × KeptKinds profile cells.now table.now kinds.old }
-    ensures block_read { BlockRead (all_rows cells.now) (word_in profile cells.now) row left flag (told_part result) }
-    ensures kept_kinds { KeptKinds profile cells.now table.now kinds.new }
+    requires { (row ≤ length lent.now.cells.now / row_width) × KeptKinds lent.now.profile lent.now.cells.now lent.now.table.now kinds.old }
+    ensures block_read { BlockRead (all_rows lent.now.cells.now) (word_in lent.now.profile lent.now.cells.now) row left flag (told_part result) }
+    ensures kept_kinds { KeptKinds lent.now.profile lent.now.cells.now lent.now.table.now kinds.new }
 {
-    let kind = note_kind(profile, cells, row, table, kinds);
+    let kind = note_kind(lent, row, kinds);
     if left == 0 {
-        return too_deep(kind, row);
+        return Err(too_deep(kind, row));
     }
     match kind {
-        RowKind::Span => ops(profile, cells, row + 1, flag, table, kinds),
+        RowKind::Span => ops(lent, row + 1, flag, kinds),
         RowKind::Join => {
-            let one = block(profile, cells, row + 1, left - 1, 0, table, kinds);
-            let Part::Done(a, v) = one else {
-                return one;
-            };
-            let two = block(profile, cells, a, left - 1, 0, table, kinds);
-            let Part::Done(b, w) = two else {
-                return two;
-            };
-            close(profile, cells, b, flag, first(v, w), table, kinds)
+            let (a, v) = block(lent, row + 1, left - 1, 0, kinds)?;
+            let (b, w) = block(lent, a, left - 1, 0, kinds)?;
+            close(lent, b, flag, v.or(w), kinds)
         }
         RowKind::One => {
-            let only = block(profile, cells, row + 1, left - 1, 0, table, kinds);
-            let Part::Done(a, v) = only else {
-                return only;
-            };
-            close(profile, cells, a, flag, v, table, kinds)
+            let (a, v) = block(lent, row + 1, left - 1, 0, kinds)?;
+            close(lent, a, flag, v, kinds)
         }
-        RowKind::Loop => passes(profile, cells, row, left - 1, flag, table, kinds),
+        RowKind::Loop => passes(lent, row, left - 1, flag, kinds),
         RowKind::Op
         | RowKind::Respan
         | RowKind::Repeat
         | RowKind::End
         | RowKind::Halt
-        | RowKind::Nothing => Part::Refused(Refusal::NO_WORD_OF_GRAMMAR, row),
+        | RowKind::Nothing => Err(no_word(row)),
     }
 }
 
 // The Passes behind a LOOP row: a body and END, or a body, REPEAT, and Passes again; the row's count has to be their number (`count` has the
 // pass that is read), and h4 of END `flag`.
 #[cycle(block_passes)]
-fn passes(
-    profile: Profile,
-    cells: &[u64],
-    row: usize,
-    left: u32,
-    flag: u64,
-    table: &[u8; 256],
-    kinds: &mut [u8],
-) -> Part
-    requires { (row < length cells.now / row_width) × KeptKinds profile cells.now table.now kinds.old }
-    ensures passes_read { PassesRead (all_rows cells.now) (word_in profile cells.now) row left flag (told_part result) }
-    ensures kept_kinds { KeptKinds profile cells.now table.now kinds.new }
+fn passes(lent: &LentTrace<'_>, row: usize, left: u32, flag: u64, kinds: &mut [u8]) -> Part
+    requires { (row < length lent.now.cells.now / row_width) × KeptKinds lent.now.profile lent.now.cells.now lent.now.table.now kinds.old }
+    ensures passes_read { PassesRead (all_rows lent.now.cells.now) (word_in lent.now.profile lent.now.cells.now) row left flag (told_part result) }
+    ensures kept_kinds { KeptKinds lent.now.profile lent.now.cells.now lent.now.table.now kinds.new }
 {
     let mut at = row + 1;
     let mut count: u64 = 1;
-    let mut so_far = Wrong::Nowhere;
+    let mut so_far: Option<usize> = None;
     loop {
-        let body = block(profile, cells, at, left, 1, table, kinds);
-        let Part::Done(next, wrong) = body else {
-            return body;
-        };
-        let kind = note_kind(profile, cells, next, table, kinds);
-        so_far = first(so_far, wrong);
+        let (next, wrong) = block(lent, at, left, 1, kinds)?;
+        let kind = note_kind(lent, next, kinds);
+        so_far = so_far.or(wrong);
         match kind {
             RowKind::Repeat => {
                 at = next + 1;
                 count += 1;
             }
             RowKind::End => {
-                let counted = ask(cells, row, Column::GROUP_COUNT, count);
-                let own = ask(cells, next, Column::H4, flag);
-                return Part::Done(next + 1, first(counted, first(so_far, own)));
+                let counted = ask(lent.cells, row, Column::GROUP_COUNT, count);
+                let own = ask(lent.cells, next, Column::H4, flag);
+                return Ok((next + 1, counted.or(so_far.or(own))));
             }
             RowKind::Span
             | RowKind::Join
@@ -221,7 +189,7 @@ fn passes(
             | RowKind::Respan
             | RowKind::Halt
             | RowKind::Nothing => {
-                return Part::Refused(Refusal::NO_WORD_OF_GRAMMAR, next);
+                return Err(no_word(next));
             }
         }
     }

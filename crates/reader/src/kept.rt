@@ -19,6 +19,14 @@ pub const SHORT_LIST: usize = 4096;
 
 pub const LONG_LIST: usize = 65536;
 
+// A trace that is read: the profile, the lent cells, and a table of the profile.
+#[derive(Clone, Copy)]
+pub(crate) struct LentTrace<'a> {
+    pub(crate) profile: Profile,
+    pub(crate) cells: &'a [u64],
+    pub(crate) table: &'a [u8; 256],
+}
+
 // The number of a kind.
 fn kind_number(kind: RowKind) -> u8
     ensures { kind_numbered result ≡ kind }
@@ -70,11 +78,9 @@ fn table_of(profile: Profile) -> [u8; 256]
     ensures { KindTable profile result }
 {
     let mut table = [UNKNOWN; 256];
-    let mut code: usize = 0;
-    while code < 256 {
+    for code in 0..256 {
         let kind = kind_of_code(profile, code as u8);
         table[code] = kind_number(kind);
-        code += 1;
     }
     table
 }
@@ -126,30 +132,20 @@ fn kind_told(profile: Profile, cells: &[u64], row: usize, number: u8) -> RowKind
 pub(crate) fn forget(kinds: &mut [u8])
     ensures { KeepsNothing kinds.new }
 {
-    let mut row = 0;
-    while row < kinds.len() {
-        kinds[row] = UNKNOWN;
-        row += 1;
-    }
+    kinds.fill(UNKNOWN);
 }
 
 // What a row is, which is kept; past the end, nothing.
-pub(crate) fn note_kind(
-    profile: Profile,
-    cells: &[u64],
-    row: usize,
-    table: &[u8; 256],
-    kinds: &mut [u8],
-) -> RowKind
-    requires { KeptKinds profile cells.now table.now kinds.old }
-    ensures value { result ≡ row_kind_of (token_at profile cells.now row) }
-    ensures kept_kinds { KeptKinds profile cells.now table.now kinds.new }
+pub(crate) fn note_kind(lent: &LentTrace<'_>, row: usize, kinds: &mut [u8]) -> RowKind
+    requires { KeptKinds lent.now.profile lent.now.cells.now lent.now.table.now kinds.old }
+    ensures value { result ≡ row_kind_of (token_at lent.now.profile lent.now.cells.now row) }
+    ensures kept_kinds { KeptKinds lent.now.profile lent.now.cells.now lent.now.table.now kinds.new }
 {
-    let number = number_by(cells, row, table);
+    let number = number_by(lent.cells, row, lent.table);
     if row < kinds.len() {
         kinds[row] = number;
     }
-    kind_told(profile, cells, row, number)
+    kind_told(lent.profile, lent.cells, row, number)
 }
 
 // The number of a row's kind, as it is kept if it is, else by the table.

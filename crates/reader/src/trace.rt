@@ -6,14 +6,18 @@ ghost use Rattle.reader.specs.Rows.{word_in};
 ghost use Rattle.reader.specs.Reads.{trace_read, TellsTrace, ReadsTrace};
 ghost use Rattle.reader.specs.KeptKinds.{KeptKinds};
 ghost use Rattle.reader.specs.ways.Parts.{told_wrong};
-ghost use Rattle.reader.specs.ways.WholeWord.{HaltsRead, BehindRead, cells_answer};
+ghost use Rattle.groups.specs.Refusals.{number_of};
+ghost use Rattle.reader.specs.ways.WholeWord.{HaltsRead, BehindRead, cells_answer, refused_read};
 
 use crate::depths::fill;
-use crate::grammar::{Part, Wrong, block};
-use crate::kept::{FEW_ROWS, LONG_LIST, SHORT_LIST, UNKNOWN, forget, note_kind, table_for};
+use crate::grammar::block;
+use crate::kept::{
+    FEW_ROWS, LONG_LIST, LentTrace, SHORT_LIST, UNKNOWN, forget, note_kind, table_for,
+};
 use crate::scan::refusal;
 use crate::token::RowKind;
-use groups::constants::{Refusal, Row};
+use groups::constants::Row;
+use groups::refusal::Refusal;
 use rows::records::profile::Profile;
 
 // What is answered of a buffer: 0, or the number and the row of its refusal; the number of program rows, 0 on a refusal.
@@ -25,52 +29,51 @@ pub struct TraceRead {
     pub program_rows: usize,
 }
 
-// The first row from `from` on that is no HALT, or the end.
-fn halts(profile: Profile, cells: &[u64], from: usize, table: &[u8; 256], kinds: &mut [u8]) -> usize
-    requires { (from ≤ length cells.now / row_width) × KeptKinds profile cells.now table.now kinds.old }
-    ensures halts_read { HaltsRead (word_in profile cells.now) from result }
-    ensures kept_kinds { KeptKinds profile cells.now table.now kinds.new }
+// What is answered of a refusal at a row.
+fn refused(refusal: Refusal, row: usize) -> TraceRead
+    ensures { result ≡ refused_read (number_of refusal) row }
 {
-    let mut at = from;
-    while at < cells.len() / Row::WIDTH {
-        let kind = note_kind(profile, cells, at, table, kinds);
+    TraceRead {
+        refusal: u32::from(refusal),
+        row,
+        program_rows: 0,
+    }
+}
+
+// The first row from `from` on that is no HALT, or the end.
+fn halts(lent: &LentTrace<'_>, from: usize, kinds: &mut [u8]) -> usize
+    requires { (from ≤ length lent.now.cells.now / row_width) × KeptKinds lent.now.profile lent.now.cells.now lent.now.table.now kinds.old }
+    ensures halts_read { HaltsRead (word_in lent.now.profile lent.now.cells.now) from result }
+    ensures kept_kinds { KeptKinds lent.now.profile lent.now.cells.now lent.now.table.now kinds.new }
+{
+    for at in from..lent.cells.len() / Row::WIDTH {
+        let kind = note_kind(lent, at, kinds);
         let RowKind::Halt = kind else {
             return at;
         };
-        at += 1;
     }
-    at
+    lent.cells.len() / Row::WIDTH
 }
 
 // The answer behind a Block that ends before row `next`.
 fn behind_block(
-    profile: Profile,
-    cells: &[u64],
+    lent: &LentTrace<'_>,
     next: usize,
-    wrong: Wrong,
-    table: &[u8; 256],
+    wrong: Option<usize>,
     kinds: &mut [u8],
 ) -> TraceRead
-    requires { (next ≤ length cells.now / row_width) × KeptKinds profile cells.now table.now kinds.old }
-    ensures behind_read { BehindRead (all_rows cells.now) (word_in profile cells.now) next (told_wrong wrong) result }
-    ensures kept_kinds { KeptKinds profile cells.now table.now kinds.new }
+    requires { (next ≤ length lent.now.cells.now / row_width) × KeptKinds lent.now.profile lent.now.cells.now lent.now.table.now kinds.old }
+    ensures behind_read { BehindRead (all_rows lent.now.cells.now) (word_in lent.now.profile lent.now.cells.now) next (told_wrong wrong) result }
+    ensures kept_kinds { KeptKinds lent.now.profile lent.now.cells.now lent.now.table.now kinds.new }
 {
-    let end = halts(profile, cells, next, table, kinds);
-    let rows = cells.len() / Row::WIDTH;
+    let end = halts(lent, next, kinds);
+    let rows = lent.cells.len() / Row::WIDTH;
     if (next == rows) | (end < rows) {
-        return TraceRead {
-            refusal: Refusal::NO_WORD_OF_GRAMMAR,
-            row: end,
-            program_rows: 0,
-        };
+        return refused(Refusal::NoWordOfGrammar, end);
     }
     match wrong {
-        Wrong::At(row) => TraceRead {
-            refusal: Refusal::WRONG_FLAG_OR_COUNT,
-            row,
-            program_rows: 0,
-        },
-        Wrong::Nowhere => TraceRead {
+        Some(row) => refused(Refusal::WrongFlagOrCount, row),
+        None => TraceRead {
             refusal: 0,
             row: 0,
             program_rows: next,
@@ -79,43 +82,28 @@ fn behind_block(
 }
 
 // The answer of a buffer that 2 and 11 pass.
-fn read_cells(profile: Profile, cells: &[u64], table: &[u8; 256], kinds: &mut [u8]) -> TraceRead
-    requires { KeptKinds profile cells.now table.now kinds.old }
-    ensures value { result ≡ trace_read (cells_answer profile cells.now) }
-    ensures kept_kinds { KeptKinds profile cells.now table.now kinds.new }
+fn read_cells(lent: &LentTrace<'_>, kinds: &mut [u8]) -> TraceRead
+    requires { KeptKinds lent.now.profile lent.now.cells.now lent.now.table.now kinds.old }
+    ensures value { result ≡ trace_read (cells_answer lent.now.profile lent.now.cells.now) }
+    ensures kept_kinds { KeptKinds lent.now.profile lent.now.cells.now lent.now.table.now kinds.new }
 {
-    let root = block(profile, cells, 0, 64, 0, table, kinds);
+    let root = block(lent, 0, 64, 0, kinds);
     match root {
-        Part::Refused(number, row) => TraceRead {
-            refusal: number,
-            row,
-            program_rows: 0,
-        },
-        Part::Done(next, wrong) => behind_block(profile, cells, next, wrong, table, kinds),
+        Err(part) => refused(part.refusal, part.row),
+        Ok((next, wrong)) => behind_block(lent, next, wrong, kinds),
     }
 }
 
 // The answer of a reader that is lent so many depth numbers, without writing them: 2, 11, then 12, 15 or 13, else accepted.
-fn tell_trace(
-    profile: Profile,
-    cells: &[u64],
-    depths: usize,
-    table: &[u8; 256],
-    kinds: &mut [u8],
-) -> TraceRead
-    requires { KeptKinds profile cells.now table.now kinds.old }
-    ensures tells_trace { TellsTrace profile cells.now depths result }
-    ensures kept_kinds { KeptKinds profile cells.now table.now kinds.new }
+fn tell_trace(lent: &LentTrace<'_>, depths: usize, kinds: &mut [u8]) -> TraceRead
+    requires { KeptKinds lent.now.profile lent.now.cells.now lent.now.table.now kinds.old }
+    ensures tells_trace { TellsTrace lent.now.profile lent.now.cells.now depths result }
+    ensures kept_kinds { KeptKinds lent.now.profile lent.now.cells.now lent.now.table.now kinds.new }
 {
-    let number = refusal(profile, cells, depths);
-    if number != 0 {
-        return TraceRead {
-            refusal: number,
-            row: 0,
-            program_rows: 0,
-        };
+    if let Err(number) = refusal(lent.profile, lent.cells, depths) {
+        return refused(number, 0);
     }
-    read_cells(profile, cells, table, kinds)
+    read_cells(lent, kinds)
 }
 
 // The same, by a table of its own: no row is looked at twice, so no kind is kept.
@@ -124,7 +112,12 @@ pub fn validate(profile: Profile, cells: &[u64], depths: usize) -> TraceRead
 {
     let table = table_for(profile, cells.len() / Row::WIDTH);
     let mut kinds = [UNKNOWN; 0];
-    tell_trace(profile, cells, depths, &table, &mut kinds)
+    let lent = LentTrace {
+        profile,
+        cells,
+        table: &table,
+    };
+    tell_trace(&lent, depths, &mut kinds)
 }
 
 // The same with a table and a list that are lent for it, whatever they hold: it leaves the profile's table, and kinds of rows.
@@ -140,25 +133,24 @@ pub fn validate_keeping(
 {
     *table = table_for(profile, cells.len() / Row::WIDTH);
     forget(kinds);
-    tell_trace(profile, cells, depths, table, kinds)
+    let lent = LentTrace {
+        profile,
+        cells,
+        table,
+    };
+    tell_trace(&lent, depths, kinds)
 }
 
 // Reads a trace with a list that has nothing wrong of its rows.
-fn read_with(
-    profile: Profile,
-    cells: &[u64],
-    depths: &mut [u32],
-    table: &[u8; 256],
-    kinds: &mut [u8],
-) -> TraceRead
-    requires { KeptKinds profile cells.now table.now kinds.old }
-    ensures { ReadsTrace profile cells.now depths.old result depths.new }
+fn read_with(lent: &LentTrace<'_>, depths: &mut [u32], kinds: &mut [u8]) -> TraceRead
+    requires { KeptKinds lent.now.profile lent.now.cells.now lent.now.table.now kinds.old }
+    ensures { ReadsTrace lent.now.profile lent.now.cells.now depths.old result depths.new }
 {
-    let read = tell_trace(profile, cells, depths.len(), table, kinds);
+    let read = tell_trace(lent, depths.len(), kinds);
     if read.refusal != 0 {
         return read;
     }
-    fill(profile, cells, depths, table, kinds);
+    fill(lent, depths, kinds);
     read
 }
 
@@ -168,7 +160,12 @@ fn read_few(profile: Profile, cells: &[u64], depths: &mut [u32]) -> TraceRead
 {
     let table = table_for(profile, 0);
     let mut kinds = [UNKNOWN; FEW_ROWS];
-    read_with(profile, cells, depths, &table, &mut kinds)
+    let lent = LentTrace {
+        profile,
+        cells,
+        table: &table,
+    };
+    read_with(&lent, depths, &mut kinds)
 }
 
 // Reads a trace that the smaller list holds, or any other.
@@ -177,7 +174,12 @@ fn read_short(profile: Profile, cells: &[u64], depths: &mut [u32]) -> TraceRead
 {
     let table = table_for(profile, cells.len() / Row::WIDTH);
     let mut kinds = [UNKNOWN; SHORT_LIST];
-    read_with(profile, cells, depths, &table, &mut kinds)
+    let lent = LentTrace {
+        profile,
+        cells,
+        table: &table,
+    };
+    read_with(&lent, depths, &mut kinds)
 }
 
 // Reads a longer trace, or any other.
@@ -186,7 +188,12 @@ fn read_long(profile: Profile, cells: &[u64], depths: &mut [u32]) -> TraceRead
 {
     let table = table_for(profile, cells.len() / Row::WIDTH);
     let mut kinds = [UNKNOWN; LONG_LIST];
-    read_with(profile, cells, depths, &table, &mut kinds)
+    let lent = LentTrace {
+        profile,
+        cells,
+        table: &table,
+    };
+    read_with(&lent, depths, &mut kinds)
 }
 
 // Reads a trace: the answer, and, where it is accepted, one depth a row. A refusal changes no depth.

@@ -1,7 +1,9 @@
 -- What the reader's functions answer of a part of the word: a tree that the rows spell, or what is right of every word that has come here.
-use Rattle.std.specs.Prelude.{◌≡◌, Bool, true, false, List, [], ◌∷◌, ℕ, ◌+◌, ◌≤◌, ◌<◌, eqb, length}
+use Rattle.std.specs.Prelude.{Option as Answered, Some, None, Result, Ok, Err, ◌≡◌, Bool, true, false, List, [], ◌∷◌, ℕ, ◌+◌, ◌≤◌, ◌<◌, eqb, length}
 use Rattle.std.proofs.Math.Option.{Option, none, some}
 use Rattle.groups.specs.Constants.{no_word_of_grammar, block65_deep}
+use Rattle.groups.specs.Refusals.{number_of}
+use Rattle.groups.specs.declared.refusal.Refusal.{Refusal}
 use Rattle.rows.specs.declared.records.profile.Profile.{Profile}
 use Rattle.rows.specs.records.Buffers.{h4_of}
 use Rattle.theory_readings.specs.Tokens.{Token}
@@ -13,10 +15,7 @@ use Rattle.reader.specs.Rows.{token_at, row_kind_of}
 use Rattle.reader.specs.ways.FromRow.{rows_from}
 use Rattle.reader.specs.declared.token.RowKind.{RowKind}
 use Rattle.reader.specs.declared.token.RowKind.TheVariants.{Span, Join, One, Loop, Op, Respan, Repeat, End, Halt, Nothing}
-use Rattle.reader.specs.declared.grammar.Wrong.{Wrong}
-use Rattle.reader.specs.declared.grammar.Wrong.TheVariants.{Nowhere, At}
-use Rattle.reader.specs.declared.grammar.Part.{Part}
-use Rattle.reader.specs.declared.grammar.Part.TheVariants.{Done, Refused}
+use Rattle.reader.specs.declared.grammar.PartRefused.{PartRefused}
 
 -- NUMBERS AND VALUES
 
@@ -26,13 +25,20 @@ pub data PartRead : Type 0 where
   refused_at : (number row : ℕ) → PartRead
 
 -- the row of a wrong cell
-abbrev pub told_wrong : Wrong → Option ℕ
-told_wrong Nowhere = none
-told_wrong (At row) = some row
+abbrev pub told_wrong : Answered ℕ → Option ℕ
+told_wrong None = none
+told_wrong (Some row) = some row
 
-abbrev pub told_part : Part → PartRead
-told_part (Done next wrong) = up_to next (told_wrong wrong)
-told_part (Refused number row) = refused_at number row
+-- the number and the row of a refusal
+abbrev pub told_refused : PartRefused → PartRead
+told_refused r = refused_at (number_of r.refusal) r.row
+
+abbrev pub refused_for : Refusal → (row : ℕ) → PartRefused
+refused_for refusal row = record { refusal = refusal; row = row }
+
+abbrev pub told_part : Result (ℕ × Answered ℕ) PartRefused → PartRead
+told_part (Ok part) = up_to part.0 (told_wrong part.1)
+told_part (Err r) = told_refused r
 
 -- SINGLE ROWS
 

@@ -16,6 +16,10 @@ use Rattle.reader.specs.declared.trace.TraceRead.{TraceRead}
 unfoldable pub cells_answer : Profile → (cells : List ℕ) → ReaderAnswer
 cells_answer p cells = answer_of_word (all_rows cells) (read_word (word_in p cells))
 
+-- the values of a refusal at a row
+abbrev pub refused_read : (number row : ℕ) → TraceRead
+refused_read number row = record { refusal = number; row = row; program_rows = 0 }
+
 -- row r is the first from `row` on that is no HALT, or the end
 unfoldable pub HaltsRead : (w : List Token) → (row r : ℕ) → Type 0
 HaltsRead w row r =

@@ -14,21 +14,21 @@ pub loop-at-init : goal.loop-at-init
 loop-at-init c = (omega arith, omega arith, refl, refl, refl)
 
 pub loop-at-preserved : goal.loop-at-preserved
-loop-at-preserved c = let n = rows_in c.args.profile c.args.cells.now in
-    let j : c.loop-at.at < length c.args.cells.now / 49 = search rules in
+loop-at-preserved c = let n = rows_in c.args.lent.now.profile c.args.lent.now.cells.now in
+    let j : c.loop-at.at < length c.args.lent.now.cells.now / 49 = search rules in
     let m : c.loop-at.at < length c.loop-at.depths = omega arith in (
       omega arith,
       omega (arith, behind-le c.kept_kind-kind.result c.depth_at-depth.result, level-le c.kept_kind-kind.result c.loop-at.opened),
       rw length-set c.loop-at.invariant.2,
       drop-set-lt _ _ _ _ j ∙ c.loop-at.invariant.3,
       rw (c.open_behind-opened.ensures, c.depth_at-depth.ensures, c.kept_kind-kind.ensures c.requires.2)
-          (scan_step (word_in c.args.profile c.args.cells.now) _ c.loop-at.at c.loop-at.opened c.loop-at.depths (omega arith) m c.loop-at.invariant.4),
+          (scan_step (word_in c.args.lent.now.profile c.args.lent.now.cells.now) _ c.loop-at.at c.loop-at.opened c.loop-at.depths (omega arith) m c.loop-at.invariant.4),
     )
 
 pub shape_of-depths : goal.shape_of-depths
 shape_of-depths c = c.loop-at.invariant.2
 
 pub returns : goal.returns
-returns c = let q : c.loop-at.at ≡ length c.args.cells.now / 49 = omega arith in
-    let z = rw q at (scan-done (word_in c.args.profile c.args.cells.now) _ c.loop-at.at c.loop-at.opened c.loop-at.depths (omega (arith, rows_in c.args.profile c.args.cells.now)) c.loop-at.invariant.4) in
-    cc (z, c.loop-at.invariant.3, take-append-drop (length c.args.cells.now / 49) c.loop-at.depths)
+returns c = let q : c.loop-at.at ≡ length c.args.lent.now.cells.now / 49 = omega arith in
+    let z = rw q at (scan-done (word_in c.args.lent.now.profile c.args.lent.now.cells.now) _ c.loop-at.at c.loop-at.opened c.loop-at.depths (omega (arith, rows_in c.args.lent.now.profile c.args.lent.now.cells.now)) c.loop-at.invariant.4) in
+    cc (z, c.loop-at.invariant.3, take-append-drop (length c.args.lent.now.cells.now / 49) c.loop-at.depths)

@@ -1,7 +1,7 @@
 -- `depths::fill` meets its contract.
 use mathlib.Core.Path.{◌≡◌}
 use mathlib.Core.List.{◌++◌}
-use Prim.Native.Nat.{◌≤◌, ◌-◌, ◌/◌}
+use Prim.Native.Nat.{◌≤◌, ◌/◌}
 use lib.ListN.{length, take, drop}
 use Rattle.theory_readings.specs.ways.Parser.{levels}
 use Rattle.reader.specs.Rows.{word_in}
@@ -9,8 +9,5 @@ use Rattle.reader.proofs.depths.fill.Given as goal
 
 abbrev pub invariant-loop-at : goal.invariant-loop-at
 invariant-loop-at l =
-    (l.at ≤ length l.cells / 49) × (l.opened ≤ l.at) × (length l.depths ≡ length l.initial.depths) × (drop (length l.cells / 49) l.depths ≡ drop (length l.cells / 49) l.initial.depths)
-    × (take l.at l.depths ++ levels l.opened (drop l.at (word_in l.profile l.cells)) ≡ levels 0 (word_in l.profile l.cells))
-
-abbrev pub decreases-loop-at : goal.decreases-loop-at
-decreases-loop-at l = length l.cells / 49 - l.at
+    (l.at ≤ length l.lent.cells.now / 49) × (l.opened ≤ l.at) × (length l.depths ≡ length l.initial.depths) × (drop (length l.lent.cells.now / 49) l.depths ≡ drop (length l.lent.cells.now / 49) l.initial.depths)
+    × (take l.at l.depths ++ levels l.opened (drop l.at (word_in l.lent.profile l.lent.cells.now)) ≡ levels 0 (word_in l.lent.profile l.lent.cells.now))

@@ -11,15 +11,15 @@ use Rattle.reader.proofs.PartLaws.{PassesFrom}
 use Rattle.reader.proofs.grammar.+block_passes.Given as goal
 
 abbrev pub decreases-block : goal.decreases-block
-decreases-block l = 2 * (length l.cells.now / 49 - l.row)
+decreases-block l = 2 * (length l.lent.now.cells.now / 49 - l.row)
 
 abbrev pub decreases-passes : goal.decreases-passes
-decreases-passes l = 2 * (length l.cells.now / 49 - (l.row + 1)) + 1
+decreases-passes l = 2 * (length l.lent.now.cells.now / 49 - (l.row + 1)) + 1
 
 abbrev pub invariant-passes-loop-next : goal.invariant-passes-loop-next
 invariant-passes-loop-next l =
-    (length l.kinds ≡ length l.initial.kinds) × KeptKinds l.profile l.cells l.table l.kinds × (l.row < l.at) × (l.at ≤ length l.cells / 49) × (1 ≤ l.count) × (l.count ≤ l.at)
-    × ((r : PartRead) → PassesFrom (all_rows l.cells) (word_in l.profile l.cells) l.row l.at l.left l.flag (l.count - 1) (told_wrong l.so_far) r → PassesFrom (all_rows l.cells) (word_in l.profile l.cells) l.row (l.row + 1) l.left l.flag 0 none r)
+    (length l.kinds ≡ length l.initial.kinds) × KeptKinds l.lent.profile l.lent.cells.now l.lent.table.now l.kinds × (l.row < l.at) × (l.at ≤ length l.lent.cells.now / 49) × (1 ≤ l.count) × (l.count ≤ l.at)
+    × ((r : PartRead) → PassesFrom (all_rows l.lent.cells.now) (word_in l.lent.profile l.lent.cells.now) l.row l.at l.left l.flag (l.count - 1) (told_wrong l.so_far) r → PassesFrom (all_rows l.lent.cells.now) (word_in l.lent.profile l.lent.cells.now) l.row (l.row + 1) l.left l.flag 0 none r)
 
 abbrev pub decreases-passes-loop-next : goal.decreases-passes-loop-next
-decreases-passes-loop-next l = length l.cells / 49 - l.at
+decreases-passes-loop-next l = length l.lent.cells.now / 49 - l.at

@@ -19,14 +19,14 @@ pub note_kind-kind-requires : goal.note_kind-kind-requires
 note_kind-kind-requires c = c.loop-at.invariant.1
 
 pub overflow_add-at : goal.overflow_add-at
-overflow_add-at c = let op_row : c.loop-at.at < length c.args.cells.now / 49 = omega (arith, rows_in c.args.profile c.args.cells.now, row_inside (word_in c.args.profile c.args.cells.now) c.loop-at.at c.note_kind-kind.result c.note_kind-kind.ensures.value (op-something c.note_kind-kind.result c.in-Op.in-Op-own.keys1)) in let h = op_row in omega arith
+overflow_add-at c = let op_row : c.loop-at.at < length c.args.lent.now.cells.now / 49 = omega (arith, rows_in c.args.lent.now.profile c.args.lent.now.cells.now, row_inside (word_in c.args.lent.now.profile c.args.lent.now.cells.now) c.loop-at.at c.note_kind-kind.result c.note_kind-kind.ensures.value (op-something c.note_kind-kind.result c.in-Op.in-Op-own.keys1)) in let h = op_row in omega arith
 
 pub loop-at-smaller : goal.loop-at-smaller
-loop-at-smaller c = let op_row : c.loop-at.at < length c.args.cells.now / 49 = omega (arith, rows_in c.args.profile c.args.cells.now, row_inside (word_in c.args.profile c.args.cells.now) c.loop-at.at c.note_kind-kind.result c.note_kind-kind.ensures.value (op-something c.note_kind-kind.result c.in-Op.in-Op-own.keys1)) in let h = op_row in omega arith
+loop-at-smaller c = let op_row : c.loop-at.at < length c.args.lent.now.cells.now / 49 = omega (arith, rows_in c.args.lent.now.profile c.args.lent.now.cells.now, row_inside (word_in c.args.lent.now.profile c.args.lent.now.cells.now) c.loop-at.at c.note_kind-kind.result c.note_kind-kind.ensures.value (op-something c.note_kind-kind.result c.in-Op.in-Op-own.keys1)) in let h = op_row in omega arith
 
 pub loop-at-preserved : goal.loop-at-preserved
-loop-at-preserved c = let op_row : c.loop-at.at < length c.args.cells.now / 49 = omega (arith, rows_in c.args.profile c.args.cells.now, row_inside (word_in c.args.profile c.args.cells.now) c.loop-at.at c.note_kind-kind.result c.note_kind-kind.ensures.value (op-something c.note_kind-kind.result c.in-Op.in-Op-own.keys1)) in let h = op_row in
-    (search rules, c.note_kind-kind.ensures.kept_kinds, omega arith, omega arith, λ r k. c.loop-at.invariant.4 r (ops-more _ _ _ _ (rw c.note_kind-kind.ensures.value at c.in-Op.in-Op-own.keys1) (omega (arith, rows_in c.args.profile c.args.cells.now)) r k))
+loop-at-preserved c = let op_row : c.loop-at.at < length c.args.lent.now.cells.now / 49 = omega (arith, rows_in c.args.lent.now.profile c.args.lent.now.cells.now, row_inside (word_in c.args.lent.now.profile c.args.lent.now.cells.now) c.loop-at.at c.note_kind-kind.result c.note_kind-kind.ensures.value (op-something c.note_kind-kind.result c.in-Op.in-Op-own.keys1)) in let h = op_row in
+    (search rules, c.note_kind-kind.ensures.kept_kinds, omega arith, omega arith, λ r k. c.loop-at.invariant.4 r (ops-more _ _ _ _ (rw c.note_kind-kind.ensures.value at c.in-Op.in-Op-own.keys1) (omega (arith, rows_in c.args.lent.now.profile c.args.lent.now.cells.now)) r k))
 
 pub ask-own-requires : goal.ask-own-requires
 ask-own-requires c = let h = stands _ _ _ _ End c.note_kind-kind.ensures.value c.in-End.is tt in
@@ -48,10 +48,10 @@ returns-in-End c = let h = stands _ _ _ _ End c.note_kind-kind.ensures.value c.i
 
 pub returns-in-Span : goal.returns-in-Span
 unfolding Ahead
-returns-in-Span c = record {
+returns-in-Span c = rw c.no_word.ensures (record {
   ops_read = record {
     ahead = tt;
-    right = c.loop-at.invariant.4 _ (ops-no _ _ _ _ (rw c.note_kind-kind.ensures.value at (opened c.in-Span.in-Span-own.keys3)) (omega (arith, rows_in c.args.profile c.args.cells.now)));
+    right = c.loop-at.invariant.4 _ (ops-no _ _ _ _ (rw c.note_kind-kind.ensures.value at (opened c.in-Span.in-Span-own.keys3)) (omega (arith, rows_in c.args.lent.now.profile c.args.lent.now.cells.now)));
   };
   kept_kinds = c.note_kind-kind.ensures.kept_kinds;
-}
+})

@@ -10,8 +10,8 @@ use Rattle.reader.proofs.grammar.ops.Given as goal
 
 abbrev pub invariant-loop-at : goal.invariant-loop-at
 invariant-loop-at l =
-    (length l.kinds ≡ length l.initial.kinds) × KeptKinds l.profile l.cells l.table l.kinds × (l.row ≤ l.at) × (l.at ≤ length l.cells / 49)
-    × ((r : PartRead) → OpsRight (all_rows l.cells) (word_in l.profile l.cells) l.at l.flag r → OpsRight (all_rows l.cells) (word_in l.profile l.cells) l.row l.flag r)
+    (length l.kinds ≡ length l.initial.kinds) × KeptKinds l.lent.profile l.lent.cells.now l.lent.table.now l.kinds × (l.row ≤ l.at) × (l.at ≤ length l.lent.cells.now / 49)
+    × ((r : PartRead) → OpsRight (all_rows l.lent.cells.now) (word_in l.lent.profile l.lent.cells.now) l.at l.flag r → OpsRight (all_rows l.lent.cells.now) (word_in l.lent.profile l.lent.cells.now) l.row l.flag r)
 
 abbrev pub decreases-loop-at : goal.decreases-loop-at
-decreases-loop-at l = length l.cells / 49 - l.at
+decreases-loop-at l = length l.lent.cells.now / 49 - l.at

@@ -1,5 +1,5 @@
 -- `trace::behind_block` meets its contract.
-use mathlib.Core.Path.{sym, ap}
+use mathlib.Core.Path.{◌∙◌, sym, ap}
 use Rattle.reader.specs.ways.WholeWord.{BehindRead}
 use Rattle.reader.specs.ways.Parts.{told_wrong}
 use Rattle.reader.proofs.RowTokens.{rows_in}
@@ -8,12 +8,12 @@ use Rattle.reader.proofs.trace.behind_block.Goals as goal
 
 pub returns-then-next-rows : goal.returns-then-next-rows
 unfolding BehindRead
-returns-then-next-rows c = record { behind_read = λ b k u. behind-no _ _ _ _ b (sym (rows_in c.args.profile c.args.cells.now)) c.halts-end.ensures.halts_read _ c.if-next-rows.true; kept_kinds = c.halts-end.ensures.kept_kinds }
+returns-then-next-rows c = record { behind_read = λ b k u. c.refused.ensures ∙ behind-no _ _ _ _ b (sym (rows_in c.args.lent.now.profile c.args.lent.now.cells.now)) c.halts-end.ensures.halts_read _ c.if-next-rows.true; kept_kinds = c.halts-end.ensures.kept_kinds }
 
-pub returns-in-At : goal.returns-in-At
+pub returns-in-Some : goal.returns-in-Some
 unfolding BehindRead
-returns-in-At c = record { behind_read = λ b k u. behind-wrong _ _ _ _ b (sym (rows_in c.args.profile c.args.cells.now)) c.halts-end.ensures.halts_read _ _ _ c.if-next-rows.false (ap told_wrong c.in-At.is) u; kept_kinds = c.halts-end.ensures.kept_kinds }
+returns-in-Some c = record { behind_read = λ b k u. c.refused-in-Some.ensures ∙ behind-wrong _ _ _ _ b (sym (rows_in c.args.lent.now.profile c.args.lent.now.cells.now)) c.halts-end.ensures.halts_read _ _ _ c.if-next-rows.false (ap told_wrong c.in-Some.is) u; kept_kinds = c.halts-end.ensures.kept_kinds }
 
-pub returns-in-Nowhere : goal.returns-in-Nowhere
+pub returns-in-None : goal.returns-in-None
 unfolding BehindRead
-returns-in-Nowhere c = record { behind_read = λ b k u. behind-right _ _ _ _ b (sym (rows_in c.args.profile c.args.cells.now)) c.halts-end.ensures.halts_read _ _ c.if-next-rows.false (ap told_wrong c.in-Nowhere.is) u k; kept_kinds = c.halts-end.ensures.kept_kinds }
+returns-in-None c = record { behind_read = λ b k u. behind-right _ _ _ _ b (sym (rows_in c.args.lent.now.profile c.args.lent.now.cells.now)) c.halts-end.ensures.halts_read _ _ c.if-next-rows.false (ap told_wrong c.in-None.is) u k; kept_kinds = c.halts-end.ensures.kept_kinds }

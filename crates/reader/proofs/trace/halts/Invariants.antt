@@ -1,6 +1,6 @@
 -- `trace::halts` meets its contract.
 use mathlib.Core.Path.{◌≡◌}
-use Prim.Native.Nat.{◌≤◌, ◌-◌, ◌/◌}
+use Prim.Native.Nat.{◌≤◌, ◌/◌}
 use lib.ListN.{length}
 use Rattle.theory_readings.specs.Readings.{Block}
 use Rattle.theory_readings.specs.ways.Parser.{after_halt}
@@ -11,8 +11,5 @@ use Rattle.reader.proofs.trace.halts.Given as goal
 
 abbrev pub invariant-loop-at : goal.invariant-loop-at
 invariant-loop-at l =
-    (length l.kinds ≡ length l.initial.kinds) × KeptKinds l.profile l.cells l.table l.kinds × (l.from ≤ l.at) × (l.at ≤ length l.cells / 49)
-    × ((b : Block) → after_halt b (rows_from (word_in l.profile l.cells) l.from) ≡ after_halt b (rows_from (word_in l.profile l.cells) l.at))
-
-abbrev pub decreases-loop-at : goal.decreases-loop-at
-decreases-loop-at l = length l.cells / 49 - l.at
+    (length l.kinds ≡ length l.initial.kinds) × KeptKinds l.lent.profile l.lent.cells.now l.lent.table.now l.kinds × (l.from ≤ l.at) × (l.at ≤ length l.lent.cells.now / 49)
+    × ((b : Block) → after_halt b (rows_from (word_in l.lent.profile l.lent.cells.now) l.from) ≡ after_halt b (rows_from (word_in l.lent.profile l.lent.cells.now) l.at))
