@@ -1,6 +1,9 @@
 -- "Inputs that were answered get the same cells as before." (N2) Call records: a record that encoded a call whose cells are below p encodes the same
 -- call. What it was refused by may have changed: a clk, ctx or depth over 32 bits is 23 and no longer 1.
-use Rattle.std.specs.Prelude.{Option, Some, None}
+use Rattle.std.specs.Prelude.{Option, Some, None, Result, Ok, Err}
+use Rattle.groups.specs.declared.refusal.Refusal.{Refusal}
+use Rattle.groups.specs.Refusals.{told, told_or}
+use Rattle.groups.specs.Constants.{stored_absent}
 use Rattle.rows.specs.declared.records.continuation.ExecutionContextInfo.{ExecutionContextInfo}
 use mathlib.Core.Path.{◌≡◌, ◌∙◌, refl, sym, ap, subst}
 use mathlib.Core.Bool.{Bool, true, false, ◌||◌}
@@ -22,12 +25,10 @@ use Rattle.rows.specs.declared.records.ids.MastNodeId.{MastNodeId}
 use Rattle.rows.specs.declared.records.state.SystemState.{SystemState}
 use Rattle.rows.specs.declared.records.continuation.Continuation.{Continuation}
 use Rattle.rows.specs.declared.records.continuation.StoredValues.{StoredValues}
-use Rattle.rows.specs.declared.records.call_record.InfoFound.{InfoFound}
-use Rattle.rows.specs.declared.records.call_record.SystemFound.{SystemFound}
 use Rattle.rows.specs.records.Forests.{node_id}
 use Rattle.rows.specs.records.DecoderRows.{word_cells}
 use Rattle.rows.specs.records.Built.{cells16}
-use Rattle.rows.specs.records.CallRecords.{RecordedCall, stores, finishes, of32, condition_in, callee_in, info_in, continuation_on, names_no_kind, continuation_in, names_nothing, stored_in_record, system_in, stack_in, few_cells, many_cells, registers_in, finish_in, recorded_storing, call_in, told_info, told_system}
+use Rattle.rows.specs.records.CallRecords.{RecordedCall, stores, finishes, of32, condition_in, callee_in, info_in, continuation_on, names_no_kind, continuation_in, names_nothing, stored_in_record, system_in, stack_in, few_cells, many_cells, registers_in, finish_in, recorded_storing, call_in}
 use Rattle.rows.specs.passes.Passes.{word_from}
 use Rattle.theory_reductions.specs.Below.{Below}
 use Rattle.theory_reductions.specs.ways.ReadSteps.{read_answer}
@@ -262,11 +263,11 @@ same-call_in r c e h = by (eqb (get_or r 0 0) 0) e
     by false e = same-finish_in r c e h
 
 -- an info that is found
-pub same-told_info : (found : InfoFound) (info : Option ExecutionContextInfo) → told_info_before found ≡ accepted info → told_info found ≡ accepted info
-same-told_info (InfoFound.Is x) info e = e
-same-told_info InfoFound.Over info e = never 1 info e
+pub same-told_info : (found : Result (Option ExecutionContextInfo) Refusal) (info : Option ExecutionContextInfo) → told_info_before found ≡ accepted info → told found ≡ accepted info
+same-told_info (Ok x) info e = e
+same-told_info (Err refusal) info e = never 1 info e
 
 -- a system state that is found
-pub same-told_system : (found : SystemFound) (system : SystemState) → told_system_before found ≡ accepted system → told_system found ≡ accepted system
-same-told_system (SystemFound.Is x) system e = e
-same-told_system SystemFound.Over system e = never 1 system e
+pub same-told_system : (found : Option SystemState) (system : SystemState) → told_system_before found ≡ accepted system → told_or stored_absent found ≡ accepted system
+same-told_system (Some x) system e = e
+same-told_system None system e = never 1 system e

@@ -2,7 +2,8 @@
 -- theorems of proofs/ say that what these definitions let pass is as it was. They stand as they stood, under their names; one whose name is taken by what
 -- stands there now ends in `Before`. What a definition here cites is today's: what N2 changed of it has a theorem of its own, and what came later is not
 -- compared (`made` refuses the start of a SYSCALL node since N8). New, for the theorems' premises: `group_cells`, `LentBelow`, `depth_in`, `Narrow32`, `call_cells`.
-use Rattle.std.specs.Prelude.{Option, Some, None}
+use Rattle.std.specs.Prelude.{Option, Some, None, Result, Ok, Err}
+use Rattle.groups.specs.declared.refusal.Refusal.{Refusal}
 use Rattle.rows.specs.declared.records.continuation.ExecutionContextInfo.{ExecutionContextInfo}
 use Rattle.std.specs.Prelude.{Bool, not, ◌||◌, List, [], ◌∷◌, ◌++◌, ℕ, ◌+◌, ◌*◌, ◌/◌, ◌<◌, leb, ltb, eqb, take, get_or}
 use Rattle.field.specs.Modulus.{P}
@@ -25,8 +26,6 @@ use Rattle.rows.specs.declared.records.state.StackCols.{StackCols}
 use Rattle.rows.specs.declared.records.continuation.Continuation.{Continuation}
 use Rattle.rows.specs.declared.records.continuation.Captured.{Captured}
 use Rattle.rows.specs.declared.records.continuation.StoredValues.{StoredValues}
-use Rattle.rows.specs.declared.records.call_record.InfoFound.{InfoFound}
-use Rattle.rows.specs.declared.records.call_record.SystemFound.{SystemFound}
 use Rattle.rows.specs.records.Profiles.{profile_wrong}
 use Rattle.rows.specs.records.Forests.{Forest, node_id}
 use Rattle.rows.specs.records.Addresses.{Queues}
@@ -242,13 +241,13 @@ unfoldable pub call_cells : RecordedCall → List ℕ
 call_cells (stores values) = callee_cells values.captured.dyn_callee_hash ++ info_cells values.captured.ctx_info
 call_cells (finishes k system stack registers) = state_cells system stack ++ register_cells registers
 
-abbrev pub told_info_before : InfoFound → Answer (Option ExecutionContextInfo)
-told_info_before (InfoFound.Is info) = accepted info
-told_info_before InfoFound.Over = refused big_opcode
+abbrev pub told_info_before : Result (Option ExecutionContextInfo) Refusal → Answer (Option ExecutionContextInfo)
+told_info_before (Ok info) = accepted info
+told_info_before (Err refusal) = refused big_opcode
 
-abbrev pub told_system_before : SystemFound → Answer SystemState
-told_system_before (SystemFound.Is system) = accepted system
-told_system_before SystemFound.Over = refused big_opcode
+abbrev pub told_system_before : Option SystemState → Answer SystemState
+told_system_before (Some system) = accepted system
+told_system_before None = refused big_opcode
 
 -- THE PASSES
 
