@@ -1,228 +1,140 @@
-// The records of a call, each from the numbers of an input that begin at a place.
-ghost use Rattle.std.specs.Prelude.{◌<◌};
+// The records of a call, each from the numbers that begin a list.
 
-use groups::helpers::OperationHelperRegisters;
 use groups::word::Word;
-use rows::cycles::tracer::{CoreTraceGenerationTracer, StoredContinuation};
+use rows::cycles::tracer::CoreTraceGenerationTracer;
 use rows::records::address_state::{DecoderState, Positions};
-use rows::records::continuation::{
-    CalleeWord, Captured, ContextInfo, Continuation, ExecutionContextInfo, LoopCondition,
-    StoredValues,
-};
+use rows::records::continuation::{Captured, Continuation, ExecutionContextInfo, StoredValues};
 use rows::records::ids::{ContextId, MastNodeId, RowIndex};
 use rows::records::state::{StackCols, StackState, SystemCols, SystemState};
-use vectors_shared::registers::registers;
-use vectors_shared::text::{item, low32};
+use vectors_shared::numbers::Numbers;
 
 // A continuation by its number from 1 on and up to three numbers.
-fn continuation_of(kind: u64, first: u32, second: u32, third: u32) -> Continuation {
-    let node = MastNodeId(first);
-    match kind {
-        1 => Continuation::StartNode(node),
-        2 => Continuation::FinishJoin(node),
-        3 => Continuation::FinishSplit(node),
-        4 => Continuation::FinishLoop(node),
-        5 => Continuation::FinishCall(node),
-        6 => Continuation::FinishDyn(node),
+fn continuation_of(list: Numbers<'_>) -> Continuation {
+    let node_id = MastNodeId(list.item(1));
+    match list.number(0) {
+        1 => Continuation::StartNode(node_id),
+        2 => Continuation::FinishJoin(node_id),
+        3 => Continuation::FinishSplit(node_id),
+        4 => Continuation::FinishLoop(node_id),
+        5 => Continuation::FinishCall(node_id),
+        6 => Continuation::FinishDyn(node_id),
         7 => Continuation::ResumeBasicBlock {
-            node_id: node,
-            batch_index: second,
-            op_idx_in_batch: third,
+            node_id,
+            batch_index: list.item(2),
+            op_idx_in_batch: list.item(3),
         },
         8 => Continuation::Respan {
-            node_id: node,
-            batch_index: second,
+            node_id,
+            batch_index: list.item(2),
         },
-        9 => Continuation::FinishBasicBlock(node),
+        9 => Continuation::FinishBasicBlock(node_id),
         _ => Continuation::EnterForest,
     }
 }
 
 // 0: absent, 1: zero, 2: one.
-fn condition_of(n: u64) -> LoopCondition {
-    if n == 0 {
-        return LoopCondition::Absent;
-    }
-    LoopCondition::Is(n == 2)
-}
-
-fn callee_of(present: u64, word: Word) -> CalleeWord {
-    if present == 0 {
-        return CalleeWord::Absent;
-    }
-    CalleeWord::Is(word)
-}
-
-fn info_of(present: u64, depth: u32, address: u64) -> ContextInfo {
-    if present == 0 {
-        return ContextInfo::Absent;
-    }
-    ContextInfo::Is(ExecutionContextInfo {
-        stack_depth: depth,
-        next_overflow_addr: address,
-    })
+fn condition_of(number: u64) -> Option<bool> {
+    (number != 0).then_some(number == 2)
 }
 
 // Four cells, as they stand.
-fn word_of(v: &[u64], at: usize) -> Word {
+fn word_of(list: Numbers<'_>) -> Word {
     Word(
-        item(v, at, 0),
-        item(v, at, 1),
-        item(v, at, 2),
-        item(v, at, 3),
+        list.number(0),
+        list.number(1),
+        list.number(2),
+        list.number(3),
     )
 }
 
-// Fourteen numbers: the continuation's four, the loop-body flag, the condition, the callee word (present or not, and its cells) and the
-// context info (present or not, depth, address).
-pub fn values_of(v: &[u64], at: usize) -> StoredValues
-    requires { at < 2000 }
-{
-    let continuation = continuation_of(
-        item(v, at, 0),
-        low32(item(v, at, 1)),
-        low32(item(v, at, 2)),
-        low32(item(v, at, 3)),
-    );
-    let condition = condition_of(item(v, at, 5));
-    let callee = callee_of(item(v, at, 6), word_of(v, at + 7));
-    let info = info_of(item(v, at, 11), low32(item(v, at, 12)), item(v, at, 13));
-    let captured = Captured {
-        finish_loop_condition: condition,
-        dyn_callee_hash: callee,
-        ctx_info: info,
+// The condition, the callee word (present or not, and its cells) and the context info (present or not, depth, address).
+fn captured_of(list: Numbers<'_>) -> Captured {
+    let callee = word_of(list.behind(2));
+    let info = ExecutionContextInfo {
+        stack_depth: list.item(7),
+        next_overflow_addr: list.number(8),
     };
-    StoredValues {
-        continuation,
-        is_loop_body: item(v, at, 4) != 0,
-        captured,
+    Captured {
+        finish_loop_condition: condition_of(list.number(0)),
+        dyn_callee_hash: (list.number(1) != 0).then_some(callee),
+        ctx_info: (list.number(6) != 0).then_some(info),
     }
 }
 
-fn stored_of(kind: u64, continuation: Continuation) -> StoredContinuation {
-    if kind == 0 {
-        return StoredContinuation::Nothing;
+// Fourteen numbers: the continuation's four, the loop-body flag, and the captured values.
+pub fn values_of(list: Numbers<'_>) -> StoredValues {
+    StoredValues {
+        continuation: continuation_of(list),
+        is_loop_body: list.number(4) != 0,
+        captured: captured_of(list.behind(5)),
     }
-    StoredContinuation::Is(continuation)
 }
 
 // Current and parent address.
-pub fn state_of(v: &[u64], at: usize) -> DecoderState {
+pub fn state_of(list: Numbers<'_>) -> DecoderState {
     DecoderState {
-        current_addr: item(v, at, 0),
-        parent_addr: item(v, at, 1),
+        current_addr: list.number(0),
+        parent_addr: list.number(1),
     }
 }
 
 // The positions in the queues.
-pub fn positions_of(v: &[u64], at: usize) -> Positions {
+pub fn positions_of(list: Numbers<'_>) -> Positions {
     Positions {
-        addresses: item(v, at, 0) as usize,
-        parents: item(v, at, 1) as usize,
-        ends: item(v, at, 2) as usize,
+        addresses: list.item(0),
+        parents: list.item(1),
+        ends: list.item(2),
     }
 }
 
-// Sixteen cells.
-fn sixteen(v: &[u64], at: usize) -> [u64; 16] {
-    [
-        item(v, at, 0),
-        item(v, at, 1),
-        item(v, at, 2),
-        item(v, at, 3),
-        item(v, at, 4),
-        item(v, at, 5),
-        item(v, at, 6),
-        item(v, at, 7),
-        item(v, at, 8),
-        item(v, at, 9),
-        item(v, at, 10),
-        item(v, at, 11),
-        item(v, at, 12),
-        item(v, at, 13),
-        item(v, at, 14),
-        item(v, at, 15),
-    ]
-}
-
-fn built_system_of(v: &[u64], at: usize) -> SystemCols
-    requires { at < 2000 }
-{
-    let fn_hash = word_of(v, at + 2);
+fn built_system_of(list: Numbers<'_>) -> SystemCols {
     SystemCols {
-        clk: item(v, at, 0),
-        ctx: item(v, at, 1),
-        fn_hash,
+        clk: list.number(0),
+        ctx: list.number(1),
+        fn_hash: word_of(list.behind(2)),
     }
 }
 
-fn built_stack_of(v: &[u64], at: usize) -> StackCols {
-    let top = sixteen(v, at);
+fn built_stack_of(list: Numbers<'_>) -> StackCols {
     StackCols {
-        top,
-        b0: item(v, at, 16),
-        b1: item(v, at, 17),
-        h0: item(v, at, 18),
+        top: list.array(),
+        b0: list.number(16),
+        b1: list.number(17),
+        h0: list.number(18),
     }
 }
 
 // A tracer from 46 numbers: the kept refusal, the rows, fourteen of what is stored (a continuation 0: nothing), the two addresses, the
 // three positions, and the 25 cells built last.
-pub fn tracer_of(v: &[u64], at: usize) -> CoreTraceGenerationTracer
-    requires { at < 1000 }
-{
-    let values = values_of(v, at + 2);
-    let continuation = values.continuation;
-    let stored = stored_of(item(v, at, 2), continuation);
-    let captured = values.captured;
-    let state = state_of(v, at + 16);
-    let positions = positions_of(v, at + 18);
-    let system = built_system_of(v, at + 21);
-    let stack = built_stack_of(v, at + 27);
+pub fn tracer_of(list: Numbers<'_>) -> CoreTraceGenerationTracer {
+    let values = values_of(list.behind(2));
     CoreTraceGenerationTracer {
-        refusal: low32(item(v, at, 0)),
-        row_write_index: item(v, at, 1) as usize,
-        continuation: stored,
+        refusal: list.item(0),
+        row_write_index: list.item(1),
+        continuation: (list.number(2) != 0).then_some(values.continuation),
         is_loop_body: values.is_loop_body,
-        captured,
-        decoder_state: state,
-        at: positions,
-        system_cols: system,
-        stack_cols: stack,
+        captured: values.captured,
+        decoder_state: state_of(list.behind(16)),
+        at: positions_of(list.behind(18)),
+        system_cols: built_system_of(list.behind(21)),
+        stack_cols: built_stack_of(list.behind(27)),
     }
 }
 
 // clk, ctx and four cells of fn_hash.
-pub fn system_of(v: &[u64], at: usize) -> SystemState
-    requires { at < 2000 }
-{
-    let fn_hash = word_of(v, at + 2);
+pub fn system_of(list: Numbers<'_>) -> SystemState {
     SystemState {
-        clk: RowIndex(low32(item(v, at, 0))),
-        ctx: ContextId(low32(item(v, at, 1))),
-        fn_hash,
+        clk: RowIndex(list.item(0)),
+        ctx: ContextId(list.item(1)),
+        fn_hash: word_of(list.behind(2)),
     }
 }
 
 // The top 16 elements, last first, the depth and the overflow address.
-pub fn stack_of(v: &[u64], at: usize) -> StackState {
-    let stack_top = sixteen(v, at);
+pub fn stack_of(list: Numbers<'_>) -> StackState {
     StackState {
-        stack_top,
-        stack_depth: low32(item(v, at, 16)),
-        overflow_addr: item(v, at, 17),
+        stack_top: list.array(),
+        stack_depth: list.item(16),
+        overflow_addr: list.number(17),
     }
-}
-
-// The case and six numbers.
-pub fn registers_of(v: &[u64], at: usize) -> OperationHelperRegisters {
-    registers(
-        item(v, at, 0),
-        item(v, at, 1),
-        item(v, at, 2),
-        item(v, at, 3),
-        item(v, at, 4),
-        item(v, at, 5),
-        item(v, at, 6),
-    )
 }

@@ -5,37 +5,40 @@
 // pairs of a place in the tally and the number that it gets (514: none) where the tally is held to it, 25 cells, the row count and the count
 // that the passes take for a final state.
 //
-// The input's places: profile 0 to 13; nodes from 15, digests from 112, batches from 177, groups from 226, operations from 259, block
-// addresses from 300, parents from 305, ends from 310, each with its length in the place before; tracer 322 to 367; system 368 to 373;
-// stack 374 to 391; helper registers 392 to 398; values to store 399 to 412; the fragment from 414, its length in 413; the tally from
-// 615, its length in 614.
-ghost use Rattle.std.specs.Prelude.{◌≤◌, ◌<◌};
+// The input's places: profile 0 to 13; nodes from 14, digests from 111, batches from 176, groups from 225, operations from 258, block
+// addresses from 299, parents from 304, ends from 309, each with its length first; tracer 322 to 367; system 368 to 373;
+// stack 374 to 391; helper registers 392 to 398; values to store 399 to 412; the fragment from 413 and the tally from 614, each
+// with its length first.
+ghost use Rattle.std.specs.Prelude.{◌≤◌};
 
-use crate::given::{
-    positions_of, registers_of, stack_of, state_of, system_of, tracer_of, values_of,
-};
+use crate::given::{positions_of, stack_of, state_of, system_of, tracer_of, values_of};
 use crate::told::{final_numbers, tracer_numbers};
+use groups::batch::LentBatches;
+use groups::helpers::OperationHelperRegisters;
 use rows::cycles::cycle::{Finished, finalize_clock_cycle};
 use rows::cycles::tracer::CoreTraceGenerationTracer;
-use vectors_shared::copies::{copy, copy_u8, copy_u32, put, put_all, same};
-use vectors_shared::given::profile_of;
-use vectors_shared::text::{Step, at_most, item, lent, one_if};
+use rows::records::address_state::LentQueues;
+use rows::records::forest::LentForest;
+use rows::records::profile::Profile;
+use vectors_shared::copies::{put, put_all};
+use vectors_shared::numbers::{Numbers, Part};
+use vectors_shared::runner::Step;
 
-const NODES: usize = 15;
+const NODES: usize = 14;
 
-const DIGESTS: usize = 112;
+const DIGESTS: usize = 111;
 
-const BATCHES: usize = 177;
+const BATCHES: usize = 176;
 
-const GROUPS: usize = 226;
+const GROUPS: usize = 225;
 
-const OPS: usize = 259;
+const OPS: usize = 258;
 
-const ADDRESSES: usize = 300;
+const ADDRESSES: usize = 299;
 
-const PARENTS: usize = 305;
+const PARENTS: usize = 304;
 
-const ENDS: usize = 310;
+const ENDS: usize = 309;
 
 const TRACER: usize = 322;
 
@@ -47,323 +50,266 @@ const REGISTERS: usize = 392;
 
 const VALUES: usize = 399;
 
-const FRAGMENT: usize = 414;
+const FRAGMENT: usize = 413;
 
-const TALLY: usize = 615;
+const TALLY: usize = 614;
 
-// A finish of the tracer on the tally and the fragment, given the parts of an input, and the input for how many numbers of each are lent and for all else.
-fn finish_on(
-    nodes: &[u32],
-    digests: &[u64],
-    batches: &[u32],
-    groups: &[u64],
-    ops: &[u8],
-    addresses: &[u64],
-    parents: &[u64],
-    ends: &[u64],
-    input: &[u64],
-    tracer: CoreTraceGenerationTracer,
-    tally: &mut [u64],
-    fragment: &mut [u64],
-) -> Finished {
-    let node_numbers = lent(input, NODES, nodes.len());
-    let digest_cells = lent(input, DIGESTS, digests.len());
-    let batch_numbers = lent(input, BATCHES, batches.len());
-    let group_cells = lent(input, GROUPS, groups.len());
-    let op_count = lent(input, OPS, ops.len());
-    let address_count = lent(input, ADDRESSES, addresses.len());
-    let parent_count = lent(input, PARENTS, parents.len());
-    let end_cells = lent(input, ENDS, ends.len());
-    let cells = lent(input, FRAGMENT, fragment.len());
-    let numbers = lent(input, TALLY, tally.len());
-    finalize_clock_cycle(
-        &nodes[..node_numbers],
-        &digests[..digest_cells],
-        &batches[..batch_numbers],
-        &groups[..group_cells],
-        &ops[..op_count],
-        &addresses[..address_count],
-        &parents[..parent_count],
-        &ends[..end_cells],
-        profile_of(input, 0),
-        system_of(input, SYSTEM),
-        stack_of(input, STACK),
-        registers_of(input, REGISTERS),
-        tracer,
-        &mut tally[..numbers],
-        &mut fragment[..cells],
-    )
+// The most changes of a vector.
+const MOST_CHANGES: usize = 200;
+
+// Where no more than these are left, a list ends: no vector has as many.
+const MOST_NUMBERS: usize = 692;
+
+// What a call is given.
+#[derive(Drop)]
+pub struct Input {
+    numbers: [u64; 1129],
 }
 
-// A finish of the tracer on the tally and the fragment, with the rest of what it is given from the input.
-fn finish_given(
-    input: &[u64],
-    tracer: CoreTraceGenerationTracer,
-    tally: &mut [u64],
-    fragment: &mut [u64],
-) -> Finished {
-    let mut nodes = [0u32; 96];
-    let mut digests = [0u64; 64];
-    let mut batches = [0u32; 48];
-    let mut groups = [0u64; 32];
-    let mut ops = [0u8; 40];
-    let mut addresses = [0u64; 4];
-    let mut parents = [0u64; 4];
-    let mut ends = [0u64; 12];
-    copy_u32(input, NODES, &mut nodes);
-    copy(input, DIGESTS, &mut digests);
-    copy_u32(input, BATCHES, &mut batches);
-    copy(input, GROUPS, &mut groups);
-    copy_u8(input, OPS, &mut ops);
-    copy(input, ADDRESSES, &mut addresses);
-    copy(input, PARENTS, &mut parents);
-    copy(input, ENDS, &mut ends);
-    finish_on(
-        &nodes, &digests, &batches, &groups, &ops, &addresses, &parents, &ends, input, tracer,
-        tally, fragment,
-    )
+impl Input {
+    // Zeros.
+    pub fn new() -> Self {
+        Self { numbers: [0; 1129] }
+    }
+
+    // The numbers from a place on.
+    fn behind(&self, at: usize) -> Numbers<'_> {
+        Numbers::new(&self.numbers).behind(at)
+    }
+
+    // The base input of a list, and a tally of zeros.
+    fn restart(&mut self, base: Numbers<'_>) {
+        self.numbers = [0; 1129];
+        base.fill(&mut self.numbers[..TALLY]);
+        self.numbers[TALLY] = 512;
+    }
+
+    // Puts the numbers of `count` pairs into their places.
+    fn change(&mut self, pairs: Numbers<'_>, count: usize)
+        requires { count ≤ 200 }
+    {
+        for k in 0..count {
+            put(
+                pairs.number(2 * k + 1),
+                &mut self.numbers,
+                pairs.item(2 * k),
+                0,
+            );
+        }
+    }
+
+    // Puts numbers from a place on.
+    fn put(&mut self, at: usize, numbers: &[u64]) {
+        put_all(numbers, &mut self.numbers, at);
+    }
+
+    // A finish of the tracer on the tally and the fragment, with the rest of what it is given from the input.
+    fn finish(
+        &self,
+        tracer: CoreTraceGenerationTracer,
+        tally: &mut [u64],
+        fragment: &mut [u64],
+    ) -> Finished {
+        let nodes: Part<u32, 96> = self.behind(NODES).part();
+        let digests: Part<u64, 64> = self.behind(DIGESTS).part();
+        let records: Part<u32, 48> = self.behind(BATCHES).part();
+        let groups: Part<u64, 32> = self.behind(GROUPS).part();
+        let ops: Part<u8, 40> = self.behind(OPS).part();
+        let addresses: Part<u64, 4> = self.behind(ADDRESSES).part();
+        let parents: Part<u64, 4> = self.behind(PARENTS).part();
+        let ends: Part<u64, 12> = self.behind(ENDS).part();
+        let forest = LentForest {
+            nodes: nodes.lent(),
+            digests: digests.lent(),
+            batches: LentBatches {
+                records: records.lent(),
+                groups: groups.lent(),
+            },
+            ops: ops.lent(),
+        };
+        let queues = LentQueues {
+            addresses: addresses.lent(),
+            parents: parents.lent(),
+            ends: ends.lent(),
+        };
+        let profile = Profile::from(self.behind(0));
+        let system = system_of(self.behind(SYSTEM));
+        let stack = stack_of(self.behind(STACK));
+        let registers = OperationHelperRegisters::from(self.behind(REGISTERS));
+        finalize_clock_cycle(
+            &forest, &queues, profile, system, stack, registers, tracer, tally, fragment,
+        )
+    }
 }
 
-// The tracer that is expected after a call: after a refusal the tracer before with the number kept, else what stands in the list at `at`.
-fn expected_tracer(number: u64, before: &[u64], v: &[u64], at: usize, expected: &mut [u64]) {
+// Whether the tracer is as expected after a call: after a refusal the tracer before with the number kept, else what the list says.
+fn tracer_right(number: u64, before: [u64; 46], after: &[u64; 46], list: Numbers<'_>) -> bool {
     if number == 0 {
-        copy(v, at, expected);
-        return;
+        return list.begins_with(after);
     }
-    copy(before, 0, expected);
-    put(number, expected, 0, 0);
+    let mut kept = before;
+    kept[0] = number;
+    kept == *after
 }
 
-fn tracer_right(number: u64, before: &[u64], after: &[u64], v: &[u64], at: usize) -> bool {
-    let mut expected = [0u64; 46];
-    expected_tracer(number, before, v, at, &mut expected);
-    same(after, &expected)
-}
-
-// The fragment that is expected after a finish: the input's, but for the row of an accepted finish, which stands in the list at `at`.
-fn expected_fragment(
-    number: u64,
-    rows: u64,
-    input: &[u64],
-    v: &[u64],
-    at: usize,
-    expected: &mut [u64],
-) {
-    copy(input, FRAGMENT, expected);
-    if number != 0 {
-        return;
-    }
-    let mut row = [0u64; 49];
-    copy(v, at, &mut row);
-    put_all(&row, expected, 49 * at_most(rows, 4));
-}
-
+// Whether the fragment is as expected after a finish: as it was, but for the row of an accepted finish, which the list says.
 fn fragment_right(
     number: u64,
-    rows: u64,
-    input: &[u64],
-    after: &[u64],
-    v: &[u64],
-    at: usize,
+    rows: usize,
+    before: [u64; 200],
+    after: &[u64; 200],
+    row: Numbers<'_>,
 ) -> bool {
-    let mut expected = [0u64; 200];
-    expected_fragment(number, rows, input, v, at, &mut expected);
-    same(after, &expected)
-}
-
-// How many operations are expected to follow: none after a refusal, else what stands in the list at `at`.
-fn expected_following(number: u64, v: &[u64], at: usize) -> u64 {
-    if number != 0 {
-        return 0;
+    let mut expected = before;
+    if number == 0 {
+        let cells: [u64; 49] = row.array();
+        put_all(&cells, &mut expected, 49 * rows.min(4));
     }
-    item(v, at, 0)
+    expected == *after
 }
 
-// The final state that is expected: zeros after a refusal, else what stands in the list at `at`.
-fn expected_final(number: u64, v: &[u64], at: usize, expected: &mut [u64]) {
-    if number != 0 {
-        return;
+fn new_right(input: &mut Input, answer: Numbers<'_>) -> bool {
+    let state = state_of(input.behind(TRACER + 16));
+    let positions = positions_of(input.behind(TRACER + 18));
+    let after = tracer_numbers(CoreTraceGenerationTracer::new(state, positions));
+    input.put(TRACER, &after);
+    answer.number(0) == 0 && answer.behind(1).begins_with(&after)
+}
+
+fn store_right(input: &mut Input, answer: Numbers<'_>) -> bool {
+    let tracer = tracer_of(input.behind(TRACER));
+    let done = tracer.start_clock_cycle(values_of(input.behind(VALUES)));
+    let number = u64::from(done.refusal);
+    let after = tracer_numbers(done.tracer);
+    input.put(TRACER, &after);
+    answer.number(0) == number
+        && tracer_right(number, tracer_numbers(tracer), &after, answer.behind(1))
+}
+
+// How many operations are expected to follow: none after a refusal, else what the list says.
+fn following_right(number: u64, following: u64, list: Numbers<'_>) -> bool {
+    following == if number == 0 { list.number(0) } else { 0 }
+}
+
+fn finish_right(input: &mut Input, answer: Numbers<'_>) -> bool {
+    let tracer = tracer_of(input.behind(TRACER));
+    let mut fragment: Part<u64, 200> = input.behind(FRAGMENT).part();
+    let mut tally: Part<u64, 514> = input.behind(TALLY).part();
+    let stood = fragment.numbers;
+    let done = input.finish(tracer, tally.lent_mut(), fragment.lent_mut());
+    let number = u64::from(done.refusal);
+    let after = tracer_numbers(done.tracer);
+    input.put(TRACER, &after);
+    input.put(FRAGMENT + 1, &fragment.numbers);
+    input.put(TALLY + 1, &tally.numbers);
+    answer.number(0) == number
+        && fragment_right(
+            number,
+            tracer.row_write_index,
+            stood,
+            &fragment.numbers,
+            answer.behind(1),
+        )
+        && tracer_right(number, tracer_numbers(tracer), &after, answer.behind(50))
+        && following_right(number, done.following, answer.behind(96))
+}
+
+// A finish, and the tally behind it: as it was, but for the two numbers that the list says where the finish is accepted.
+fn tallied_right(input: &mut Input, answer: Numbers<'_>) -> bool {
+    let mut expected: [u64; 514] = input.behind(TALLY + 1).array();
+    if answer.number(0) == 0 {
+        put(answer.number(98), &mut expected, answer.item(97), 0);
+        put(answer.number(100), &mut expected, answer.item(99), 0);
     }
-    copy(v, at, expected);
+    finish_right(input, answer) && input.behind(TALLY + 1).begins_with(&expected)
 }
 
-fn new_right(input: &mut [u64], v: &[u64], at: usize) -> bool
-    requires { at < 8192 }
-{
-    let answer = at + 1;
-    let state = state_of(input, TRACER + 16);
-    let positions = positions_of(input, TRACER + 18);
-    let fresh = CoreTraceGenerationTracer::new(state, positions);
-    let after = tracer_numbers(fresh);
-    put_all(&after, input, TRACER);
-    (item(v, at, 0) == 0) & tracer_right(0, &after, &after, v, answer)
-}
-
-fn store_right(input: &mut [u64], v: &[u64], at: usize) -> bool
-    requires { at < 8192 }
-{
-    let answer = at + 1;
-    let tracer = tracer_of(input, TRACER);
-    let before = tracer_numbers(tracer);
-    let values = values_of(input, VALUES);
-    let done = tracer.start_clock_cycle(values);
-    let number = done.refusal as u64;
-    let stored = done.tracer;
-    let after = tracer_numbers(stored);
-    put_all(&after, input, TRACER);
-    (item(v, at, 0) == number) & tracer_right(number, &before, &after, v, answer)
-}
-
-fn finish_right(input: &mut [u64], v: &[u64], at: usize) -> bool
-    requires { at < 8192 }
-{
-    let row = at + 1;
-    let answer = at + 50;
-    let following = at + 96;
-    let rows = item(input, TRACER, 1);
-    let mut fragment = [0u64; 200];
-    let mut tally = [0u64; 514];
-    copy(input, FRAGMENT, &mut fragment);
-    copy(input, TALLY, &mut tally);
-    let tracer = tracer_of(input, TRACER);
-    let before = tracer_numbers(tracer);
-    let done = finish_given(input, tracer, &mut tally, &mut fragment);
-    let number = done.refusal as u64;
-    let moved = done.tracer;
-    let after = tracer_numbers(moved);
-    let kept = tracer_right(number, &before, &after, v, answer);
-    let written = fragment_right(number, rows, input, &fragment, v, row);
-    put_all(&after, input, TRACER);
-    put_all(&fragment, input, FRAGMENT);
-    put_all(&tally, input, TALLY);
-    let followed = done.following == expected_following(number, v, following);
-    (item(v, at, 0) == number) & (kept & (written & followed))
-}
-
-// The tally that is expected after a finish: as it was, but for the two numbers that stand in the list at `at` where it is accepted.
-fn expected_tally(number: u64, v: &[u64], at: usize, expected: &mut [u64]) {
-    if number != 0 {
-        return;
-    }
-    put(item(v, at, 1), expected, item(v, at, 0) as usize, 0);
-    put(item(v, at, 3), expected, item(v, at, 2) as usize, 0);
-}
-
-fn tallied_right(input: &mut [u64], v: &[u64], at: usize) -> bool
-    requires { at < 8192 }
-{
-    let counted = at + 97;
-    let mut expected = [0u64; 514];
-    copy(input, TALLY, &mut expected);
-    expected_tally(item(v, at, 0), v, counted, &mut expected);
-    let finished = finish_right(input, v, at);
-    let mut after = [0u64; 514];
-    copy(input, TALLY, &mut after);
-    finished & same(&after, &expected)
-}
-
-fn final_right(input: &[u64], v: &[u64], at: usize) -> bool
-    requires { at < 8192 }
-{
-    let answer = at + 1;
-    let tracer = tracer_of(input, TRACER);
-    let done = tracer.into_final_state();
-    let number = done.refusal as u64;
-    let numbers = final_numbers(done);
-    let end = done.for_passes();
-    let built = end.built;
+// The final state: zeros after a refusal, else what the list says.
+fn final_right(input: &Input, answer: Numbers<'_>) -> bool {
+    let end = tracer_of(input.behind(TRACER)).into_final_state();
+    let number = u64::from(end.refusal);
     let mut expected = [0u64; 27];
-    expected_final(number, v, answer, &mut expected);
-    (item(v, at, 0) == number) & (same(&numbers, &expected) & same(&expected, &built))
-}
-
-fn call_right(call: u64, input: &mut [u64], v: &[u64], at: usize) -> bool
-    requires { at < 8192 }
-{
-    match call {
-        0 => new_right(input, v, at),
-        1 => store_right(input, v, at),
-        2 => finish_right(input, v, at),
-        3 => final_right(input, v, at),
-        4 => tallied_right(input, v, at),
-        _ => true,
+    if number == 0 {
+        answer.behind(1).fill(&mut expected);
     }
+    answer.number(0) == number
+        && final_numbers(end) == expected
+        && Numbers::new(&expected).begins_with(&end.for_passes().built)
 }
 
-// How many numbers follow the answer's number.
-fn answer_length(call: u64, number: u64) -> usize
-    ensures { result ≤ 100 }
-{
-    if number != 0 {
-        return 0;
-    }
-    match call {
-        0 => 46,
-        1 => 46,
-        2 => 96,
-        3 => 27,
-        4 => 100,
-        _ => 0,
-    }
+#[derive(Clone, Copy)]
+enum Call {
+    New,
+    Store,
+    Finish,
+    FinalState,
+    TalliedFinish,
+    Nothing,
 }
 
-// Puts the numbers of `count` pairs from `at` on into their places.
-fn change(v: &[u64], at: usize, count: usize, input: &mut [u64])
-    requires { count ≤ 200 }
-{
-    let mut k = 0;
-    while k < count {
-        put(
-            item(v, at, 2 * k + 1),
-            input,
-            item(v, at, 2 * k) as usize,
-            0,
-        );
-        k += 1;
-    }
-}
-
-// Puts the base input and a tally of zeros, unless the vector goes on.
-fn restart(goes_on: u64, v: &[u64], input: &mut [u64]) {
-    if goes_on != 0 {
-        return;
-    }
-    let mut base = [0u64; 614];
-    let zeros = [0u64; 514];
-    copy(v, 1, &mut base);
-    put_all(&base, input, 0);
-    put_all(&zeros, input, TALLY);
-    put(512, input, TALLY - 1, 0);
-}
-
-// The vector that begins at `at`.
-fn vector(v: &[u64], at: usize, input: &mut [u64]) -> Step
-    requires { at < 7500 }
-{
-    restart(item(v, at, 0), v, input);
-    let call = item(v, at, 1);
-    let changes = at_most(item(v, at, 2), 200);
-    change(v, at + 3, changes, input);
-    let answer = at + 3 + 2 * changes;
-    let right = call_right(call, input, v, answer);
-    let next = answer + 1 + answer_length(call, item(v, answer, 0));
-    Step { right, next }
-}
-
-// How many of the first `all` vectors of the list come out right.
-pub fn right(v: &[u64], all: u64) -> u64 {
-    let mut input = [0u64; 1129];
-    let mut right: u64 = 0;
-    let mut k: u64 = 0;
-    let mut at: usize = 615;
-    while k < all {
-        if 7500 <= at {
-            return right;
+impl From<u64> for Call {
+    fn from(number: u64) -> Self {
+        match number {
+            0 => Self::New,
+            1 => Self::Store,
+            2 => Self::Finish,
+            3 => Self::FinalState,
+            4 => Self::TalliedFinish,
+            _ => Self::Nothing,
         }
-        let step = vector(v, at, &mut input);
-        right += one_if(step.right);
-        at = step.next;
-        k += 1;
     }
-    right
+}
+
+impl Call {
+    // Whether the call answers what the list says.
+    fn is_right(self, input: &mut Input, answer: Numbers<'_>) -> bool {
+        match self {
+            Self::New => new_right(input, answer),
+            Self::Store => store_right(input, answer),
+            Self::Finish => finish_right(input, answer),
+            Self::FinalState => final_right(input, answer),
+            Self::TalliedFinish => tallied_right(input, answer),
+            Self::Nothing => true,
+        }
+    }
+
+    // How many numbers follow the answer's number where the call is accepted; after a refusal there are none.
+    fn answer_length(self) -> usize
+        ensures { result ≤ 100 }
+    {
+        match self {
+            Self::New | Self::Store => 46,
+            Self::Finish => 96,
+            Self::FinalState => 27,
+            Self::TalliedFinish => 100,
+            Self::Nothing => 0,
+        }
+    }
+}
+
+// The first vector of what is left of a list.
+pub fn vector<'a>(list: Numbers<'a>, rest: Numbers<'a>, input: &mut Input) -> Step<'a> {
+    if rest.len() <= MOST_NUMBERS {
+        return Step {
+            right: false,
+            rest: rest.behind(MOST_NUMBERS),
+        };
+    }
+    if rest.number(0) == 0 {
+        input.restart(list.behind(1));
+    }
+    let call = Call::from(rest.number(1));
+    let changes = rest.at_most(2, MOST_CHANGES);
+    input.change(rest.behind(3), changes);
+    let answer = rest.behind(3 + 2 * changes);
+    let right = call.is_right(input, answer);
+    let told = if answer.number(0) == 0 {
+        call.answer_length()
+    } else {
+        0
+    };
+    Step {
+        right,
+        rest: answer.behind(1 + told),
+    }
 }

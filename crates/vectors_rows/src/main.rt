@@ -6,36 +6,56 @@ mod given;
 mod list;
 mod told;
 
+use list::{Input, vector};
 use std::io;
 use std::rt::Runtime;
-use vectors_shared::text;
-use vectors_shared::text::report;
+use vectors_shared::numbers::Numbers;
+use vectors_shared::runner::run_vectors;
+use vectors_shared::text::load;
 
+// Where the vectors of a list begin.
+const FIRST_VECTOR: usize = 615;
+
+const LISTS: [&str; 19] = [
+    "rows_a",
+    "rows_b",
+    "operations",
+    "following",
+    "cells_a",
+    "cells_b",
+    "cells_c",
+    "tracers_a",
+    "tracers_b",
+    "inputs",
+    "refusals",
+    "tallies_a",
+    "tallies_b",
+    "orders",
+    "runs_a",
+    "runs_b",
+    "mixed_a",
+    "mixed_b",
+    "mixed_c",
+];
+
+// The list has fixed room, since no heap is used.
 fn vectors(rt: &impl Runtime, name: &[u8]) -> io::Result<()> {
     let mut numbers = [0u64; 8192];
-    text::load(rt, name, &mut numbers)?;
-    let all = numbers[0];
-    report(rt, name, list::right(&numbers, all), all)
+    load(rt, name, &mut numbers)?;
+    let list = Numbers::new(&numbers);
+    let mut input = Input::new();
+    run_vectors(
+        rt,
+        name,
+        list.behind(FIRST_VECTOR),
+        list.number(0),
+        |rest| vector(list, rest, &mut input),
+    )
 }
 
 fn main(rt: HostRuntime) -> io::Result<()> {
-    vectors(&rt, b"rows_a")?;
-    vectors(&rt, b"rows_b")?;
-    vectors(&rt, b"operations")?;
-    vectors(&rt, b"following")?;
-    vectors(&rt, b"cells_a")?;
-    vectors(&rt, b"cells_b")?;
-    vectors(&rt, b"cells_c")?;
-    vectors(&rt, b"tracers_a")?;
-    vectors(&rt, b"tracers_b")?;
-    vectors(&rt, b"inputs")?;
-    vectors(&rt, b"refusals")?;
-    vectors(&rt, b"tallies_a")?;
-    vectors(&rt, b"tallies_b")?;
-    vectors(&rt, b"orders")?;
-    vectors(&rt, b"runs_a")?;
-    vectors(&rt, b"runs_b")?;
-    vectors(&rt, b"mixed_a")?;
-    vectors(&rt, b"mixed_b")?;
-    vectors(&rt, b"mixed_c")
+    for name in LISTS {
+        vectors(&rt, name.as_bytes())?;
+    }
+    Ok(())
 }

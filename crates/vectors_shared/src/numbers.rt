@@ -44,6 +44,11 @@ impl<'a> Numbers<'a> {
         Self { list }
     }
 
+    // How many numbers there are.
+    pub fn len(self) -> usize {
+        self.list.len()
+    }
+
     // Whether only the zeros past the end are left.
     pub fn is_empty(self) -> bool {
         self.list.is_empty()
@@ -112,13 +117,17 @@ impl<'a> Numbers<'a> {
 // The numbers of a part of a list, with zeros behind them.
 #[derive(Clone, Copy)]
 pub struct Part<T, const N: usize> {
-    numbers: [T; N],
-    length: usize,
+    pub numbers: [T; N],
+    pub length: usize,
 }
 
 impl<T: Copy, const N: usize> Part<T, N> {
     // The numbers that are lent.
     pub fn lent(&self) -> &[T] {
         &self.numbers[..self.length.min(N)]
+    }
+
+    pub fn lent_mut(&mut self) -> &mut [T] {
+        &mut self.numbers[..self.length.min(N)]
     }
 }
