@@ -4,7 +4,7 @@ use mathlib.Core.Path.{◌≡◌, refl}
 use mathlib.Core.Bool.{Bool, true, false, not, ◌||◌}
 use Prim.Native.Nat.{ℕ, ◌/◌, ◌%◌, ◌≤◌, ◌<◌}
 use native.Mathlib.Omega.{arith}
-use borrow.Author.Tests.{ltb-false, leb-false}
+use borrow.Author.Tests.{ltb-false, leb-false, lt-leb}
 use lib.Dec.{leb, ltb, eqb}
 use Rattle.groups.specs.Answer.{Answer, accepted, refused, and_then, pick}
 use Rattle.groups.specs.declared.helpers.OperationHelperRegisters.{OperationHelperRegisters}
@@ -108,3 +108,7 @@ final-few t false few = omega arith
 pub count-handed : (t : CoreTraceGenerationTracer) → FewRows t → (for_passes (final_state t)).count ≡ (final_state t).num_rows_written
 unfolding for_passes final_state
 count-handed t few = let h = final-few t (eqb t.refusal 0) few in omega arith
+
+-- what is not too large has its row in the fragment, and that is one of 2^24
+pub within_limits : (large : Bool) (cells rows : ℕ) → (large || fragment_wrong cells rows) ≡ false → rows < cells / 49 → (large ≡ false) × (rows < 16777216)
+within_limits large cells rows e h = ((neither large _ e).0, in-fragment large cells rows e (lt-leb _ _ h))

@@ -57,7 +57,7 @@ pub(crate) fn left_after(used: Used, captured: Captured) -> Captured
 }
 
 // Every check of a finish in its order but the kept refusal, and what the continuation makes.
-#[tactic(auto, unfolding(crate::specs::cycles::Cycles::cycle_with))]
+#[tactic(auto, using(crate::proofs::cycles::RowCounts::within_limits), unfolding(crate::specs::cycles::Cycles::cycle_with))]
 fn checked(
     scan: Scan,
     cells: usize,
