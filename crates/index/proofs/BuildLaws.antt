@@ -11,7 +11,7 @@ use Rattle.theory_readings.specs.Answers.{ReaderAnswer, accepted, refused, refus
 use Rattle.reader.specs.Rows.{word_in}
 use Rattle.reader.specs.ways.FromRow.{rows_from}
 use Rattle.reader.specs.Reads.{TellsTrace}
-use Rattle.reader.specs.declared.trace.TraceRead.{TraceRead}
+use Rattle.reader.specs.Reads.{TraceRead}
 use Rattle.reader.proofs.ReadLaws.{number_of, row-of, is-accepted, is_trace, few-rows}
 use Rattle.theory_indexes.specs.Indexes.{blocks_in, index}
 use Rattle.theory_indexes.specs.ways.IndexScan.{index_scan, starts, Fits}

@@ -21,7 +21,7 @@ use Rattle.theory_readings.proofs.AcceptedTraces.{same-right, number-accepted, a
 use Rattle.theory_readings.proofs.RightAnswer.{one_answer, exactly-one-answer}
 use Rattle.theory_readings.proofs.ReducedCells.{right-reduced}
 use Rattle.reader.specs.Reads.{trace_read, ReadsTrace}
-use Rattle.reader.specs.declared.trace.TraceRead.{TraceRead}
+use Rattle.reader.specs.Reads.{TraceRead}
 use Rattle.theory_indexes.specs.Indexes.{blocks_in, index, start_row, innermost}
 use Rattle.theory_indexes.specs.Enclosing.{enclosing}
 use Rattle.theory_indexes.proofs.IndexLists.{index-length}

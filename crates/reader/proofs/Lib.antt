@@ -6,4 +6,4 @@ pub mod PartLaws
 pub mod LevelLaws
 pub mod ReadLaws
 pub mod ReaderExact
-pub mod Refused
+pub mod SomeNumber

@@ -27,7 +27,7 @@ use Rattle.reader.specs.ways.FromRow.{rows_from}
 use Rattle.reader.specs.ways.Parts.{PartRead, up_to, refused_at, right_from, BlockRight}
 use Rattle.reader.specs.Reads.{trace_read, TellsTrace, ReadsTrace}
 use Rattle.reader.specs.ways.WholeWord.{cells_answer, HaltsRead, BehindRead}
-use Rattle.reader.specs.declared.trace.TraceRead.{TraceRead}
+use Rattle.reader.specs.Reads.{TraceRead}
 use Rattle.reader.proofs.RowTokens.{rows_in, rows-cons, rows_none, rows_at, tag, among}
 
 -- what is answered, by its values

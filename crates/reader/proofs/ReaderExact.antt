@@ -14,7 +14,7 @@ use Rattle.theory_readings.proofs.RightAnswer.{one_answer, exactly-one-answer}
 use Rattle.theory_readings.proofs.AcceptedTraces.{accepted-trace, trace-accepted}
 use Rattle.theory_readings.proofs.ReducedCells.{right-reduced}
 use Rattle.reader.specs.Reads.{trace_read, TellsTrace, ReadsTrace}
-use Rattle.reader.specs.declared.trace.TraceRead.{TraceRead}
+use Rattle.reader.specs.Reads.{TraceRead}
 use Rattle.reader.proofs.ReadLaws.{reads, is_trace}
 
 -- ONE RESULT

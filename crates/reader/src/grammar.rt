@@ -2,37 +2,20 @@
 ghost use Rattle.std.specs.Prelude.{◌≡◌, ◌/◌, ◌<◌, ◌≤◌, eqb, length};
 ghost use Rattle.field.specs.Cells.{cell_at};
 ghost use Rattle.groups.specs.Constants.{row_width};
-ghost use Rattle.groups.specs.declared.refusal.Refusal.{Refusal};
 ghost use Rattle.theory_readings.specs.Readings.{row_at, all_rows};
 ghost use Rattle.reader.specs.Rows.{word_in};
 ghost use Rattle.reader.specs.KeptKinds.{KeptKinds};
-ghost use Rattle.reader.specs.ways.Parts.{told_wrong, told_part, told_refused, refused_for, wrong_unless, too_deep, closed_at, OpsRead, BlockRead, PassesRead};
+ghost use Rattle.reader.specs.ways.Parts.{told_wrong, told_part, told_refused, wrong_unless, too_deep, closed_at, OpsRead, BlockRead, PassesRead};
 
 use crate::kept::{LentTrace, note_kind};
+use crate::refused::TraceRefused;
 use crate::token::RowKind;
 use field::cell::cell;
 use groups::constants::{Column, Row};
 use groups::refusal::Refusal;
 
-// Where a part of the word is refused.
-#[derive(Clone, Copy)]
-pub(crate) struct PartRefused {
-    pub(crate) refusal: Refusal,
-    pub(crate) row: usize,
-}
-
 // A part of the word: the row behind it, and its lowest row with a cell that is not as asked, if there is one.
-pub(crate) type Part = Result<(usize, Option<usize>), PartRefused>;
-
-// A row that fits no word of the grammar.
-fn no_word(row: usize) -> PartRefused
-    ensures { result ≡ refused_for Refusal.NoWordOfGrammar row }
-{
-    PartRefused {
-        refusal: Refusal::NoWordOfGrammar,
-        row,
-    }
-}
+pub(crate) type Part = Result<(usize, Option<usize>), TraceRefused>;
 
 // The row, where its cell k is not as asked.
 fn ask(cells: &[u64], row: usize, k: usize, value: u64) -> Option<usize>
@@ -47,11 +30,11 @@ fn ask(cells: &[u64], row: usize, k: usize, value: u64) -> Option<usize>
 }
 
 // The refusal of a row where no more block may start: 15 if it starts one, else 12.
-fn too_deep(kind: RowKind, row: usize) -> PartRefused
+fn too_deep(kind: RowKind, row: usize) -> TraceRefused
     ensures { told_refused result ≡ too_deep kind row }
 {
     match kind {
-        RowKind::Span | RowKind::Join | RowKind::One | RowKind::Loop => PartRefused {
+        RowKind::Span | RowKind::Join | RowKind::One | RowKind::Loop => TraceRefused {
             refusal: Refusal::Block65Deep,
             row,
         },
@@ -60,7 +43,7 @@ fn too_deep(kind: RowKind, row: usize) -> PartRefused
         | RowKind::Repeat
         | RowKind::End
         | RowKind::Halt
-        | RowKind::Nothing => PartRefused {
+        | RowKind::Nothing => TraceRefused {
             refusal: Refusal::NoWordOfGrammar,
             row,
         },
@@ -84,7 +67,7 @@ fn close(
         let own = ask(lent.cells, row, Column::H4, flag);
         Ok((row + 1, wrong.or(own)))
     } else {
-        Err(no_word(row))
+        Err(TraceRefused::no_word(row))
     }
 }
 
@@ -112,7 +95,7 @@ fn ops(lent: &LentTrace<'_>, row: usize, flag: u64, kinds: &mut [u8]) -> Part
             | RowKind::Repeat
             | RowKind::Halt
             | RowKind::Nothing => {
-                return Err(no_word(at));
+                return Err(TraceRefused::no_word(at));
             }
         }
     }
@@ -152,7 +135,7 @@ pub(crate) fn block(
         | RowKind::Repeat
         | RowKind::End
         | RowKind::Halt
-        | RowKind::Nothing => Err(no_word(row)),
+        | RowKind::Nothing => Err(TraceRefused::no_word(row)),
     }
 }
 
@@ -189,7 +172,7 @@ fn passes(lent: &LentTrace<'_>, row: usize, left: u32, flag: u64, kinds: &mut [u
             | RowKind::Respan
             | RowKind::Halt
             | RowKind::Nothing => {
-                return Err(no_word(next));
+                return Err(TraceRefused::no_word(next));
             }
         }
     }

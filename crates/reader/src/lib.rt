@@ -4,6 +4,7 @@
 mod depths;
 mod grammar;
 pub mod kept;
+pub mod refused;
 mod scan;
 pub mod token;
 pub mod trace;

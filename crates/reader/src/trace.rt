@@ -3,42 +3,22 @@ ghost use Rattle.std.specs.Prelude.{◌≡◌, ◌/◌, ◌≤◌, length};
 ghost use Rattle.groups.specs.Constants.{row_width};
 ghost use Rattle.theory_readings.specs.Readings.{all_rows};
 ghost use Rattle.reader.specs.Rows.{word_in};
-ghost use Rattle.reader.specs.Reads.{trace_read, TellsTrace, ReadsTrace};
+ghost use Rattle.reader.specs.Reads.{trace_read, told_trace, TellsTrace, ReadsTrace};
 ghost use Rattle.reader.specs.KeptKinds.{KeptKinds};
 ghost use Rattle.reader.specs.ways.Parts.{told_wrong};
-ghost use Rattle.groups.specs.Refusals.{number_of};
-ghost use Rattle.reader.specs.ways.WholeWord.{HaltsRead, BehindRead, cells_answer, refused_read};
+ghost use Rattle.reader.specs.ways.WholeWord.{HaltsRead, BehindRead, cells_answer};
 
 use crate::depths::fill;
 use crate::grammar::block;
 use crate::kept::{
     FEW_ROWS, LONG_LIST, LentTrace, SHORT_LIST, UNKNOWN, forget, note_kind, table_for,
 };
+use crate::refused::TraceRefused;
 use crate::scan::refusal;
 use crate::token::RowKind;
 use groups::constants::Row;
 use groups::refusal::Refusal;
 use rows::records::profile::Profile;
-
-// What is answered of a buffer: 0, or the number and the row of its refusal; the number of program rows, 0 on a refusal.
-#[repr(C)]
-#[derive(Clone, Copy)]
-pub struct TraceRead {
-    pub refusal: u32,
-    pub row: usize,
-    pub program_rows: usize,
-}
-
-// What is answered of a refusal at a row.
-fn refused(refusal: Refusal, row: usize) -> TraceRead
-    ensures { result ≡ refused_read (number_of refusal) row }
-{
-    TraceRead {
-        refusal: u32::from(refusal),
-        row,
-        program_rows: 0,
-    }
-}
 
 // The first row from `from` on that is no HALT, or the end.
 fn halts(lent: &LentTrace<'_>, from: usize, kinds: &mut [u8]) -> usize
@@ -61,54 +41,48 @@ fn behind_block(
     next: usize,
     wrong: Option<usize>,
     kinds: &mut [u8],
-) -> TraceRead
+) -> Result<usize, TraceRefused>
     requires { (next ≤ length lent.now.cells.now / row_width) × KeptKinds lent.now.profile lent.now.cells.now lent.now.table.now kinds.old }
-    ensures behind_read { BehindRead (all_rows lent.now.cells.now) (word_in lent.now.profile lent.now.cells.now) next (told_wrong wrong) result }
+    ensures behind_read { BehindRead (all_rows lent.now.cells.now) (word_in lent.now.profile lent.now.cells.now) next (told_wrong wrong) (told_trace result) }
     ensures kept_kinds { KeptKinds lent.now.profile lent.now.cells.now lent.now.table.now kinds.new }
 {
     let end = halts(lent, next, kinds);
     let rows = lent.cells.len() / Row::WIDTH;
     if (next == rows) | (end < rows) {
-        return refused(Refusal::NoWordOfGrammar, end);
+        return Err(TraceRefused::no_word(end));
     }
     match wrong {
-        Some(row) => refused(Refusal::WrongFlagOrCount, row),
-        None => TraceRead {
-            refusal: 0,
-            row: 0,
-            program_rows: next,
-        },
+        Some(row) => Err(TraceRefused {
+            refusal: Refusal::WrongFlagOrCount,
+            row,
+        }),
+        None => Ok(next),
     }
 }
 
 // The answer of a buffer that 2 and 11 pass.
-fn read_cells(lent: &LentTrace<'_>, kinds: &mut [u8]) -> TraceRead
+fn read_cells(lent: &LentTrace<'_>, kinds: &mut [u8]) -> Result<usize, TraceRefused>
     requires { KeptKinds lent.now.profile lent.now.cells.now lent.now.table.now kinds.old }
-    ensures value { result ≡ trace_read (cells_answer lent.now.profile lent.now.cells.now) }
+    ensures value { told_trace result ≡ trace_read (cells_answer lent.now.profile lent.now.cells.now) }
     ensures kept_kinds { KeptKinds lent.now.profile lent.now.cells.now lent.now.table.now kinds.new }
 {
-    let root = block(lent, 0, 64, 0, kinds);
-    match root {
-        Err(part) => refused(part.refusal, part.row),
-        Ok((next, wrong)) => behind_block(lent, next, wrong, kinds),
-    }
+    let (next, wrong) = block(lent, 0, 64, 0, kinds)?;
+    behind_block(lent, next, wrong, kinds)
 }
 
 // The answer of a reader that is lent so many depth numbers, without writing them: 2, 11, then 12, 15 or 13, else accepted.
-fn tell_trace(lent: &LentTrace<'_>, depths: usize, kinds: &mut [u8]) -> TraceRead
+fn tell_trace(lent: &LentTrace<'_>, depths: usize, kinds: &mut [u8]) -> Result<usize, TraceRefused>
     requires { KeptKinds lent.now.profile lent.now.cells.now lent.now.table.now kinds.old }
-    ensures tells_trace { TellsTrace lent.now.profile lent.now.cells.now depths result }
+    ensures tells_trace { TellsTrace lent.now.profile lent.now.cells.now depths (told_trace result) }
     ensures kept_kinds { KeptKinds lent.now.profile lent.now.cells.now lent.now.table.now kinds.new }
 {
-    if let Err(number) = refusal(lent.profile, lent.cells, depths) {
-        return refused(number, 0);
-    }
+    refusal(lent.profile, lent.cells, depths)?;
     read_cells(lent, kinds)
 }
 
 // The same, by a table of its own: no row is looked at twice, so no kind is kept.
-pub fn validate(profile: Profile, cells: &[u64], depths: usize) -> TraceRead
-    ensures { TellsTrace profile cells.now depths result }
+pub fn validate(profile: Profile, cells: &[u64], depths: usize) -> Result<usize, TraceRefused>
+    ensures { TellsTrace profile cells.now depths (told_trace result) }
 {
     let table = table_for(profile, cells.len() / Row::WIDTH);
     let mut kinds = [UNKNOWN; 0];
@@ -127,8 +101,8 @@ pub fn validate_keeping(
     depths: usize,
     table: &mut [u8; 256],
     kinds: &mut [u8],
-) -> TraceRead
-    ensures tells_trace { TellsTrace profile cells.now depths result }
+) -> Result<usize, TraceRefused>
+    ensures tells_trace { TellsTrace profile cells.now depths (told_trace result) }
     ensures kept_kinds { KeptKinds profile cells.now table.new kinds.new }
 {
     *table = table_for(profile, cells.len() / Row::WIDTH);
@@ -142,21 +116,18 @@ pub fn validate_keeping(
 }
 
 // Reads a trace with a list that has nothing wrong of its rows.
-fn read_with(lent: &LentTrace<'_>, depths: &mut [u32], kinds: &mut [u8]) -> TraceRead
+fn read_with(lent: &LentTrace<'_>, depths: &mut [u32], kinds: &mut [u8]) -> Result<usize, TraceRefused>
     requires { KeptKinds lent.now.profile lent.now.cells.now lent.now.table.now kinds.old }
-    ensures { ReadsTrace lent.now.profile lent.now.cells.now depths.old result depths.new }
+    ensures { ReadsTrace lent.now.profile lent.now.cells.now depths.old (told_trace result) depths.new }
 {
-    let read = tell_trace(lent, depths.len(), kinds);
-    if read.refusal != 0 {
-        return read;
-    }
+    let rows = tell_trace(lent, depths.len(), kinds)?;
     fill(lent, depths, kinds);
-    read
+    Ok(rows)
 }
 
 // Reads a trace of few rows, or any other.
-fn read_few(profile: Profile, cells: &[u64], depths: &mut [u32]) -> TraceRead
-    ensures { ReadsTrace profile cells.now depths.old result depths.new }
+fn read_few(profile: Profile, cells: &[u64], depths: &mut [u32]) -> Result<usize, TraceRefused>
+    ensures { ReadsTrace profile cells.now depths.old (told_trace result) depths.new }
 {
     let table = table_for(profile, 0);
     let mut kinds = [UNKNOWN; FEW_ROWS];
@@ -169,8 +140,8 @@ fn read_few(profile: Profile, cells: &[u64], depths: &mut [u32]) -> TraceRead
 }
 
 // Reads a trace that the smaller list holds, or any other.
-fn read_short(profile: Profile, cells: &[u64], depths: &mut [u32]) -> TraceRead
-    ensures { ReadsTrace profile cells.now depths.old result depths.new }
+fn read_short(profile: Profile, cells: &[u64], depths: &mut [u32]) -> Result<usize, TraceRefused>
+    ensures { ReadsTrace profile cells.now depths.old (told_trace result) depths.new }
 {
     let table = table_for(profile, cells.len() / Row::WIDTH);
     let mut kinds = [UNKNOWN; SHORT_LIST];
@@ -183,8 +154,8 @@ fn read_short(profile: Profile, cells: &[u64], depths: &mut [u32]) -> TraceRead
 }
 
 // Reads a longer trace, or any other.
-fn read_long(profile: Profile, cells: &[u64], depths: &mut [u32]) -> TraceRead
-    ensures { ReadsTrace profile cells.now depths.old result depths.new }
+fn read_long(profile: Profile, cells: &[u64], depths: &mut [u32]) -> Result<usize, TraceRefused>
+    ensures { ReadsTrace profile cells.now depths.old (told_trace result) depths.new }
 {
     let table = table_for(profile, cells.len() / Row::WIDTH);
     let mut kinds = [UNKNOWN; LONG_LIST];
@@ -196,9 +167,9 @@ fn read_long(profile: Profile, cells: &[u64], depths: &mut [u32]) -> TraceRead
     read_with(&lent, depths, &mut kinds)
 }
 
-// Reads a trace: the answer, and, where it is accepted, one depth a row. A refusal changes no depth.
-pub fn read_trace(profile: Profile, cells: &[u64], depths: &mut [u32]) -> TraceRead
-    ensures { ReadsTrace profile cells.now depths.old result depths.new }
+// Reads a trace: the number of program rows, and one depth a row; or the refusal and its row, which changes no depth.
+pub fn read_trace(profile: Profile, cells: &[u64], depths: &mut [u32]) -> Result<usize, TraceRefused>
+    ensures { ReadsTrace profile cells.now depths.old (told_trace result) depths.new }
 {
     if cells.len() / Row::WIDTH <= FEW_ROWS {
         return read_few(profile, cells, depths);

@@ -16,7 +16,7 @@ use Rattle.theory_readings.specs.Readings.{Block, program_rows, Trace}
 use Rattle.theory_readings.specs.Answers.{ReaderAnswer, accepted, Right}
 use Rattle.theory_readings.proofs.OneReading as readings
 use Rattle.reader.specs.Reads.{ReadsTrace}
-use Rattle.reader.specs.declared.trace.TraceRead.{TraceRead}
+use Rattle.reader.specs.Reads.{TraceRead}
 use Rattle.reader.proofs.trace.read_trace.Reads as read_trace
 use Rattle.reader.proofs.ReaderExact.{one-read, some_read, is-right-answer, reads-tree, reads_as, reads-exactly}
 use Rattle.theory_runs.specs.Calls.{Handed, Call, finish, Fragment, opened, call_refusal, AllAccepted, final_states, cells_of, counts_of, built_cells, OneSize}

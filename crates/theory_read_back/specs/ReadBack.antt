@@ -7,7 +7,7 @@ use Rattle.theory_readings.specs.Tokens.{Kind, start, token_of}
 use Rattle.theory_readings.specs.Readings.{Block, Passes, program_rows, depth_list, passes_in, row_at, all_rows, Trace}
 use Rattle.theory_readings.specs.Answers.{accepted}
 use Rattle.reader.specs.Reads.{ReadsTrace}
-use Rattle.reader.specs.declared.trace.TraceRead.{TraceRead}
+use Rattle.reader.specs.Reads.{TraceRead}
 use Rattle.theory_read_back.specs.Loops.{LoopIn}
 
 -- "the reader's answers (the number of program rows and each row's depth) are those of that reading": what `read_trace` tells of the buffer,

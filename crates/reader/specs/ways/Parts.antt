@@ -3,7 +3,6 @@ use Rattle.std.specs.Prelude.{Option as Answered, Some, None, Result, Ok, Err, �
 use Rattle.std.proofs.Math.Option.{Option, none, some}
 use Rattle.groups.specs.Constants.{no_word_of_grammar, block65_deep}
 use Rattle.groups.specs.Refusals.{number_of}
-use Rattle.groups.specs.declared.refusal.Refusal.{Refusal}
 use Rattle.rows.specs.declared.records.profile.Profile.{Profile}
 use Rattle.rows.specs.records.Buffers.{h4_of}
 use Rattle.theory_readings.specs.Tokens.{Token}
@@ -15,7 +14,7 @@ use Rattle.reader.specs.Rows.{token_at, row_kind_of}
 use Rattle.reader.specs.ways.FromRow.{rows_from}
 use Rattle.reader.specs.declared.token.RowKind.{RowKind}
 use Rattle.reader.specs.declared.token.RowKind.TheVariants.{Span, Join, One, Loop, Op, Respan, Repeat, End, Halt, Nothing}
-use Rattle.reader.specs.declared.grammar.PartRefused.{PartRefused}
+use Rattle.reader.specs.declared.refused.TraceRefused.{TraceRefused}
 
 -- NUMBERS AND VALUES
 
@@ -30,13 +29,10 @@ told_wrong None = none
 told_wrong (Some row) = some row
 
 -- the number and the row of a refusal
-abbrev pub told_refused : PartRefused → PartRead
+abbrev pub told_refused : TraceRefused → PartRead
 told_refused r = refused_at (number_of r.refusal) r.row
 
-abbrev pub refused_for : Refusal → (row : ℕ) → PartRefused
-refused_for refusal row = record { refusal = refusal; row = row }
-
-abbrev pub told_part : Result (ℕ × Answered ℕ) PartRefused → PartRead
+abbrev pub told_part : Result (ℕ × Answered ℕ) TraceRefused → PartRead
 told_part (Ok part) = up_to part.0 (told_wrong part.1)
 told_part (Err r) = told_refused r
 

@@ -8,17 +8,12 @@ use Rattle.theory_readings.specs.Readings.{Block, program_rows, asks, all_rows}
 use Rattle.theory_readings.specs.Answers.{ReaderAnswer}
 use Rattle.theory_readings.specs.ways.Parser.{word_of, no_word_at, after_halt, after_block, read_word, first_wrong, answer_of_word}
 use Rattle.reader.specs.Rows.{word_in}
-use Rattle.reader.specs.Reads.{trace_read}
+use Rattle.reader.specs.Reads.{TraceRead, trace_read}
 use Rattle.reader.specs.ways.FromRow.{rows_from}
-use Rattle.reader.specs.declared.trace.TraceRead.{TraceRead}
 
 -- the answer of a buffer that 2 and 11 pass
 unfoldable pub cells_answer : Profile → (cells : List ℕ) → ReaderAnswer
 cells_answer p cells = answer_of_word (all_rows cells) (read_word (word_in p cells))
-
--- the values of a refusal at a row
-abbrev pub refused_read : (number row : ℕ) → TraceRead
-refused_read number row = record { refusal = number; row = row; program_rows = 0 }
 
 -- row r is the first from `row` on that is no HALT, or the end
 unfoldable pub HaltsRead : (w : List Token) → (row r : ℕ) → Type 0

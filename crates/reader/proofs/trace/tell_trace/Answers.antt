@@ -1,15 +1,19 @@
 -- `trace::tell_trace` meets its contract.
-use mathlib.Core.Path.{refl}
+use mathlib.Core.Path.{◌≡◌, refl}
+use Prim.Native.Nat.{ℕ}
+use borrow.Author.Rules.{rules}
+use Rattle.std.specs.Prelude.{Result, Err}
 use Rattle.groups.specs.Refusals.{number_of}
+use Rattle.reader.specs.declared.refused.TraceRefused.{TraceRefused}
+use Rattle.reader.specs.Reads.{refused_for}
+use Rattle.reader.proofs.SomeNumber.{some-number}
 use Rattle.reader.proofs.ReadLaws.{bad-read, good-read}
-use Rattle.reader.proofs.Refused.{some-number}
 use Rattle.reader.proofs.trace.tell_trace.Goals as goal
 
-pub returns-in-Err : goal.returns-in-Err
-returns-in-Err c = record { tells_trace = rw c.refused.ensures (bad-read _ _ _ (number_of c.in-Err.number) c.in-Err.ensures (some-number c.in-Err.number)); kept_kinds = c.requires }
+pub returns-in_err-refusal-clause-tells_trace : goal.returns-in_err-refusal-clause-tells_trace
+returns-in_err-refusal-clause-tells_trace c =
+    let e : ◌≡◌ {A = Result ℕ TraceRefused} c.from_residual.result (Err (refused_for c.in_err-refusal.field-0.0 0)) = search rules in
+    rw e (bad-read _ _ _ (number_of c.in_err-refusal.field-0.0) c.in_err-refusal.ensures (some-number c.in_err-refusal.field-0.0))
 
-pub read_cells-requires : goal.read_cells-requires
-read_cells-requires c = c.requires
-
-pub returns : goal.returns
-returns c = record { tells_trace = good-read _ _ _ 0 c.in_default.ensures refl _ c.read_cells.ensures.value; kept_kinds = c.read_cells.ensures.kept_kinds }
+pub returns-clause-tells_trace : goal.returns-clause-tells_trace
+returns-clause-tells_trace c = good-read _ _ _ 0 c.in_ok-refusal.ensures refl _ c.read_cells.ensures.value
