@@ -17,7 +17,7 @@ use Rattle.theory_indexes.specs.Indexes.{blocks_in, index}
 use Rattle.theory_indexes.specs.ways.IndexScan.{index_scan, starts, Fits}
 use Rattle.theory_indexes.proofs.Scanned.{scanned, blocks-starts, fits}
 use Rattle.index.specs.Building.{unless_short, blocks_of, index_built, index_after, BuildsIndex}
-use Rattle.index.specs.declared.build.IndexBuilt.{IndexBuilt}
+use Rattle.index.specs.Building.{IndexBuilt}
 
 -- the numbers of an answer
 abbrev built : (number row blocks : ℕ) → IndexBuilt

@@ -28,8 +28,9 @@ use Rattle.theory_indexes.proofs.IndexLists.{index-length}
 use Rattle.theory_indexes.proofs.Innermost.{innermost-found}
 use Rattle.index.specs.Building.{unless_short, blocks_of, index_built, index_after, BuildsIndex}
 use Rattle.index.specs.Lookups.{told_enclosing}
-use Rattle.index.specs.declared.build.IndexBuilt.{IndexBuilt}
-use Rattle.index.specs.declared.enclosing.Enclosing.{Enclosing}
+use Rattle.index.specs.Building.{IndexBuilt}
+use Rattle.std.specs.Prelude.{Option as Answered, Result}
+use Rattle.groups.specs.declared.refusal.Refusal.{Refusal}
 use Rattle.index.proofs.BuildLaws.{unless-refused}
 
 pub length-index : (b : Block) → length (index b) ≡ 3 * blocks_in b
@@ -108,7 +109,7 @@ module _ (p : Profile) (cells lent : List ℕ) (built : IndexBuilt) (after : Lis
     front = rw (builds-as.1, builds-as.0) (take_at (index b) (drop (3 * blocks_in b) lent) (3 * blocks_in b) (length-index b))
 
     -- "On a built index that must be, for each program row, its innermost block, and none for HALT rows."
-    pub finds-innermost : (row : ℕ) (found : Enclosing) → told_enclosing found ≡ enclosing (take (3 * built.blocks) after) row → told_enclosing found ≡ group.accepted (innermost b row)
+    pub finds-innermost : (row : ℕ) (found : Result (Answered ℕ) Refusal) → told_enclosing found ≡ enclosing (take (3 * built.blocks) after) row → told_enclosing found ≡ group.accepted (innermost b row)
     finds-innermost row found e = e ∙ ap (λ (l : List ℕ). enclosing l row) front ∙ index-found p cells b t row
 
   -- an index is built exactly beside a trace, where there are three numbers for each block

@@ -1,11 +1,12 @@
 -- Change request N1: what building the index answers, and what it leaves.
-use Rattle.std.specs.Prelude.{◌≡◌, List, ◌++◌, ℕ, ◌*◌, ◌/◌, ltb, length, drop}
+use Rattle.std.specs.Prelude.{◌≡◌, Result, Ok, Err, List, ◌++◌, ℕ, ◌*◌, ◌/◌, ltb, length, drop}
 use Rattle.groups.specs.Answer.{pick}
 use Rattle.groups.specs.Constants.{row_width, short_index}
 use Rattle.rows.specs.declared.records.profile.Profile.{Profile}
 use Rattle.theory_readings.specs.Answers.{ReaderAnswer, accepted, refused, Right, refusal_of, row_of}
 use Rattle.theory_indexes.specs.Indexes.{blocks_in, index}
-use Rattle.index.specs.declared.build.IndexBuilt.{IndexBuilt}
+use Rattle.groups.specs.Refusals.{number_of}
+use Rattle.reader.specs.declared.refused.TraceRefused.{TraceRefused}
 
 -- "27 when the lent index has fewer than three numbers for each block"
 unfoldable pub unless_short : (lent : ℕ) → ReaderAnswer → ReaderAnswer
@@ -16,6 +17,17 @@ unless_short lent (refused number row) = refused number row
 unfoldable pub blocks_of : ReaderAnswer → ℕ
 blocks_of (accepted b) = blocks_in b
 blocks_of (refused number row) = 0
+
+-- what is told: the number of a refusal or 0, its row, the number of blocks
+pub record IndexBuilt : Type 0 where
+  pub refusal : ℕ
+  pub row : ℕ
+  pub blocks : ℕ
+
+-- what the code answers
+abbrev pub told_built : Result ℕ TraceRefused → IndexBuilt
+told_built (Ok blocks) = record { refusal = 0; row = 0; blocks = blocks }
+told_built (Err r) = record { refusal = number_of r.refusal; row = r.row; blocks = 0 }
 
 unfoldable pub index_built : ReaderAnswer → IndexBuilt
 index_built a = record { refusal = refusal_of a; row = row_of a; blocks = blocks_of a }

@@ -1,10 +1,11 @@
 -- The number and the values of what a look-up answers.
+use Rattle.std.specs.Prelude.{ℕ, Option as Answered, Some, None, Result, Ok, Err}
 use Rattle.std.proofs.Math.Option.{Option, none, some}
-use Rattle.std.specs.Prelude.{ℕ}
 use Rattle.groups.specs.Answer.{Answer, accepted, refused}
-use Rattle.index.specs.declared.enclosing.Enclosing.{Enclosing}
+use Rattle.groups.specs.Refusals.{number_of}
+use Rattle.groups.specs.declared.refusal.Refusal.{Refusal}
 
-abbrev pub told_enclosing : Enclosing → Answer (Option ℕ)
-told_enclosing (Enclosing.At place) = accepted (some place)
-told_enclosing Enclosing.None = accepted none
-told_enclosing (Enclosing.Refused number) = refused number
+abbrev pub told_enclosing : Result (Answered ℕ) Refusal → Answer (Option ℕ)
+told_enclosing (Ok (Some place)) = accepted (some place)
+told_enclosing (Ok None) = accepted none
+told_enclosing (Err refusal) = refused (number_of refusal)

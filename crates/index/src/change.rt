@@ -7,9 +7,8 @@ ghost use Rattle.reader.specs.KeptKinds.{KeptKinds};
 ghost use Rattle.index.specs.ways.Steps.{told_change};
 
 use groups::constants::Row;
-use reader::kept::kept_kind;
+use reader::kept::{LentTrace, kept_kind};
 use reader::token::RowKind;
-use rows::records::profile::Profile;
 
 // A block begins, ends, or neither.
 #[derive(Clone, Copy)]
@@ -20,17 +19,11 @@ pub(crate) enum Change {
 }
 
 // What a row does; past the end, nothing.
-pub(crate) fn change_at(
-    profile: Profile,
-    cells: &[u64],
-    row: usize,
-    table: &[u8; 256],
-    kinds: &[u8],
-) -> Change
-    requires { KeptKinds profile cells.now table.now kinds.now }
-    ensures { told_change result ≡ change_of (token_at profile cells.now row) }
+pub(crate) fn change_at(lent: &LentTrace<'_>, row: usize, kinds: &[u8]) -> Change
+    requires { KeptKinds lent.now.profile lent.now.cells.now lent.now.table.now kinds.now }
+    ensures { told_change result ≡ change_of (token_at lent.now.profile lent.now.cells.now row) }
 {
-    let kind = kept_kind(profile, cells, row, table, kinds);
+    let kind = kept_kind(lent, row, kinds);
     match kind {
         RowKind::Span | RowKind::Join | RowKind::One | RowKind::Loop => Change::Begins,
         RowKind::End => Change::Ends,
@@ -41,32 +34,22 @@ pub(crate) fn change_at(
 }
 
 // 1 where a block begins.
+#[tactic(auto, unfolding(theory_indexes::specs::ways::IndexScan::one_if_begins))]
 fn begun(change: Change) -> usize
     ensures { result ≡ one_if_begins (told_change change) }
 {
-    match change {
-        Change::Begins => 1,
-        Change::Ends => 0,
-        Change::Stays => 0,
-    }
+    usize::from(matches!(change, Change::Begins))
 }
 
 // The number of start rows.
-pub(crate) fn count_starts(
-    profile: Profile,
-    cells: &[u64],
-    table: &[u8; 256],
-    kinds: &[u8],
-) -> usize
-    requires { KeptKinds profile cells.now table.now kinds.now }
-    ensures { result ≡ starts (rows_from (word_in profile cells.now) 0) }
+pub(crate) fn count_starts(lent: &LentTrace<'_>, kinds: &[u8]) -> usize
+    requires { KeptKinds lent.now.profile lent.now.cells.now lent.now.table.now kinds.now }
+    ensures { result ≡ starts (rows_from (word_in lent.now.profile lent.now.cells.now) 0) }
 {
-    let mut at: usize = 0;
-    let mut count: usize = 0;
-    while at < cells.len() / Row::WIDTH {
-        let change = change_at(profile, cells, at, table, kinds);
+    let mut count = 0;
+    for at in 0..lent.cells.len() / Row::WIDTH {
+        let change = change_at(lent, at, kinds);
         count += begun(change);
-        at += 1;
     }
     count
 }

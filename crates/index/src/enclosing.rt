@@ -3,22 +3,14 @@ ghost use Rattle.std.specs.Prelude.{◌≡◌};
 ghost use Rattle.theory_indexes.specs.Enclosing.{enclosing};
 ghost use Rattle.index.specs.Lookups.{told_enclosing};
 
-use groups::constants::Refusal;
+use groups::refusal::Refusal;
 
-// The place of a block, from 0; none; or the number of a refusal.
-#[derive(Clone, Copy)]
-pub enum Enclosing {
-    At(usize),
-    None,
-    Refused(u32),
-}
-
-// The last block whose start and END rows enclose the row, both included; 11 where the numbers are no multiple of three.
-pub fn enclosing_block(index: &[u32], row: usize) -> Enclosing
+// The place, from 0, of the last block whose start and END rows enclose the row, both included; 11 where the numbers are no multiple of three.
+pub fn enclosing_block(index: &[u32], row: usize) -> Result<Option<usize>, Refusal>
     ensures { told_enclosing result ≡ enclosing index.now row }
 {
     if index.len() % 3 != 0 {
-        return Enclosing::Refused(Refusal::BAD_LENGTH);
+        return Err(Refusal::BadLength);
     }
     let mut place = index.len() / 3;
     while 0 < place {
@@ -26,8 +18,8 @@ pub fn enclosing_block(index: &[u32], row: usize) -> Enclosing
         let start = index[3 * place] as usize;
         let end = index[3 * place + 1] as usize;
         if (start <= row) & (row <= end) {
-            return Enclosing::At(place);
+            return Ok(Some(place));
         }
     }
-    Enclosing::None
+    Ok(None)
 }

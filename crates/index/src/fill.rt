@@ -9,7 +9,7 @@ ghost use Rattle.index.specs.ways.Steps.{told_change, around_in, index_behind, s
 
 use crate::change::{Change, change_at};
 use groups::constants::Row;
-use rows::records::profile::Profile;
+use reader::kept::LentTrace;
 
 // How many blocks are open, and where the numbers of the next block go.
 #[derive(Clone, Copy)]
@@ -86,24 +86,18 @@ fn step(
 }
 
 // Fills three numbers for each block; the numbers past them stay.
-pub(crate) fn fill(
-    profile: Profile,
-    cells: &[u64],
-    index: &mut [u32],
-    table: &[u8; 256],
-    kinds: &[u8],
-)
-    requires { (length cells.now / row_width ≤ most_rows) × (3 * starts (rows_from (word_in profile cells.now) 0) ≤ length index.old)
-        × Fits 0 (rows_from (word_in profile cells.now) 0) × KeptKinds profile cells.now table.now kinds.now }
-    ensures { index.new ≡ index_scan (rows_from (word_in profile cells.now) 0) [] []
-        ++ drop (3 * starts (rows_from (word_in profile cells.now) 0)) index.old }
+pub(crate) fn fill(lent: &LentTrace<'_>, index: &mut [u32], kinds: &[u8])
+    requires { (length lent.now.cells.now / row_width ≤ most_rows)
+        × (3 * starts (rows_from (word_in lent.now.profile lent.now.cells.now) 0) ≤ length index.old)
+        × Fits 0 (rows_from (word_in lent.now.profile lent.now.cells.now) 0)
+        × KeptKinds lent.now.profile lent.now.cells.now lent.now.table.now kinds.now }
+    ensures { index.new ≡ index_scan (rows_from (word_in lent.now.profile lent.now.cells.now) 0) [] []
+        ++ drop (3 * starts (rows_from (word_in lent.now.profile lent.now.cells.now) 0)) index.old }
 {
     let mut stack = [0usize; 64];
     let mut s = Progress { opened: 0, next: 0 };
-    let mut at: usize = 0;
-    while at < cells.len() / Row::WIDTH {
-        let change = change_at(profile, cells, at, table, kinds);
+    for at in 0..lent.cells.len() / Row::WIDTH {
+        let change = change_at(lent, at, kinds);
         s = step(change, at as u32, s, &mut stack, index);
-        at += 1;
     }
 }

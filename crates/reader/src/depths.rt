@@ -45,7 +45,7 @@ pub(crate) fn fill(lent: &LentTrace<'_>, depths: &mut [u32], kinds: &[u8])
 {
     let mut opened: u32 = 0;
     for at in 0..lent.cells.len() / Row::WIDTH {
-        let kind = kept_kind(lent.profile, lent.cells, at, lent.table, kinds);
+        let kind = kept_kind(lent, at, kinds);
         let depth = depth_at(kind, opened);
         depths[at] = depth;
         opened = open_behind(kind, depth);

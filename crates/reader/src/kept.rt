@@ -21,10 +21,10 @@ pub const LONG_LIST: usize = 65536;
 
 // A trace that is read: the profile, the lent cells, and a table of the profile.
 #[derive(Clone, Copy)]
-pub(crate) struct LentTrace<'a> {
-    pub(crate) profile: Profile,
-    pub(crate) cells: &'a [u64],
-    pub(crate) table: &'a [u8; 256],
+pub struct LentTrace<'a> {
+    pub profile: Profile,
+    pub cells: &'a [u64],
+    pub table: &'a [u8; 256],
 }
 
 // The number of a kind.
@@ -162,19 +162,13 @@ fn kept_number(cells: &[u64], row: usize, table: &[u8; 256], kinds: &[u8]) -> u8
 }
 
 // What a row is, as it is kept if it is; past the end, nothing.
-pub fn kept_kind(
-    profile: Profile,
-    cells: &[u64],
-    row: usize,
-    table: &[u8; 256],
-    kinds: &[u8],
-) -> RowKind
-    ensures { KeptKinds profile cells.now table.now kinds.now
-        → result ≡ row_kind_of (token_at profile cells.now row) }
+pub fn kept_kind(lent: &LentTrace<'_>, row: usize, kinds: &[u8]) -> RowKind
+    ensures { KeptKinds lent.now.profile lent.now.cells.now lent.now.table.now kinds.now
+        → result ≡ row_kind_of (token_at lent.now.profile lent.now.cells.now row) }
 {
-    let number = kept_number(cells, row, table, kinds);
+    let number = kept_number(lent.cells, row, lent.table, kinds);
     if UNKNOWN <= number {
-        return row_kind(profile, cells, row);
+        return row_kind(lent.profile, lent.cells, row);
     }
     kind_numbered(number)
 }

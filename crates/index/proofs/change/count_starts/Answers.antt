@@ -16,12 +16,12 @@ overflow_add-count c = let m = at_most (told_change c.change_at-change.result) i
     omega arith
 
 pub loop-at-preserved : goal.loop-at-preserved
-loop-at-preserved c = let w = word_in c.args.profile c.args.cells.now in
-    let h : c.loop-at.at < length w = omega (arith, rows_in c.args.profile c.args.cells.now) in
+loop-at-preserved c = let w = word_in c.args.lent.now.profile c.args.lent.now.cells.now in
+    let h : c.loop-at.at < length w = omega (arith, rows_in c.args.lent.now.profile c.args.lent.now.cells.now) in
     let e = starts-cons w c.loop-at.at _ h c.change_at-change.ensures in
     let m = at_most (told_change c.change_at-change.result) in
     (omega arith, omega arith, omega arith)
 
 pub returns : goal.returns
-returns c = let w = word_in c.args.profile c.args.cells.now in
-    omega (arith, starts_none w c.loop-at.at (omega (arith, rows_in c.args.profile c.args.cells.now)))
+returns c = let w = word_in c.args.lent.now.profile c.args.lent.now.cells.now in
+    omega (arith, starts_none w c.loop-at.at (omega (arith, rows_in c.args.lent.now.profile c.args.lent.now.cells.now)))

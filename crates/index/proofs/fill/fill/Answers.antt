@@ -19,21 +19,15 @@ pub overflow_cast-at : goal.overflow_cast-at
 overflow_cast-at c = omega arith
 
 pub step-s-requires : goal.step-s-requires
-step-s-requires c = let w = word_in c.args.profile c.args.cells.now in
-    let h : c.loop-at.at < length w = omega (arith, rows_in c.args.profile c.args.cells.now) in
+step-s-requires c = let w = word_in c.args.lent.now.profile c.args.lent.now.cells.now in
+    let h : c.loop-at.at < length w = omega (arith, rows_in c.args.lent.now.profile c.args.lent.now.cells.now) in
     room _ _ _ _ c.requires.1 c.loop-at.at (rows_from w (c.loop-at.at + 1)) _ _ _ _
     (at_row _ _ _ _ c.requires.1 _ _ _ _ _ _ _ c.change_at-change.ensures (rw (rows-cons w c.loop-at.at h) at c.loop-at.invariant.1))
 
-pub overflow_add-at : goal.overflow_add-at
-overflow_add-at c = omega arith
-
-pub loop-at-smaller : goal.loop-at-smaller
-loop-at-smaller c = omega arith
-
 pub loop-at-preserved : goal.loop-at-preserved
-loop-at-preserved c = let w = word_in c.args.profile c.args.cells.now in
-    let h : c.loop-at.at < length w = omega (arith, rows_in c.args.profile c.args.cells.now) in (
-      omega (arith, rows_in c.args.profile c.args.cells.now),
+loop-at-preserved c = let w = word_in c.args.lent.now.profile c.args.lent.now.cells.now in
+    let h : c.loop-at.at < length w = omega (arith, rows_in c.args.lent.now.profile c.args.lent.now.cells.now) in (
+      omega (arith, rows_in c.args.lent.now.profile c.args.lent.now.cells.now),
       rw (c.step-s.ensures.value, c.step-s.ensures.stack_after, c.step-s.ensures.index_after)
           (next_row _ _ _ _ c.requires.1 c.loop-at.at (rows_from w (c.loop-at.at + 1)) _ _ _ _
           (at_row _ _ _ _ c.requires.1 _ _ _ _ _ _ _ c.change_at-change.ensures (rw (rows-cons w c.loop-at.at h) at c.loop-at.invariant.1))),
@@ -43,5 +37,5 @@ pub shape_of-index : goal.shape_of-index
 shape_of-index c = c.loop-at.invariant.1.sized
 
 pub returns : goal.returns
-returns c = let w = word_in c.args.profile c.args.cells.now in
-    all-built _ _ _ _ _ _ _ (rw (rows_none w c.loop-at.at (omega (arith, rows_in c.args.profile c.args.cells.now))) at c.loop-at.invariant.1)
+returns c = let w = word_in c.args.lent.now.profile c.args.lent.now.cells.now in
+    all-built _ _ _ _ _ _ _ (rw (rows_none w c.loop-at.at (omega (arith, rows_in c.args.lent.now.profile c.args.lent.now.cells.now))) at c.loop-at.invariant.1)

@@ -1,6 +1,6 @@
 -- `fill::fill` meets its contract: the scan on lists, row by row.
 use mathlib.Core.List.{[]}
-use Prim.Native.Nat.{◌*◌, ◌-◌, ◌/◌, ◌≤◌}
+use Prim.Native.Nat.{◌*◌, ◌/◌, ◌≤◌}
 use lib.ListN.{length, drop}
 use Rattle.theory_indexes.specs.ways.IndexScan.{index_scan, starts}
 use Rattle.reader.specs.Rows.{word_in}
@@ -10,16 +10,13 @@ use Rattle.index.proofs.fill.fill.Given as goal
 
 abbrev pub invariant-loop-at : goal.invariant-loop-at
 invariant-loop-at l =
-    (l.at ≤ length l.cells / 49)
+    (l.at ≤ length l.lent.cells.now / 49)
     × Building
-    (index_scan (rows_from (word_in l.profile l.cells) 0) [] [])
-    (starts (rows_from (word_in l.profile l.cells) 0))
-    (drop (3 * starts (rows_from (word_in l.profile l.cells) 0)) l.initial.index)
+    (index_scan (rows_from (word_in l.lent.profile l.lent.cells.now) 0) [] [])
+    (starts (rows_from (word_in l.lent.profile l.lent.cells.now) 0))
+    (drop (3 * starts (rows_from (word_in l.lent.profile l.lent.cells.now) 0)) l.initial.index)
     (length l.initial.index)
-    (rows_from (word_in l.profile l.cells) l.at)
+    (rows_from (word_in l.lent.profile l.lent.cells.now) l.at)
     l.s
     l.stack
     l.index
-
-abbrev pub decreases-loop-at : goal.decreases-loop-at
-decreases-loop-at l = length l.cells / 49 - l.at
