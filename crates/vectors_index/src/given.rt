@@ -1,9 +1,11 @@
 // What a vector gives: the profile and the buffer.
-ghost use Rattle.std.specs.Prelude.{◌<◌, length};
 
 use rows::records::profile::Profile;
-use vectors_shared::copies::put;
-use vectors_shared::given::fill_rows;
+use vectors_shared::changes::put_pairs;
+use vectors_shared::given::put_rows;
+use vectors_shared::numbers::Numbers;
+
+pub const MOST_CELLS: usize = 6860;
 
 // The example's opcodes, and a step.
 pub fn profile_of(step: u64) -> Profile {
@@ -25,10 +27,10 @@ pub fn profile_of(step: u64) -> Profile {
     }
 }
 
-// Fills the buffer with the rows listed from `at` on, and changes one cell.
-pub fn fill(v: &[u64], at: usize, place: usize, value: u64, buffer: &mut [u64])
-    requires { length buffer.old < 49000 }
-{
-    fill_rows(v, at, buffer);
-    put(value, buffer, place, 0);
+// The rows listed, and one cell changed.
+pub fn buffer_of(given: Numbers<'_>) -> [u64; MOST_CELLS] {
+    let mut buffer = [0u64; MOST_CELLS];
+    put_rows(given.behind(6), &mut buffer);
+    put_pairs(given.behind(3), 1, &mut buffer);
+    buffer
 }

@@ -7,30 +7,18 @@ mod given;
 mod lookup_list;
 
 use std::io;
-use std::rt::Runtime;
-use vectors_shared::text;
-use vectors_shared::text::report;
-
-fn builds(rt: &impl Runtime, name: &[u8]) -> io::Result<()> {
-    let mut numbers = [0u64; 8192];
-    text::load(rt, name, &mut numbers)?;
-    let all = numbers[0];
-    report(rt, name, build_list::right(&numbers, all), all)
-}
-
-fn lookups(rt: &impl Runtime, name: &[u8]) -> io::Result<()> {
-    let mut numbers = [0u64; 8192];
-    text::load(rt, name, &mut numbers)?;
-    let all = numbers[0];
-    report(rt, name, lookup_list::right(&numbers, all), all)
-}
+use vectors_shared::runner::run_list;
 
 fn main(rt: HostRuntime) -> io::Result<()> {
-    builds(&rt, b"traces_a")?;
-    builds(&rt, b"traces_b")?;
-    builds(&rt, b"traces_c")?;
-    builds(&rt, b"cells")?;
-    builds(&rt, b"refused_a")?;
-    builds(&rt, b"refused_b")?;
-    lookups(&rt, b"lookups")
+    for name in [
+        "traces_a",
+        "traces_b",
+        "traces_c",
+        "cells",
+        "refused_a",
+        "refused_b",
+    ] {
+        run_list(&rt, name.as_bytes(), build_list::right)?;
+    }
+    run_list(&rt, b"lookups", lookup_list::right)
 }

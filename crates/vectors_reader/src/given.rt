@@ -1,35 +1,55 @@
-// What the reader is given, from the numbers of an input.
-ghost use Rattle.std.specs.Prelude.{◌<◌, length};
+// What the reader is given, read of an input. The input's places: profile 0 to 13; how many cells of the buffer are lent 14; how many depth
+// numbers 15; the row asked for 16; three changes of single cells 17 to 22, each a place and a number; the rows from 23, each as opcode,
+// in_span, h4 and group_count.
 
-use vectors_shared::copies::put;
-use vectors_shared::given::fill_rows;
-use vectors_shared::text::item;
+ghost use Rattle.std.specs.Prelude.{◌≤◌};
 
-const CHANGED: usize = 17;
+use rows::records::profile::Profile;
+use vectors_shared::changes::put_pairs;
+use vectors_shared::given::put_rows;
+use vectors_shared::numbers::Numbers;
 
-const ROWS: usize = 23;
+// The cells of a row.
+const WIDTH: usize = 49;
 
-// Fills the buffer with the input's rows, and makes the three changes of single cells.
-pub fn fill(input: &[u64], buffer: &mut [u64])
-    requires { length buffer.old < 49000 }
-{
-    fill_rows(input, ROWS, buffer);
-    put(
-        item(input, CHANGED, 1),
-        buffer,
-        item(input, CHANGED, 0) as usize,
-        0,
-    );
-    put(
-        item(input, CHANGED, 3),
-        buffer,
-        item(input, CHANGED, 2) as usize,
-        0,
-    );
-    put(
-        item(input, CHANGED, 5),
-        buffer,
-        item(input, CHANGED, 4) as usize,
-        0,
-    );
+const MOST_CELLS: usize = 6860;
+
+pub const MOST_ROWS: usize = 160;
+
+#[derive(Drop)]
+pub struct Input {
+    pub profile: Profile,
+    pub depths: usize,
+    pub asked: usize,
+    cells: usize,
+    buffer: [u64; MOST_CELLS],
+}
+
+impl From<Numbers<'_>> for Input {
+    fn from(list: Numbers<'_>) -> Self {
+        let mut buffer = [0u64; MOST_CELLS];
+        put_rows(list.behind(23), &mut buffer);
+        put_pairs(list.behind(17), 3, &mut buffer);
+        Self {
+            profile: Profile::from(list),
+            depths: list.item(15),
+            asked: list.item(16),
+            cells: list.item(14),
+            buffer,
+        }
+    }
+}
+
+impl Input {
+    // The cells that are lent.
+    pub fn lent(&self) -> &[u64] {
+        &self.buffer[..self.cells.min(MOST_CELLS)]
+    }
+
+    // How many depths are listed where the trace is accepted: one a row of what is lent.
+    pub fn rows(&self) -> usize
+        ensures { result ≤ 160 }
+    {
+        (self.cells / WIDTH).min(MOST_ROWS)
+    }
 }

@@ -6,26 +6,16 @@ mod given;
 mod list;
 
 use std::io;
-use std::rt::Runtime;
-use vectors_shared::text;
-use vectors_shared::text::report;
+use vectors_shared::runner::run_list;
 
-fn vectors(rt: &impl Runtime, name: &[u8]) -> io::Result<()> {
-    let mut numbers = [0u64; 8192];
-    text::load(rt, name, &mut numbers)?;
-    let all = numbers[0];
-    report(rt, name, list::right(&numbers, all), all)
-}
+const LISTS: [&str; 10] = [
+    "listing", "lengths", "cells_a", "cells_b", "faults_a", "faults_b", "faults_c", "deep",
+    "random_a", "random_b",
+];
 
 fn main(rt: HostRuntime) -> io::Result<()> {
-    vectors(&rt, b"listing")?;
-    vectors(&rt, b"lengths")?;
-    vectors(&rt, b"cells_a")?;
-    vectors(&rt, b"cells_b")?;
-    vectors(&rt, b"faults_a")?;
-    vectors(&rt, b"faults_b")?;
-    vectors(&rt, b"faults_c")?;
-    vectors(&rt, b"deep")?;
-    vectors(&rt, b"random_a")?;
-    vectors(&rt, b"random_b")
+    for name in LISTS {
+        run_list(&rt, name.as_bytes(), list::right)?;
+    }
+    Ok(())
 }

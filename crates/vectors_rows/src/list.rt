@@ -20,9 +20,13 @@ use rows::cycles::tracer::CoreTraceGenerationTracer;
 use rows::records::address_state::LentQueues;
 use rows::records::forest::LentForest;
 use rows::records::profile::Profile;
+use vectors_shared::changes::put_pairs;
 use vectors_shared::copies::{put, put_all};
 use vectors_shared::numbers::{Numbers, Part};
-use vectors_shared::runner::Step;
+use vectors_shared::runner::{Step, count_right};
+
+// Where the vectors of a list begin.
+const FIRST_VECTOR: usize = 615;
 
 const NODES: usize = 14;
 
@@ -62,13 +66,13 @@ const MOST_NUMBERS: usize = 692;
 
 // What a call is given.
 #[derive(Drop)]
-pub struct Input {
+struct Input {
     numbers: [u64; 1129],
 }
 
 impl Input {
     // Zeros.
-    pub fn new() -> Self {
+    fn new() -> Self {
         Self { numbers: [0; 1129] }
     }
 
@@ -82,20 +86,6 @@ impl Input {
         self.numbers = [0; 1129];
         base.fill(&mut self.numbers[..TALLY]);
         self.numbers[TALLY] = 512;
-    }
-
-    // Puts the numbers of `count` pairs into their places.
-    fn change(&mut self, pairs: Numbers<'_>, count: usize)
-        requires { count ≤ 200 }
-    {
-        for k in 0..count {
-            put(
-                pairs.number(2 * k + 1),
-                &mut self.numbers,
-                pairs.item(2 * k),
-                0,
-            );
-        }
     }
 
     // Puts numbers from a place on.
@@ -273,10 +263,13 @@ impl Call {
         }
     }
 
-    // How many numbers follow the answer's number where the call is accepted; after a refusal there are none.
-    fn answer_length(self) -> usize
+    // How many numbers follow the answer's number; after a refusal there are none.
+    fn answer_length(self, number: u64) -> usize
         ensures { result ≤ 100 }
     {
+        if number != 0 {
+            return 0;
+        }
         match self {
             Self::New | Self::Store => 46,
             Self::Finish => 96,
@@ -288,7 +281,7 @@ impl Call {
 }
 
 // The first vector of what is left of a list.
-pub fn vector<'a>(list: Numbers<'a>, rest: Numbers<'a>, input: &mut Input) -> Step<'a> {
+fn vector<'a>(list: Numbers<'a>, rest: Numbers<'a>, input: &mut Input) -> Step<'a> {
     if rest.len() <= MOST_NUMBERS {
         return Step {
             right: false,
@@ -300,16 +293,19 @@ pub fn vector<'a>(list: Numbers<'a>, rest: Numbers<'a>, input: &mut Input) -> St
     }
     let call = Call::from(rest.number(1));
     let changes = rest.at_most(2, MOST_CHANGES);
-    input.change(rest.behind(3), changes);
+    put_pairs(rest.behind(3), changes, &mut input.numbers);
     let answer = rest.behind(3 + 2 * changes);
     let right = call.is_right(input, answer);
-    let told = if answer.number(0) == 0 {
-        call.answer_length()
-    } else {
-        0
-    };
     Step {
         right,
-        rest: answer.behind(1 + told),
+        rest: answer.behind(1 + call.answer_length(answer.number(0))),
     }
+}
+
+// How many of the list's vectors come out right.
+pub fn right(list: Numbers<'_>) -> u64 {
+    let mut input = Input::new();
+    count_right(list.behind(FIRST_VECTOR), list.number(0), |rest| {
+        vector(list, rest, &mut input)
+    })
 }

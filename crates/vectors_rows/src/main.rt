@@ -6,15 +6,8 @@ mod given;
 mod list;
 mod told;
 
-use list::{Input, vector};
 use std::io;
-use std::rt::Runtime;
-use vectors_shared::numbers::Numbers;
-use vectors_shared::runner::run_vectors;
-use vectors_shared::text::load;
-
-// Where the vectors of a list begin.
-const FIRST_VECTOR: usize = 615;
+use vectors_shared::runner::run_list;
 
 const LISTS: [&str; 19] = [
     "rows_a",
@@ -38,24 +31,9 @@ const LISTS: [&str; 19] = [
     "mixed_c",
 ];
 
-// The list has fixed room, since no heap is used.
-fn vectors(rt: &impl Runtime, name: &[u8]) -> io::Result<()> {
-    let mut numbers = [0u64; 8192];
-    load(rt, name, &mut numbers)?;
-    let list = Numbers::new(&numbers);
-    let mut input = Input::new();
-    run_vectors(
-        rt,
-        name,
-        list.behind(FIRST_VECTOR),
-        list.number(0),
-        |rest| vector(list, rest, &mut input),
-    )
-}
-
 fn main(rt: HostRuntime) -> io::Result<()> {
     for name in LISTS {
-        vectors(&rt, name.as_bytes())?;
+        run_list(&rt, name.as_bytes(), list::right)?;
     }
     Ok(())
 }

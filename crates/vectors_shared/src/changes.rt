@@ -31,6 +31,15 @@ pub fn make_changes<'a>(list: Numbers<'a>, to: &mut [u64]) -> Numbers<'a> {
     rest
 }
 
+// Puts the numbers of `count` pairs, each a place and a number, into their places.
+pub fn put_pairs(pairs: Numbers<'_>, count: usize, to: &mut [u64]) {
+    let mut rest = pairs;
+    for _ in 0..count {
+        put(rest.number(1), to, rest.item(0), 0);
+        rest = rest.behind(2);
+    }
+}
+
 // Puts the numbers of the run that begins at `at` into their places, and answers the place behind it.
 fn put_run_at(v: &[u64], at: usize, to: &mut [u64]) -> usize
     requires { at < 8192 }

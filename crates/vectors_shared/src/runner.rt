@@ -2,8 +2,9 @@
 ghost use Rattle.std.specs.Prelude.{◌≤◌};
 
 use crate::numbers::Numbers;
-use crate::text::report;
+use crate::text::{load, report};
 use std::io;
+use std::rt::Runtime;
 
 // What running a vector tells: whether it came out right, and the list behind it.
 #[derive(Clone, Copy)]
@@ -32,6 +33,23 @@ pub fn count_right<'a, F: FnMut(Numbers<'a>) -> Step<'a>>(
         rest = step.rest;
     }
     right
+}
+
+// As many numbers of a list are read. The list has fixed room, since no heap is used.
+pub const MOST_NUMBERS: usize = 8192;
+
+// Runs the list of a file, which begins with how many vectors it has, and writes how many `right` says came out right.
+pub fn run_list<F: FnOnce(Numbers<'_>) -> u64>(
+    rt: &impl Runtime,
+    name: &[u8],
+    right: F,
+) -> io::Result<()>
+    requires { F.IsAlwaysCallable right }
+{
+    let mut numbers = [0u64; MOST_NUMBERS];
+    load(rt, name, &mut numbers)?;
+    let list = Numbers::new(&numbers);
+    report(rt, name, right(list), list.number(0))
 }
 
 // Runs the first `all` vectors of a list, and writes how many came out right.

@@ -1,5 +1,5 @@
 -- `text::read_full`: what is read so far fits into the text, whose length stays.
-use Rattle.std.proofs.Common.{◌≡◌, ◌-◌, ◌≤◌, length}
+use Rattle.std.proofs.Common.{◌-◌, ◌≤◌, length}
 use Rattle.vectors_shared.proofs.text.read_full.Given as goal
 
 abbrev pub invariant-loop-n : goal.invariant-loop-n
