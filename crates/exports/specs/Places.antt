@@ -6,7 +6,19 @@ use Rattle.std.specs.Prelude.{ℕ, ◌*◌}
 use Rattle.groups.specs.Answer.{Answer, accepted, refused, pick}
 use Rattle.groups.specs.Constants.{row_width}
 use Rattle.groups.specs.declared.group.OpPlace.{OpPlace}
+use Rattle.reader.specs.Reads.{TraceRead}
 use Rattle.reader.specs.Views.{view_refused}
+use Rattle.index.specs.Building.{IndexBuilt}
+use Rattle.exports.specs.declared.TraceRead as read
+use Rattle.exports.specs.declared.IndexBuilt as built
+
+-- what reading a trace answers, as it is handed to C
+abbrev pub trace_values : read.TraceRead → TraceRead
+trace_values r = record { refusal = r.refusal; row = r.row; program_rows = r.program_rows }
+
+-- what building an index answers (N1), as it is handed to C
+abbrev pub index_values : built.IndexBuilt → IndexBuilt
+index_values r = record { refusal = r.refusal; row = r.row; blocks = r.blocks }
 
 -- the first cell of the part
 unfoldable pub view_start : (cells number : ℕ) → ℕ

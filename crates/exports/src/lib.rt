@@ -16,7 +16,7 @@ ghost use Rattle.groups.specs.GroupOfOperation.{place_of_op};
 ghost use Rattle.theory_indexes.specs.Enclosing.{enclosing};
 ghost use Rattle.index.specs.Building.{BuildsIndex};
 ghost use Rattle.dump.specs.Dumping.{dumping, text_after, ReadsDump};
-ghost use Rattle.exports.specs.Places.{view_start, view_cells, enclosing_found, enclosing_place, no_place};
+ghost use Rattle.exports.specs.Places.{trace_values, index_values, view_start, view_cells, enclosing_found, enclosing_place, no_place};
 
 use dump::read_text::read_dump;
 use dump::write::write_dump;
@@ -25,9 +25,9 @@ use groups::batch::LentBatches;
 use groups::constants::Row;
 use groups::group::op_place;
 use groups::refusal::answered_number;
-use index::build::{IndexBuilt, build_index};
-use index::enclosing::{Enclosing, enclosing_block};
-use reader::trace::{TraceRead, read_trace};
+use index::build::build_index;
+use index::enclosing::enclosing_block;
+use reader::trace::read_trace;
 use reader::view::row;
 use rows::passes::finish::finish;
 use rows::passes::fixup::fixup_stack_and_system_rows;
@@ -210,12 +210,32 @@ pub extern "C" fn core_replay(
     )
 }
 
+// What reading a trace answers: 0, or the number and the row of its refusal; the number of program rows, 0 on a refusal.
+#[repr(C)]
+#[derive(Clone, Copy)]
+pub struct TraceRead {
+    pub refusal: u32,
+    pub row: usize,
+    pub program_rows: usize,
+}
+
 // Reads a trace: the answer, and, where it is accepted, one depth a row.
 #[unsafe(no_mangle)]
 pub extern "C" fn core_read_trace(profile: Profile, cells: &[u64], depths: &mut [u32]) -> TraceRead
-    ensures { ReadsTrace profile cells.now depths.old result depths.new }
+    ensures { ReadsTrace profile cells.now depths.old (trace_values result) depths.new }
 {
-    read_trace(profile, cells, depths)
+    match read_trace(profile, cells, depths) {
+        Ok(program_rows) => TraceRead {
+            refusal: 0,
+            row: 0,
+            program_rows,
+        },
+        Err(refused) => TraceRead {
+            refusal: u32::from(refused.refusal),
+            row: refused.row,
+            program_rows: 0,
+        },
+    }
 }
 
 // Where a row lies among the lent cells: its first cell and how many cells it has, both 0 on a refusal.
@@ -241,12 +261,32 @@ pub extern "C" fn core_row(cells: &[u64], number: usize) -> RowBounds
     }
 }
 
+// What building an index answers: 0, or the number and the row of a refusal; the number of blocks, 0 on a refusal.
+#[repr(C)]
+#[derive(Clone, Copy)]
+pub struct IndexBuilt {
+    pub refusal: u32,
+    pub row: usize,
+    pub blocks: usize,
+}
+
 // Builds the index of a trace: three numbers for each block.
 #[unsafe(no_mangle)]
 pub extern "C" fn core_build_index(profile: Profile, cells: &[u64], index: &mut [u32]) -> IndexBuilt
-    ensures { BuildsIndex profile cells.now index.old result index.new }
+    ensures { BuildsIndex profile cells.now index.old (index_values result) index.new }
 {
-    build_index(profile, cells, index)
+    match build_index(profile, cells, index) {
+        Ok(blocks) => IndexBuilt {
+            refusal: 0,
+            row: 0,
+            blocks,
+        },
+        Err(refused) => IndexBuilt {
+            refusal: u32::from(refused.refusal),
+            row: refused.row,
+            blocks: 0,
+        },
+    }
 }
 
 // What a look-up in an index answers: 0 or 11, 1 where a block encloses the row, and its place; else 0.
@@ -259,25 +299,25 @@ pub struct EnclosingBlock {
 }
 
 // The last block of an index that encloses a row.
+#[tactic(auto, unfolding(crate::specs::Places::enclosing_found, crate::specs::Places::enclosing_place))]
 #[unsafe(no_mangle)]
 pub extern "C" fn core_enclosing_block(index: &[u32], row: usize) -> EnclosingBlock
     ensures { (result.refusal ≡ refusal (enclosing index.now row)) × (result.found ≡ enclosing_found (enclosing index.now row))
         × (result.place ≡ enclosing_place (enclosing index.now row)) }
 {
-    let block = enclosing_block(index, row);
-    match block {
-        Enclosing::At(place) => EnclosingBlock {
+    match enclosing_block(index, row) {
+        Ok(Some(place)) => EnclosingBlock {
             refusal: 0,
             found: 1,
             place,
         },
-        Enclosing::None => EnclosingBlock {
+        Ok(None) => EnclosingBlock {
             refusal: 0,
             found: 0,
             place: 0,
         },
-        Enclosing::Refused(n) => EnclosingBlock {
-            refusal: n,
+        Err(refusal) => EnclosingBlock {
+            refusal: u32::from(refusal),
             found: 0,
             place: 0,
         },
