@@ -16,7 +16,7 @@ use Rattle.theory_readings.specs.Readings.{Block, program_rows, Trace}
 use Rattle.theory_readings.specs.Answers.{ReaderAnswer, accepted, Right}
 use Rattle.theory_readings.proofs.OneReading as readings
 use Rattle.reader.specs.Reads.{ReadsTrace}
-use Rattle.reader.specs.Reads.{TraceRead}
+use Rattle.reader.specs.Reads.{TraceRead, told_trace}
 use Rattle.reader.proofs.trace.read_trace.Reads as read_trace
 use Rattle.reader.proofs.ReaderExact.{one-read, some_read, is-right-answer, reads-tree, reads_as, reads-exactly}
 use Rattle.theory_runs.specs.Calls.{Handed, Call, finish, Fragment, opened, call_refusal, AllAccepted, final_states, cells_of, counts_of, built_cells, OneSize}
@@ -105,12 +105,12 @@ read_back p cells b t = record {
 -- of `read_trace` itself, whose code meets its contract (`meets-contract`): whatever profile, cells and depth numbers a are passed, the result r
 -- and what s has at exit are as above
 pub call-exact : (κs : _) (a : _) (r : _) (s : _) → read_trace.Learnt κs a r s → length a.1.0.now / 49 ≤ length a.1.1.0.now →
-    (r.refusal ≡ 0) ↔ ((b : Block) × Trace a.0 a.1.0.now b)
-call-exact κs a r s call enough = (reader-exact a.0 a.1.0.now a.1.1.0.now r s.1.1.0.now (learns κs a r s call)).2 enough
+    ((told_trace r).refusal ≡ 0) ↔ ((b : Block) × Trace a.0 a.1.0.now b)
+call-exact κs a r s call enough = (reader-exact a.0 a.1.0.now a.1.1.0.now (told_trace r) s.1.1.0.now (learns κs a r s call)).2 enough
 
 pub call-read : (κs : _) (a : _) (r : _) (s : _) (call : read_trace.Learnt κs a r s) (b : Block) → length a.1.0.now / 49 ≤ length a.1.1.0.now →
-    ReadBack a.0 a.1.0.now b → ReadAs a.0 a.1.0.now a.1.1.0.now r s.1.1.0.now (learns κs a r s call) b
-call-read κs a r s call b enough back = back.read a.1.1.0.now enough r s.1.1.0.now (learns κs a r s call)
+    ReadBack a.0 a.1.0.now b → ReadAs a.0 a.1.0.now a.1.1.0.now (told_trace r) s.1.1.0.now (learns κs a r s call) b
+call-read κs a r s call b enough back = back.read a.1.1.0.now enough (told_trace r) s.1.1.0.now (learns κs a r s call)
 
 -- WHAT WE WRITE
 
