@@ -4,79 +4,69 @@ use groups::constants::{Column, Row};
 use reader::view::row;
 use rows::records::buffer::decode_opcode;
 use rows::records::profile::{Profile, opcodes_of};
-use std::io;
+use std::{fmt, io};
 
-fn wide(x: u8) -> u64 {
-    x as u64
-}
-
-// The opcode's place among those of the profile, or how many they are.
-fn place_of(opcodes: &[u8], opcode: u64) -> usize {
-    let mut i = 0;
-    while i < opcodes.len() {
-        if wide(opcodes[i]) == opcode {
-            return i;
-        }
-        i += 1;
-    }
-    i
-}
-
-fn write(rt: &impl Print, text: &str) -> io::Result<()> {
-    print!(rt; "{text}")
-}
-
-fn write_number(rt: &impl Print, n: u64) -> io::Result<()> {
-    print!(rt; "{n}")
-}
-
-// The name of a control row, by its opcode's place in the profile; the opcode of an op, PUSH among them.
-fn write_name(rt: &impl Print, place: usize, opcode: u64) -> io::Result<()> {
+// The name of a control row, by its opcode's place in the profile. PUSH is an op, and has none.
+fn control_name(place: usize) -> Option<&'static str> {
     match place {
-        0 => write(rt, "SPAN"),
-        1 => write(rt, "RESPAN"),
-        2 => write(rt, "JOIN"),
-        3 => write(rt, "SPLIT"),
-        4 => write(rt, "LOOP"),
-        5 => write(rt, "REPEAT"),
-        6 => write(rt, "CALL"),
-        7 => write(rt, "SYSCALL"),
-        8 => write(rt, "DYN"),
-        9 => write(rt, "DYNCALL"),
-        11 => write(rt, "END"),
-        12 => write(rt, "HALT"),
-        _ => write_number(rt, opcode),
+        0 => Some("SPAN"),
+        1 => Some("RESPAN"),
+        2 => Some("JOIN"),
+        3 => Some("SPLIT"),
+        4 => Some("LOOP"),
+        5 => Some("REPEAT"),
+        6 => Some("CALL"),
+        7 => Some("SYSCALL"),
+        8 => Some("DYN"),
+        9 => Some("DYNCALL"),
+        11 => Some("END"),
+        12 => Some("HALT"),
+        _ => None,
     }
 }
 
-// The line of a row.
-fn write_row(rt: &impl Print, opcodes: &[u8], number: usize, cells: &[u64]) -> io::Result<()> {
-    let opcode = decode_opcode(cells, 0);
-    write_number(rt, number as u64)?;
-    write(rt, " ")?;
-    write_name(rt, place_of(opcodes, opcode), opcode)?;
-    write(rt, " ")?;
-    write_number(rt, cell(cells, Column::ADDR))?;
-    write(rt, " ")?;
-    write_number(rt, cell(cells, Column::GROUP_COUNT))?;
-    write(rt, "\n")
+// What a row is: a control row by its name, an op by its opcode.
+#[derive(Clone, Copy)]
+enum RowName {
+    Control(&'static str),
+    Op(u64),
+}
+
+impl RowName {
+    fn new(profile: Profile, opcode: u64) -> Self {
+        let place = opcodes_of(profile)
+            .iter()
+            .position(|listed| u64::from(*listed) == opcode);
+        match place.and_then(control_name) {
+            Some(name) => Self::Control(name),
+            None => Self::Op(opcode),
+        }
+    }
+}
+
+impl fmt::Display for RowName {
+    fn fmt<W: fmt::Write>(&self, f: &mut fmt::Formatter<W>) -> fmt::Result {
+        match self {
+            Self::Control(name) => write!(f, "{name}"),
+            Self::Op(opcode) => write!(f, "{opcode}"),
+        }
+    }
 }
 
 // The header, and the lines of all rows.
 pub fn write_listing(rt: &impl Print, profile: Profile, cells: &[u64]) -> io::Result<()> {
-    let opcodes = opcodes_of(profile);
-    write(rt, "row op addr count\n")?;
-    let mut number = 0;
-    while number < cells.len() / Row::WIDTH {
-        write_row(rt, &opcodes, number, row(cells, number))?;
-        number += 1;
+    println!(rt; "row op addr count")?;
+    for number in 0..cells.len() / Row::WIDTH {
+        let row = row(cells, number);
+        let name = RowName::new(profile, decode_opcode(row, 0));
+        let addr = cell(row, Column::ADDR);
+        let count = cell(row, Column::GROUP_COUNT);
+        println!(rt; "{number} {name} {addr} {count}")?;
     }
     Ok(())
 }
 
-// The message of a refusal.
+// The message of a refusal, by its number.
 pub fn write_refusal(rt: &impl Print, number: u32) -> io::Result<()> {
-    write(rt, "refused: ")?;
-    write_number(rt, number as u64)?;
-    write(rt, "\n")
+    println!(rt; "refused: {number}")
 }

@@ -7,19 +7,19 @@ mod run;
 
 use listing::{write_listing, write_refusal};
 use reader::trace::read_trace;
+use run::{PROFILE, write_trace};
 use std::io;
 
+// The buffer and the list of depths have fixed room, since no heap is used.
 fn main(rt: HostRuntime) -> io::Result<()> {
-    let profile = run::profile();
     let mut cells = [0u64; 490];
     let mut depths = [0u32; 10];
-    let number = run::write_trace(profile, &mut cells);
-    if number != 0 {
+    if let Err(number) = write_trace(PROFILE, &mut cells) {
         return write_refusal(&rt, number);
     }
-    let read = read_trace(profile, &cells, &mut depths);
+    let read = read_trace(PROFILE, &cells, &mut depths);
     if read.refusal != 0 {
         return write_refusal(&rt, read.refusal);
     }
-    write_listing(&rt, profile, &cells)
+    write_listing(&rt, PROFILE, &cells)
 }
