@@ -17,9 +17,8 @@ fn main(rt: HostRuntime) -> io::Result<()> {
     if let Err(number) = write_trace(PROFILE, &mut cells) {
         return write_refusal(&rt, number);
     }
-    let read = read_trace(PROFILE, &cells, &mut depths);
-    if read.refusal != 0 {
-        return write_refusal(&rt, read.refusal);
+    if let Err(refused) = read_trace(PROFILE, &cells, &mut depths) {
+        return write_refusal(&rt, u32::from(refused.refusal));
     }
     write_listing(&rt, PROFILE, &cells)
 }

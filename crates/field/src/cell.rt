@@ -12,13 +12,6 @@ pub fn cell(cells: &[u64], i: usize) -> u64
     reduce(item_or(cells, i, 0))
 }
 
-// Number i of the slice as it stands, 0 past its end.
-pub fn number_at(numbers: &[u64], i: usize) -> u64
-    ensures { result ≡ get_or numbers.now i 0 }
-{
-    item_or(numbers, i, 0)
-}
-
 // Item i of the slice, `other` past its end.
 pub fn item_or<T: Copy>(items: &[T], i: usize, other: T) -> T
     ensures { result ≡ get_or items.now i other }

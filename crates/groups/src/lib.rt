@@ -7,7 +7,6 @@ pub mod context;
 pub mod flags;
 pub mod group;
 pub mod helpers;
-pub mod number;
 pub mod refusal;
 pub mod sum;
 pub mod word;

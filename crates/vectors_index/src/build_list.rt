@@ -23,12 +23,10 @@ fn build(given: Numbers<'_>, index: &mut [u32; MOST_NUMBERS]) -> [u64; 3] {
     let cells = given.at_most(0, MOST_CELLS);
     let numbers = given.at_most(1, MOST_NUMBERS);
     let profile = profile_of(given.number(2));
-    let built = build_index(profile, &buffer[..cells], &mut index[..numbers]);
-    [
-        u64::from(built.refusal),
-        built.row as u64,
-        built.blocks as u64,
-    ]
+    match build_index(profile, &buffer[..cells], &mut index[..numbers]) {
+        Ok(blocks) => [0, 0, blocks as u64],
+        Err(refused) => [u64::from(u32::from(refused.refusal)), refused.row as u64, 0],
+    }
 }
 
 // The first vector of what is left of a list.

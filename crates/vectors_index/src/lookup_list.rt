@@ -1,16 +1,17 @@
 // A list: how many vectors it has, and the vectors. A vector: how many numbers an index has, the numbers, a row, and what looking it up tells:
 // the place, 999999 for none, 1000000 and its number for a refusal.
 
-use index::enclosing::{Enclosing, enclosing_block};
+use groups::refusal::Refusal;
+use index::enclosing::enclosing_block;
 use vectors_shared::numbers::{Numbers, Part};
 use vectors_shared::runner::{Step, count_right};
 
 // What looking a row up tells, as the lists have it.
-pub fn told(found: Enclosing) -> u64 {
+pub fn told(found: Result<Option<usize>, Refusal>) -> u64 {
     match found {
-        Enclosing::At(place) => place as u64,
-        Enclosing::None => 999999,
-        Enclosing::Refused(number) => 1000000 + u64::from(number),
+        Ok(Some(place)) => place as u64,
+        Ok(None) => 999999,
+        Err(refusal) => 1000000 + u64::from(u32::from(refusal)),
     }
 }
 

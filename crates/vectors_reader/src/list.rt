@@ -20,12 +20,10 @@ const STOOD: u32 = 900;
 fn reading_right(input: &Input, answer: Numbers<'_>, listed: usize) -> bool {
     let mut depths = [STOOD; MOST_ROWS];
     let lent = input.depths.min(MOST_ROWS);
-    let read = read_trace(input.profile, input.lent(), &mut depths[..lent]);
-    let told = [
-        u64::from(read.refusal),
-        read.row as u64,
-        read.program_rows as u64,
-    ];
+    let told = match read_trace(input.profile, input.lent(), &mut depths[..lent]) {
+        Ok(rows) => [0, 0, rows as u64],
+        Err(refused) => [u64::from(u32::from(refused.refusal)), refused.row as u64, 0],
+    };
     answer.begins_with(&told) && answer.behind(3).is_told(listed, u64::from(STOOD), &depths)
 }
 

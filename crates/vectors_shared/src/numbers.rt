@@ -105,11 +105,6 @@ impl<'a> Numbers<'a> {
         self.begins_with(told) && others.iter().all(|number| (*number).into() == stood)
     }
 
-    // How many numbers are left.
-    pub fn len(self) -> usize {
-        self.list.len()
-    }
-
     // A part: how long it is, and its numbers as they stand in the list; and the numbers behind it.
     pub fn split_part(self) -> (&'a [u64], Self) {
         let numbers = self.behind(1).list;
