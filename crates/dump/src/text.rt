@@ -1,4 +1,5 @@
 // Lines put into a text. Where one does not fit, the place behind it is answered all the same, and nothing is said of the text.
+// Text and place stay two parameters: a type that kept both would need the place's bound, which grows from call to call, in each contract too.
 ghost use Rattle.std.specs.Prelude.{◌++◌, ◌^◌, ◌≤◌, ◌<◌, length};
 ghost use Rattle.groups.specs.Constants.{row_width};
 ghost use Rattle.theory_dumps.specs.Dumps.{time_line, value_line};

@@ -6,7 +6,9 @@
 ghost use Rattle.std.specs.Prelude.{◌≡◌, ◌-◌, length};
 ghost use Rattle.rows.specs.records.Buffers.{on_rows};
 ghost use Rattle.rows.specs.passes.Passes.{sum_of, built_of, fixed_up, multiplied, inverted, halted, padded, refusal1, refusal2, refusal3, refusal4, refusal5, refusal_all, all_passes, unless_refused};
-ghost use Rattle.rows.specs.replay.Calls.{lent_scanned, replayed, replayed_fragment};
+ghost use Rattle.rows.specs.records.Forests.{forest};
+ghost use Rattle.rows.specs.records.Addresses.{queues};
+ghost use Rattle.rows.specs.replay.Calls.{scanned, replayed, replayed_fragment};
 ghost use Rattle.reader.specs.Reads.{ReadsTrace};
 ghost use Rattle.field.specs.Inverse.{inverse_of};
 ghost use Rattle.groups.specs.Answer.{refusal, values};
@@ -16,21 +18,25 @@ ghost use Rattle.index.specs.Building.{BuildsIndex};
 ghost use Rattle.dump.specs.Dumping.{dumping, text_after, ReadsDump};
 ghost use Rattle.exports.specs.Places.{view_start, view_cells, enclosing_found, enclosing_place, no_place};
 
-use dump::read_text::{DumpRead, read_dump};
-use dump::write::{DumpWritten, write_dump};
+use dump::read_text::read_dump;
+use dump::write::write_dump;
 use field::inverse::inverse;
+use groups::batch::LentBatches;
 use groups::constants::Row;
-use groups::group::{PlaceFound, op_place};
+use groups::group::op_place;
+use groups::refusal::answered_number;
 use index::build::{IndexBuilt, build_index};
 use index::enclosing::{Enclosing, enclosing_block};
 use reader::trace::{TraceRead, read_trace};
 use reader::view::row;
 use rows::passes::finish::finish;
 use rows::passes::fixup::fixup_stack_and_system_rows;
+use rows::passes::fragments::Fragments;
 use rows::passes::halt::{pad_core_row_major, push_halt_opcode_row};
 use rows::passes::helper_column::invert_helper_column;
 use rows::passes::multiplicity::set_loop_body_multiplicities;
-use rows::records::address_state::{DecoderState, Positions};
+use rows::records::address_state::{Cursor, DecoderState, LentQueues, Positions};
+use rows::records::forest::LentForest;
 use rows::records::profile::Profile;
 use rows::replay::calls::{Replayed, replay_calls};
 
@@ -70,7 +76,12 @@ pub extern "C" fn core_fixup(
         (fixed_up fragment_size first_stack_top.now (built_of (length counts.now - 1) built.now))
         buffer.old) }
 {
-    fixup_stack_and_system_rows(buffer, fragment_size, counts, built, *first_stack_top)
+    let fragments = Fragments {
+        size: fragment_size,
+        counts,
+        built,
+    };
+    answered_number(fixup_stack_and_system_rows(buffer, &fragments, *first_stack_top))
 }
 
 // Pass 2: each LOOP row's count.
@@ -80,7 +91,7 @@ pub extern "C" fn core_multiplicities(profile: Profile, buffer: &mut [u64], rows
     ensures buffer_after { buffer.new ≡ unless_refused (refusal2 profile buffer.old rows) buffer.old
         (on_rows rows (multiplied profile) buffer.old) }
 {
-    set_loop_body_multiplicities(profile, buffer, rows)
+    answered_number(set_loop_body_multiplicities(profile, buffer, rows))
 }
 
 // Pass 3: each helper cell becomes its inverse.
@@ -90,7 +101,7 @@ pub extern "C" fn core_invert_helper_column(buffer: &mut [u64], rows: usize) -> 
     ensures buffer_after { buffer.new ≡ unless_refused (refusal3 buffer.old rows) buffer.old
         (on_rows rows inverted buffer.old) }
 {
-    invert_helper_column(buffer, rows)
+    answered_number(invert_helper_column(buffer, rows))
 }
 
 // Pass 4: the HALT row behind the program's rows.
@@ -105,7 +116,7 @@ pub extern "C" fn core_push_halt(
     ensures buffer_after { buffer.new ≡ unless_refused (refusal4 profile buffer.old rows) buffer.old
         (on_rows rows (halted profile built.now) buffer.old) }
 {
-    push_halt_opcode_row(profile, buffer, rows, *built)
+    answered_number(push_halt_opcode_row(profile, buffer, rows, *built))
 }
 
 // Pass 5: HALT rows up to the height.
@@ -115,7 +126,7 @@ pub extern "C" fn core_pad(profile: Profile, buffer: &mut [u64], rows: usize, he
     ensures buffer_after { buffer.new ≡ unless_refused (refusal5 profile buffer.old rows height) buffer.old
         (on_rows rows (padded profile height) buffer.old) }
 {
-    pad_core_row_major(profile, buffer, rows, height)
+    answered_number(pad_core_row_major(profile, buffer, rows, height))
 }
 
 // All five passes.
@@ -135,15 +146,18 @@ pub extern "C" fn core_finish(
         buffer.old
         (all_passes profile fragment_size counts.now built.now first_stack_top.now height buffer.old) }
 {
-    finish(
-        profile,
-        buffer,
-        fragment_size,
+    let fragments = Fragments {
+        size: fragment_size,
         counts,
         built,
+    };
+    answered_number(finish(
+        profile,
+        buffer,
+        &fragments,
         *first_stack_top,
         height,
-    )
+    ))
 }
 
 // Storings and cycles, lent as records of 32 numbers, on a fresh tracer over one fragment.
@@ -164,15 +178,35 @@ pub extern "C" fn core_replay(
     records: &[u64],
     fragment: &mut [u64],
 ) -> Replayed
-    ensures value { result ≡ replayed (lent_scanned profile nodes digests batches groups ops directory addresses parents ends fragment) state at
-        records.now }
+    ensures value { result ≡ replayed
+        (scanned profile (forest nodes.now digests.now batches.now groups.now ops.now) directory.now (queues addresses.now parents.now ends.now)
+        (length fragment.old)) state at records.now }
     ensures fragment_after { fragment.new ≡ replayed_fragment
-        (lent_scanned profile nodes digests batches groups ops directory addresses parents ends fragment) state at
-        records.now fragment.old }
+        (scanned profile (forest nodes.now digests.now batches.now groups.now ops.now) directory.now (queues addresses.now parents.now ends.now)
+        (length fragment.old)) state at records.now fragment.old }
 {
+    let forests = LentForest {
+        nodes,
+        digests,
+        batches: LentBatches {
+            records: batches,
+            groups,
+        },
+        ops,
+    };
+    let queues = LentQueues {
+        addresses,
+        parents,
+        ends,
+    };
     replay_calls(
-        nodes, digests, batches, groups, ops, directory, addresses, parents, ends, profile, state,
-        at, records, fragment,
+        &forests,
+        directory,
+        &queues,
+        profile,
+        Cursor { state, at },
+        records,
+        fragment,
     )
 }
 
@@ -270,21 +304,28 @@ pub extern "C" fn core_op_place(batches: &[u32], record: usize, op: u32) -> Oper
         × (result.index ≡ (values no_place (place_of_op batches.now «record» op)).index)
         × (result.following ≡ (values no_place (place_of_op batches.now «record» op)).following) }
 {
-    let found = op_place(batches, record, op);
-    match found {
-        PlaceFound::At(place) => OperationPlace {
+    match op_place(batches, record, op) {
+        Ok(place) => OperationPlace {
             refusal: 0,
             group: place.group,
             index: place.index,
             following: place.following,
         },
-        PlaceFound::Refused(n) => OperationPlace {
-            refusal: n,
+        Err(refusal) => OperationPlace {
+            refusal: u32::from(refusal),
             group: 0,
             index: 0,
             following: 0,
         },
     }
+}
+
+// What writing a dump answers: 0, or the number of a refusal; the number of bytes, 0 on a refusal.
+#[repr(C)]
+#[derive(Clone, Copy)]
+pub struct DumpWritten {
+    pub refusal: u32,
+    pub bytes: usize,
 }
 
 // Writes a finished trace as a value change dump.
@@ -294,7 +335,21 @@ pub extern "C" fn core_write_dump(cells: &[u64], text: &mut [u8]) -> DumpWritten
         × (result.bytes ≡ values 0 (dumping cells.now (length text.old))) }
     ensures text_after { text.new ≡ text_after cells.now (dumping cells.now (length text.old)) text.old }
 {
-    write_dump(cells, text)
+    match write_dump(cells, text) {
+        Ok(bytes) => DumpWritten { refusal: 0, bytes },
+        Err(refusal) => DumpWritten {
+            refusal: u32::from(refusal),
+            bytes: 0,
+        },
+    }
+}
+
+// What reading a dump answers: 0, or the number of a refusal; the number of rows, 0 on a refusal.
+#[repr(C)]
+#[derive(Clone, Copy)]
+pub struct DumpRead {
+    pub refusal: u32,
+    pub rows: usize,
 }
 
 // Reads a dump back into cells.
@@ -302,5 +357,11 @@ pub extern "C" fn core_write_dump(cells: &[u64], text: &mut [u8]) -> DumpWritten
 pub extern "C" fn core_read_dump(text: &[u8], cells: &mut [u64]) -> DumpRead
     ensures { ReadsDump text.now cells.old result.refusal result.rows cells.new }
 {
-    read_dump(text, cells)
+    match read_dump(text, cells) {
+        Ok(rows) => DumpRead { refusal: 0, rows },
+        Err(refusal) => DumpRead {
+            refusal: u32::from(refusal),
+            rows: 0,
+        },
+    }
 }

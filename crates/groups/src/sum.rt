@@ -18,7 +18,8 @@ fn groups_of(count: u32, rounded: bool) -> u64
     }
 }
 
-// The sum, and whether one of the batches has more than 8 groups. No Option: a sum over 8 is a value too, since 7 and 8 are answered before 11.
+// The sum, and whether one of the batches has more than 8 groups. No Option of the sum: the flag refuses with 11, and the sum before it with 7
+// or 8; specs/GroupsLeft.antt names both.
 #[derive(Clone, Copy)]
 pub struct GroupSum {
     pub groups: u64,

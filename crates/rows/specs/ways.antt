@@ -2,6 +2,5 @@ pub mod Order
 pub mod LoopCounts
 pub mod OpenLoops
 pub mod Finisher
-pub mod ContinuationKinds
 pub mod Inner
 pub mod Pairs

@@ -1,16 +1,15 @@
-// What the lists share. A list: how many vectors it has, how many bytes of a text, the bytes, and the vectors.
-ghost use Rattle.std.specs.Prelude.{◌≤◌};
+// What the lists of writing and of reading share.
+use groups::refusal::{Refusal, answered_number};
+use vectors_shared::numbers::Numbers;
 
-use vectors_shared::text::{at_most, item};
+// The most bytes of a text.
+pub const MOST_BYTES: usize = 8192;
 
-// Byte i of the list's text.
-pub fn byte(v: &[u64], i: usize) -> u64 {
-    item(v, 2, i)
-}
+// The most cells of a buffer: those of 14 rows.
+pub const MOST_CELLS: usize = 686;
 
-// Where the vectors begin.
-pub fn first(v: &[u64]) -> usize
-    ensures { result ≤ 8194 }
-{
-    2 + at_most(item(v, 1, 0), 8192)
+// Whether the list begins with an answer: its number, and the bytes or rows, 0 after a refusal.
+pub fn begins_with(list: Numbers<'_>, answer: Result<usize, Refusal>) -> bool {
+    let number = u64::from(answered_number(answer));
+    list.begins_with(&[number, answer.unwrap_or(0) as u64])
 }

@@ -6,44 +6,64 @@ mod given;
 mod read_list;
 mod write_list;
 
+use given::MOST_BYTES;
 use std::io;
 use std::rt::Runtime;
-use vectors_shared::text;
-use vectors_shared::text::report;
+use vectors_shared::numbers::Numbers;
+use vectors_shared::runner::{Step, run_vectors};
+use vectors_shared::text::load;
 
-fn writes(rt: &impl Runtime, name: &[u8]) -> io::Result<()> {
+// A list: how many vectors it has, how many bytes of a text, the bytes, and the vectors. A vector is run with the numbers that begin with
+// the text, and those that begin with the vector. The list has fixed room, since no heap is used.
+fn run_list<F: for<'a> Fn(Numbers<'a>, Numbers<'a>) -> Step<'a>>(
+    rt: &impl Runtime,
+    name: &[u8],
+    run_vector: F,
+) -> io::Result<()>
+    requires { F.IsAlwaysCallable run_vector }
+{
     let mut numbers = [0u64; 8192];
-    text::load(rt, name, &mut numbers)?;
-    let all = numbers[0];
-    report(rt, name, write_list::right(&numbers, all), all)
-}
-
-fn reads(rt: &impl Runtime, name: &[u8]) -> io::Result<()> {
-    let mut numbers = [0u64; 8192];
-    text::load(rt, name, &mut numbers)?;
-    let all = numbers[0];
-    report(rt, name, read_list::right(&numbers, all), all)
+    load(rt, name, &mut numbers)?;
+    let list = Numbers::new(&numbers);
+    let text = list.behind(2);
+    run_vectors(
+        rt,
+        name,
+        text.behind(list.at_most(1, MOST_BYTES)),
+        list.number(0),
+        |vector| run_vector(text, vector),
+    )
 }
 
 fn main(rt: HostRuntime) -> io::Result<()> {
-    writes(&rt, b"writes_a")?;
-    writes(&rt, b"writes_b")?;
-    writes(&rt, b"writes_c")?;
-    writes(&rt, b"writes_d")?;
-    writes(&rt, b"writes_e")?;
-    writes(&rt, b"writes_f")?;
-    writes(&rt, b"writes_g")?;
-    writes(&rt, b"writes_h")?;
-    writes(&rt, b"writes_i")?;
-    reads(&rt, b"reads_one_a")?;
-    reads(&rt, b"reads_one_b")?;
-    reads(&rt, b"reads_one_c")?;
-    reads(&rt, b"reads_two")?;
-    reads(&rt, b"reads_four_a")?;
-    reads(&rt, b"reads_four_b")?;
-    reads(&rt, b"reads_four_c")?;
-    reads(&rt, b"reads_four_d")?;
-    reads(&rt, b"reads_four_e")?;
-    reads(&rt, b"reads_four_f")?;
-    reads(&rt, b"reads_twelve")
+    for name in [
+        b"writes_a",
+        b"writes_b",
+        b"writes_c",
+        b"writes_d",
+        b"writes_e",
+        b"writes_f",
+        b"writes_g",
+        b"writes_h",
+        b"writes_i",
+    ] {
+        run_list(&rt, name, write_list::run_vector)?;
+    }
+    let reads: [&[u8]; 11] = [
+        b"reads_one_a",
+        b"reads_one_b",
+        b"reads_one_c",
+        b"reads_two",
+        b"reads_four_a",
+        b"reads_four_b",
+        b"reads_four_c",
+        b"reads_four_d",
+        b"reads_four_e",
+        b"reads_four_f",
+        b"reads_twelve",
+    ];
+    for name in reads {
+        run_list(&rt, name, read_list::run_vector)?;
+    }
+    Ok(())
 }

@@ -128,6 +128,24 @@ impl<'a> Numbers<'a> {
         self.begins_with(told) && others.iter().all(|number| (*number).into() == stood)
     }
 
+    // How many numbers are left.
+    pub fn len(self) -> usize {
+        self.list.len()
+    }
+
+    // A part: how long it is, and its numbers as they stand in the list; and the numbers behind it.
+    pub fn split_part(self) -> (&'a [u64], Self) {
+        let numbers = self.behind(1).list;
+        let (part, list) = numbers.split_at(self.at_most(0, numbers.len()));
+        (part, Self { list })
+    }
+
+    // A part, as `part` reads it, and the numbers behind it.
+    pub fn split_copy<T: FromLowBits, const N: usize>(self) -> (Part<T, N>, Self) {
+        let (_, rest) = self.split_part();
+        (self.part(), rest)
+    }
+
     // A part: how long it is, and its numbers, of which as many are lent as it is long and there is room for.
     pub fn part<T: FromLowBits, const N: usize>(self) -> Part<T, N> {
         Part {

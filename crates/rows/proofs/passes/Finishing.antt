@@ -2,11 +2,11 @@
 use mathlib.Core.Path.{◌≡◌, ◌∙◌, sym}
 use mathlib.Core.Bool.{false, ◌||◌}
 use mathlib.Core.List.{List, [], ◌∷◌}
-use Prim.Native.Nat.{ℕ, ◌+◌, ◌-◌, ◌*◌, ◌/◌, ◌%◌, ◌≤◌, ◌<◌, min}
+use Prim.Native.Nat.{ℕ, ◌+◌, ◌*◌, ◌/◌, ◌%◌, ◌≤◌, ◌<◌, min}
 use native.Mathlib.Omega.{arith}
 use borrow.Author.Tests.{ltb-false, leb-false}
 use lib.Dec.{ltb, leb}
-use lib.ListN.{length, take, drop, length-take, length-drop}
+use lib.ListN.{length}
 use Rattle.rows.specs.declared.records.profile.Profile.{Profile}
 use Rattle.rows.specs.passes.Passes.{sum_of, not_full, no_fragment, fragments_wrong, height_wrong, refusal2, refusal_all}
 use Rattle.rows.specs.records.Buffers.{buffer_wrong, fewer_rows}
@@ -99,13 +99,6 @@ passed-all p buffer size counts built height e =
     let f = none_first _ _ _ b.1 in
     let g = none_first _ _ _ f.1 in
     record { profile_right = a.0; fragments = d.0; height_right = d.1; fragment = f.0; full = g.0 }
-
--- the built cells of the last of n fragments
-pub last-part : (n : ℕ) → 25 * (n - 1) + 25 - 25 * (n - 1) ≡ 25
-last-part n = omega arith
-
-pub last-length : (built : List ℕ) (n : ℕ) → 0 < n → 25 * n ≤ length built → 25 ≤ length (take (25 * (n - 1) + 25 - 25 * (n - 1)) (drop (25 * (n - 1)) built))
-last-length built n some h = simp (length-take, length-drop) (omega arith)
 
 pub tall-at : (height cells now : ℕ) → 49 * height ≤ cells → cells ≡ now → 49 * height ≤ now
 tall-at height cells now h e = omega arith

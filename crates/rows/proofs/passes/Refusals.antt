@@ -1,8 +1,8 @@
--- What a finishing pass refuses: where it refuses nothing, the rows that it works on are in the buffer; and the buffer in both cases.
-use mathlib.Core.Path.{◌≡◌, ◌∙◌, refl, sym}
+-- What a finishing pass refuses: where it refuses nothing, the rows that it works on are in the buffer.
+use mathlib.Core.Path.{◌≡◌, ◌∙◌, sym}
 use mathlib.Core.Bool.{Bool, false, ◌||◌}
 use mathlib.Core.List.{List}
-use Prim.Native.Nat.{ℕ, zero, suc, ◌+◌, ◌*◌, ◌≤◌, ◌<◌, ◌/◌}
+use Prim.Native.Nat.{ℕ, ◌+◌, ◌*◌, ◌≤◌, ◌<◌, ◌/◌}
 use native.Mathlib.Decide.{dec_lt}
 use native.Mathlib.Omega.{arith}
 use borrow.Author.Tests.{ltb-false, eqb-false, lt-ltb, le-ltb, le-leb, lt-leb}
@@ -10,7 +10,7 @@ use lib.Dec.{ltb, leb, eqb}
 use lib.ListN.{length}
 use Rattle.rows.specs.declared.records.profile.Profile.{Profile}
 use Rattle.rows.proofs.passes.Checks.{neither, none_first}
-use Rattle.rows.specs.passes.Passes.{refusal3, refusal4, refusal5, unless_refused}
+use Rattle.rows.specs.passes.Passes.{refusal3, refusal4, refusal5}
 use Rattle.rows.specs.records.Buffers.{buffer_wrong, fewer_rows}
 use Rattle.rows.proofs.passes.Finishing.{enough, held}
 
@@ -48,12 +48,3 @@ fits5 p b n height e =
     let heights : (low ≡ false) × (fewer ≡ false) = neither low fewer rows.1 in
     let z : ¬ (n ≡ 0) = eqb-false n 0 rows.0 in
     record { some = omega (arith, z); high = ltb-false height n heights.0; fits = omega (arith, enough (length b) height heights.1) }
-
--- A PASS THAT IS REFUSED answers the number and leaves the buffer; one that is not answers 0 and leaves what the pass makes
-
-pub refused-pass : (r number : ℕ) (before after : List ℕ) → r ≡ number → (r ≡ 0 → ⊥) → (r ≡ number) × (before ≡ unless_refused number before after)
-refused-pass r zero before after e h = absurd (h e)
-refused-pass r (suc n) before after e h = (e, refl)
-
-pub made-pass : (r number : ℕ) (before after left : List ℕ) → r ≡ number → r ≡ 0 → left ≡ after → (0 ≡ number) × (left ≡ unless_refused number before after)
-made-pass r number before after left e z f = rw (← e, z) (refl, f)

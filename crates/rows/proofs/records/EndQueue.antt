@@ -2,7 +2,7 @@
 use mathlib.Core.Path.{◌≡◌, refl, sym, ap}
 use mathlib.Core.Bool.{Bool, true, false}
 use mathlib.Core.List.{List}
-use Prim.Native.Nat.{ℕ, ◌<◌, ◌/◌}
+use Prim.Native.Nat.{ℕ, ◌<◌}
 use borrow.Author.Tests.{ltb-true}
 use lib.ListN.{length}
 use Rattle.groups.specs.Answer.{Answer, accepted, refused, values, and_then, pick}
@@ -20,10 +20,6 @@ passed x y n false e = cc
 pub entry-within : (refusal : ℕ) (queue : List ℕ) (at address : ℕ) → accepted address ≡ entry_at refusal queue at → at < length queue
 unfolding entry_at
 entry-within refusal queue at address e = ltb-true _ _ (passed _ _ _ _ (sym e))
-
-pub end-within : (ends : List ℕ) (at : ℕ) (entry : NodeEndData) → accepted entry ≡ end_at ends at → at < length ends / 3
-unfolding end_at
-end-within ends at entry e = ltb-true _ _ (passed _ _ _ _ (sym e))
 
 -- the entry of the end queue that gave an address and a state
 abbrev pub ended_with : ℕ → DecoderState → NodeEndData

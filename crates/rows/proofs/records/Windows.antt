@@ -5,9 +5,8 @@ use Prim.Native.Nat.{ℕ, zero, suc, ◌+◌, ◌≤◌}
 use native.Mathlib.Omega.{arith}
 use lib.ListN.{length, get_or, take, drop}
 use lib.Seq.{drop-cons, take-take, take-add, take_all, length-take-le}
-use Rattle.std.specs.Prelude.{map, reverse}
-use Rattle.field.specs.Cells.{read, cell_at}
-use Rattle.rows.specs.records.Built.{cells16, reversed16, read16}
+use Rattle.std.specs.Prelude.{reverse}
+use Rattle.rows.specs.records.Built.{cells16, reversed16}
 
 -- n cells from cell i on, 0 past the end
 abbrev pub read_from : List ℕ → (i n : ℕ) → List ℕ
@@ -39,8 +38,3 @@ first-19 s h =
 -- the last of 16 comes first
 pub reversed_16 : (t : List ℕ) → length t ≡ 16 → reversed16 t ≡ reverse t
 reversed_16 t h = ap (λ (l : List ℕ). reverse l) (all-16 t h)
-
--- 16 cells, each read
-pub read_16 : (t : List ℕ) → length t ≡ 16 → map (λ x. read x) t ≡ read16 t
-unfolding cell_at
-read_16 t h = sym (ap (λ (l : List ℕ). map (λ x. read x) l) (all-16 t h))

@@ -10,37 +10,19 @@ use lib.Dec.{eqb}
 use lib.ListN.{take, drop}
 use Rattle.groups.specs.Answer.{Answer, accepted, refused, pick}
 use Rattle.rows.specs.declared.records.continuation.StoredValues.{StoredValues}
-use Rattle.rows.specs.declared.replay.directory.DirectoryEntry.{DirectoryEntry}
 use Rattle.rows.specs.declared.cycles.tracer.CoreTraceGenerationTracer.{CoreTraceGenerationTracer}
 use Rattle.rows.specs.declared.cycles.tracer.TracerFinalState.{TracerFinalState}
 use Rattle.rows.specs.records.Built.{no_system, no_stack, read_system, read_stack}
 use Rattle.rows.specs.cycles.Cycles.{final_state, last_system, last_stack}
-use Rattle.rows.specs.records.Forests.{Forest, forest}
-use Rattle.rows.specs.replay.Calls.{directory_entry, window, forest_in, Setting, call_done, call_written, through, written, told}
+use Rattle.rows.specs.replay.Calls.{Setting, call_done, call_written, through, written, told}
 use Rattle.rows.specs.ways.Inner.{storing_done}
 use Rattle.rows.specs.records.CallRecords.{recorded_storing, call_in, record_at}
 use Rattle.rows.proofs.cycles.Picks.{pick_same, pick-step}
-
--- the parts that are lent to a cycle are the forest's
-pub parts-lent : (all : Forest) (directory : List ℕ) (k : ℕ) (w : DirectoryEntry) {nodes digests batches groups ops : List ℕ} → w ≡ directory_entry directory k
-    → nodes ≡ window 6 w.first_slot w.slots all.nodes
-    → digests ≡ window 4 w.first_slot w.slots all.digests
-    → batches ≡ window 12 w.first_batch w.batches all.batches
-    → groups ≡ window 8 w.first_batch w.batches all.groups
-    → ops ≡ window 1 w.first_op w.ops all.ops
-    → forest_in all (directory_entry directory k) ≡ forest nodes digests batches groups ops
-unfolding forest_in
-parts-lent all directory k w p n d b g o = rw (← p, ← n, ← d, ← b, ← g, ← o)
 
 pub storing-done : (s : Setting) (t : CoreTraceGenerationTracer) (found : Answer StoredValues) → call_done s t (recorded_storing found) ≡ storing_done t found
 unfolding call_done storing_done
 storing-done s t (accepted values) = refl
 storing-done s t (refused n) = refl
-
-pub storing-written : (s : Setting) (t : CoreTraceGenerationTracer) (found : Answer StoredValues) (fragment : List ℕ) → call_written s t (recorded_storing found) fragment ≡ fragment
-unfolding call_written
-storing-written s t (accepted values) fragment = refl
-storing-written s t (refused n) fragment = refl
 
 -- tracer and fragment after k records, the fragment as it was where nothing is written
 abbrev pub Ran : Bool → Setting → (records : List ℕ) → CoreTraceGenerationTracer → List ℕ → (k : ℕ) → CoreTraceGenerationTracer → List ℕ → Type 0

@@ -25,7 +25,6 @@ use Rattle.groups.specs.declared.group.OpPlace.{OpPlace}
 use Rattle.groups.specs.declared.context.OpContext.{OpContext}
 use Rattle.groups.specs.declared.context.OpCells.{OpCells}
 use Rattle.groups.specs.declared.helpers.OperationHelperRegisters.{OperationHelperRegisters}
-use Rattle.groups.specs.declared.helpers.UserOpHelpers.{UserOpHelpers}
 use Rattle.groups.proofs.Answers.{then-accepted, held, passed}
 use Rattle.groups.proofs.OneGroup.{both, neither}
 use Rattle.rows.specs.declared.records.ids.MastNodeId.{MastNodeId}
@@ -94,9 +93,6 @@ stack_built r depth e =
 pub no-helpers : (r : List ℕ) → get_or r 0 0 ≡ 18 → HelpersIn (Some (six 0 0 0 0 0 0)) r
 unfolding registers_in many_cells few_cells helpers_answer helpers_of_cells read_registers u32_values all_below helpers_of
 no-helpers r e = (OperationHelperRegisters.Empty, rw e, refl)
-
-pub helpers-of : (r : List ℕ) (registers : OperationHelperRegisters) (helpers : UserOpHelpers) → accepted registers ≡ registers_in r → accepted helpers ≡ helpers_answer registers → HelpersIn (Some helpers) r
-helpers-of r registers helpers e h = (registers, sym e, sym h)
 
 -- A PAIR
 

@@ -7,7 +7,7 @@ use Prim.Native.Nat.{ℕ, ◌+◌, ◌-◌, ◌*◌, ◌/◌, ◌<◌, ◌≤◌
 use native.Mathlib.Omega.{arith}
 use lib.ListN.{length, take, drop, get_or}
 use Rattle.field.specs.Cells.{reduced}
-use Rattle.groups.specs.Answer.{Answer, accepted, refused}
+use Rattle.groups.specs.Answer.{accepted, refused}
 use Rattle.groups.specs.Constants.{row_width}
 use Rattle.groups.specs.declared.helpers.UserOpHelpers.{UserOpHelpers}
 use Rattle.groups.specs.declared.context.OpCells.{OpCells}
@@ -33,8 +33,8 @@ use Rattle.rows.specs.records.Cells.{row_written}
 use Rattle.rows.specs.records.DecoderRows.{operation, decoder_cells}
 use Rattle.rows.specs.records.CallRecords.{of32, stored_in_record, system_in, stack_in, record_at}
 use Rattle.rows.specs.declared.records.address_state.Cursor.{Cursor}
-use Rattle.rows.specs.cycles.Made.{cursor, made}
-use Rattle.rows.specs.ways.Pairs.{SystemBuilt, StackBuilt, RowBehind, StoresOperation, OperationIn, HelpersIn, pair_made, Makes, ArePair, PutBehind, TakesOperation, TakesPair, Onward, tracer_behind, StandsAt}
+use Rattle.rows.specs.cycles.Made.{made}
+use Rattle.rows.specs.ways.Pairs.{SystemBuilt, StackBuilt, RowBehind, StoresOperation, OperationIn, HelpersIn, pair_made, ArePair, PutBehind, TakesOperation, TakesPair, Onward, tracer_behind, StandsAt}
 use Rattle.rows.proofs.records.Rooms.{cells-in-two}
 
 -- the row that is written, and none where nothing is

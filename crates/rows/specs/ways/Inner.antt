@@ -1,5 +1,5 @@
 -- What inner functions of the crate promise, and no public contract names.
-use Rattle.std.specs.Prelude.{ℕ, ◌*◌, ◌/◌, ◌≤◌, ◌<◌, ltb, Bool, false, List, ◌≡◌, get_or, Option, Some, None, Result, Ok, Err}
+use Rattle.std.specs.Prelude.{ℕ, ◌*◌, ◌/◌, ◌<◌, Bool, false, List, ◌≡◌, get_or, Option, Some, None, Result, Ok, Err}
 use Rattle.groups.specs.Constants.{row_width, most_rows, no_such_node}
 use Rattle.groups.specs.Answer.{Answer, accepted, refused, and_then, pick}
 use Rattle.groups.specs.declared.refusal.Refusal.{Refusal}

@@ -32,7 +32,7 @@ use Rattle.rows.specs.records.Built.{built_system, built_stack, stack_cells}
 use Rattle.rows.specs.records.Cells.{row_cells, row_written}
 use Rattle.rows.specs.records.DecoderRows.{operation}
 use Rattle.rows.specs.records.CallRecords.{of32, stored_in_record, system_in, stack_in, registers_in, call_in, record_at}
-use Rattle.rows.specs.cycles.Made.{cursor, made_with, resumed, made}
+use Rattle.rows.specs.cycles.Made.{made_with, resumed, made}
 use Rattle.rows.specs.cycles.Cycles.{left_after}
 use Rattle.rows.specs.replay.Calls.{Setting, call_done, call_written}
 

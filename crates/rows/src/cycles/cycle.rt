@@ -90,7 +90,7 @@ fn checked(
         state: tracer.decoder_state,
         at: tracer.at,
     };
-    let row = make(
+    let made = make(
         forest,
         queues,
         profile,
@@ -103,7 +103,7 @@ fn checked(
     if cells / Row::WIDTH <= tracer.row_write_index {
         return Err(Refusal::NoRowLeft);
     }
-    Ok(row)
+    Ok(made)
 }
 
 // The tracer with a refusal's number.

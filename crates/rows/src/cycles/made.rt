@@ -5,7 +5,6 @@ ghost use Rattle.groups.specs.Constants.{wrong_node_kind};
 ghost use Rattle.groups.specs.Refusals.{told, told_or};
 ghost use Rattle.rows.specs.records.Lent.{lent_forest, lent_queues};
 ghost use Rattle.rows.specs.cycles.Made.{entry_kind, call_kind, dyn_kind, start_block, start_two, start_one, start_dyn, start_dyncall, start_kind, start_node, made_end, made_repeat, finish_loop, operation_made, resumed, made_respan, made};
-ghost use Rattle.rows.specs.ways.ContinuationKinds.{continuation_kind};
 ghost use Rattle.rows.specs.ways.Inner.{row_made};
 
 use crate::records::address_state::{Cursor, DecoderState, LentQueues, Positions, respan_step};
@@ -43,15 +42,12 @@ pub enum Finish {
     Block,
 }
 
-// The kinds of continuation: a start, the END of a node, a loop's REPEAT or END, an operation of a batch, a RESPAN, one that makes nothing.
+// What an END's row is given besides its node: its opcode, whether it ends a loop's body, and what it uses up.
 #[derive(Clone, Copy)]
-enum ContinuationKind {
-    Start(MastNodeId),
-    End(MastNodeId, Finish),
-    LoopPass(MastNodeId),
-    Operation(MastNodeId, u32, u32),
-    Respan(MastNodeId, u32),
-    Nothing,
+struct EndGiven {
+    opcode: u8,
+    is_loop_body: bool,
+    used: Used,
 }
 
 // A row that is no operation's.
@@ -244,15 +240,13 @@ fn start_node(
 fn finish_node(
     forest: &LentForest,
     queues: &LentQueues,
-    end: u8,
+    given: EndGiven,
     id: MastNodeId,
     finish: Finish,
-    is_loop_body: bool,
-    used: Used,
     here: Cursor,
 ) -> Result<MadeRow, Refusal>
-    ensures { told result ≡ made_end forest.now.nodes.now forest.now.digests.now queues.now.ends.now end id finish
-        is_loop_body used here }
+    ensures { told result ≡ made_end forest.now.nodes.now forest.now.digests.now queues.now.ends.now given.opcode id finish
+        given.is_loop_body given.used here }
 {
     let Some(entry) = forest.node_at(id) else {
         return Err(Refusal::NoSuchNode);
@@ -263,12 +257,12 @@ fn finish_node(
     let mut state = here.state;
     let (addr, at) = state.replay_node_end(queues, here.at)?;
     let flags = EndBlockFlags {
-        is_loop_body,
+        is_loop_body: given.is_loop_body,
         entry_kind,
     };
     let second = flags.to_hasher_state_second_word();
-    let row = DecoderRow::new_control_flow(end, entry.digest, second, addr);
-    Ok(row_made(row, Cursor { state, at }, used))
+    let row = DecoderRow::new_control_flow(given.opcode, entry.digest, second, addr);
+    Ok(row_made(row, Cursor { state, at }, given.used))
 }
 
 // REPEAT: 3, 4, and 3 for the body's digest.
@@ -311,16 +305,12 @@ fn finish_loop(
     if again {
         return repeat_row(forest, profile.repeat, id, here);
     }
-    finish_node(
-        forest,
-        queues,
-        profile.end,
-        id,
-        Finish::Loop,
+    let given = EndGiven {
+        opcode: profile.end,
         is_loop_body,
-        Used::Condition,
-        here,
-    )
+        used: Used::Condition,
+    };
+    finish_node(forest, queues, given, id, Finish::Loop, here)
 }
 
 // An operation's row in its context: 9.
@@ -374,9 +364,7 @@ fn resume(
     let Some(batch) = forest.batches.batch_at(block, index) else {
         return Err(Refusal::NoSuchBatch);
     };
-    let opcode = forest
-        .opcode_at(batch, op)
-        .ok_or(Refusal::NoSuchOperation)?;
+    let opcode = forest.opcode_at(batch, op).ok_or(Refusal::NoSuchOperation)?;
     let context = BasicBlockContext::new_at_op(push, &forest.batches, block, index, op)?;
     operation_row(opcode, context, registers, here)
 }
@@ -385,14 +373,13 @@ fn resume(
 #[tactic(auto, unfolding(crate::specs::cycles::Made::made_respan))]
 fn respan(
     forest: &LentForest,
-    opcode: u8,
-    step: u64,
+    profile: Profile,
     id: MastNodeId,
     index: u32,
     here: Cursor,
 ) -> Result<MadeRow, Refusal>
     ensures { told result ≡ made_respan forest.now.nodes.now forest.now.digests.now forest.now.batches.records.now forest.now.batches.groups.now
-        opcode step id index here }
+        profile.respan profile.step id index here }
 {
     let Some(entry) = forest.node_at(id) else {
         return Err(Refusal::NoSuchNode);
@@ -402,45 +389,20 @@ fn respan(
     };
     let found = BasicBlockContext::new_at_batch_start(&forest.batches, block, index)?;
     let row = DecoderRow::new_basic_block_batch(
-        opcode,
+        profile.respan,
         found.batch,
         here.state.current_addr,
         found.context.group_count_in_block,
         found.flags,
     );
     let behind = Cursor {
-        state: respan_step(here.state, step),
+        state: respan_step(here.state, profile.step),
         at: here.at,
     };
     Ok(row_made(row, behind, Used::Nothing))
 }
 
-// The kind of a continuation.
-fn continuation_kind(continuation: Continuation) -> ContinuationKind
-    ensures { result ≡ continuation_kind continuation }
-{
-    match continuation {
-        Continuation::StartNode(id) => ContinuationKind::Start(id),
-        Continuation::FinishJoin(id) => ContinuationKind::End(id, Finish::Any),
-        Continuation::FinishSplit(id) => ContinuationKind::End(id, Finish::Any),
-        Continuation::FinishLoop(id) => ContinuationKind::LoopPass(id),
-        Continuation::FinishCall(id) => ContinuationKind::End(id, Finish::Call),
-        Continuation::FinishDyn(id) => ContinuationKind::End(id, Finish::Dyn),
-        Continuation::ResumeBasicBlock {
-            node_id,
-            batch_index,
-            op_idx_in_batch,
-        } => ContinuationKind::Operation(node_id, batch_index, op_idx_in_batch),
-        Continuation::Respan {
-            node_id,
-            batch_index,
-        } => ContinuationKind::Respan(node_id, batch_index),
-        Continuation::FinishBasicBlock(id) => ContinuationKind::End(id, Finish::Block),
-        Continuation::EnterForest => ContinuationKind::Nothing,
-    }
-}
-
-// What the continuation makes, by its kind; 4 for EnterForest.
+// What the continuation makes; 4 for EnterForest.
 #[tactic(auto, unfolding(crate::specs::cycles::Made::made))]
 pub fn make(
     forest: &LentForest,
@@ -455,33 +417,37 @@ pub fn make(
     ensures { told result ≡ made (lent_forest forest.now) (lent_queues queues.now)
         profile registers continuation is_loop_body captured here }
 {
-    match continuation_kind(continuation) {
-        ContinuationKind::Start(id) => start_node(forest, queues, profile, id, captured, here),
-        ContinuationKind::End(id, finish) => finish_node(
-            forest,
-            queues,
-            profile.end,
-            id,
-            finish,
-            is_loop_body,
-            Used::Nothing,
-            here,
-        ),
-        ContinuationKind::LoopPass(id) => finish_loop(
-            forest,
-            queues,
-            profile,
-            id,
-            captured.finish_loop_condition,
-            is_loop_body,
-            here,
-        ),
-        ContinuationKind::Operation(id, index, op) => {
-            resume(forest, profile.push, id, index, op, registers, here)
+    let given = EndGiven {
+        opcode: profile.end,
+        is_loop_body,
+        used: Used::Nothing,
+    };
+    match continuation {
+        Continuation::StartNode(id) => start_node(forest, queues, profile, id, captured, here),
+        Continuation::FinishJoin(id) | Continuation::FinishSplit(id) => {
+            finish_node(forest, queues, given, id, Finish::Any, here)
         }
-        ContinuationKind::Respan(id, index) => {
-            respan(forest, profile.respan, profile.step, id, index, here)
+        Continuation::FinishLoop(id) => {
+            let condition = captured.finish_loop_condition;
+            finish_loop(forest, queues, profile, id, condition, is_loop_body, here)
         }
-        ContinuationKind::Nothing => Err(Refusal::WrongNodeKind),
+        Continuation::FinishCall(id) => finish_node(forest, queues, given, id, Finish::Call, here),
+        Continuation::FinishDyn(id) => finish_node(forest, queues, given, id, Finish::Dyn, here),
+        Continuation::ResumeBasicBlock {
+            node_id,
+            batch_index,
+            op_idx_in_batch: op,
+        } => {
+            let push = profile.push;
+            resume(forest, push, node_id, batch_index, op, registers, here)
+        }
+        Continuation::Respan {
+            node_id,
+            batch_index,
+        } => respan(forest, profile, node_id, batch_index, here),
+        Continuation::FinishBasicBlock(id) => {
+            finish_node(forest, queues, given, id, Finish::Block, here)
+        }
+        Continuation::EnterForest => Err(Refusal::WrongNodeKind),
     }
 }

@@ -13,7 +13,8 @@ pub struct Scan {
     pub too_large: bool,
 }
 
-// Whether a slot is a block with over 4,096 batches.
+// Whether a slot is a block with over 4,096 batches. This scan and the next look at all, for the speed that `any_big_opcode` has; they share a loop's
+// head, and no more.
 #[tactic(auto, unfolding(crate::specs::cycles::Scans::any_long_block))]
 fn any_long_block(nodes: &[u32]) -> bool
     ensures { result ≡ any_long_block nodes.now (length nodes.now / 6) }

@@ -61,10 +61,8 @@ fn halt_stack(built: &[u64]) -> StackCols
     ensures { stack_cells result ≡ halt_stack built.now }
 {
     let stack = stack_of(&built[6..]);
-    StackCols {
-        h0: inverse(stack.h0),
-        ..stack
-    }
+    let h0 = inverse(stack.h0);
+    StackCols { h0, ..stack }
 }
 
 // h0 to h3 of the last of the first `rows` rows, 0 where there is none.

@@ -31,7 +31,7 @@ fn has_opcode(buffer: &[u64], i: usize, opcode: u8) -> bool
             return false;
         }
     }
-    decode_opcode(buffer, i) == opcode as u64
+    decode_opcode(buffer, i) == u64::from(opcode)
 }
 
 pub(crate) fn is_loop(profile: Profile, buffer: &[u64], i: usize) -> bool

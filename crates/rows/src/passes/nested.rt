@@ -1,7 +1,8 @@
 // The second finishing pass where loops nest as in a run: the LOOP rows that are open stand on a stack, and each flagged END is the body's of the
 // innermost one. One sweep decides, and counts in the LOOP rows themselves, which must hold 0 for that, as a start row does. Where it gives up, be it
 // in the last row, the counts are cleared again and nothing is said; then `multiplicity` answers by tables.
-ghost use Rattle.std.specs.Prelude.{◌≡◌, true, false, ◌+◌, ◌*◌, ◌<◌, ◌≤◌, length};
+ghost use Rattle.std.specs.Prelude.{◌≡◌, true, false, ◌+◌, ◌-◌, ◌*◌, ◌<◌, ◌≤◌, length, get_or, set, MatchResult};
+ghost use Rattle.field.specs.Modulus.{P};
 ghost use Rattle.groups.specs.Constants.{row_width, most_rows};
 ghost use Rattle.rows.specs.records.Buffers.{buffer_row, opcode_of};
 ghost use Rattle.rows.specs.ways.OpenLoops.{RoleOf, CountsIn, Cleared, AllCounted};
@@ -22,11 +23,39 @@ pub(crate) enum RowRole {
     Unknown,
 }
 
-// How far a sweep came, and whether it saw all rows and left no LOOP row open.
-#[derive(Clone, Copy)]
-struct Swept {
-    next: usize,
-    whole: bool,
+// The LOOP rows that are open, the innermost last, behind a place that is none's; and what the next one's address may not be below.
+#[derive(Drop)]
+struct OpenLoops {
+    rows: [usize; 65],
+    depth: usize,
+    above: u64,
+}
+
+impl OpenLoops {
+    // The innermost.
+    fn top(&self) -> usize
+        requires { self.now.depth ≤ 64 }
+        ensures { result ≡ get_or self.now.rows self.now.depth 0 }
+    {
+        self.rows[self.depth]
+    }
+
+    // Whether a LOOP row can be counted: there is room for it, the address behind it is above those before, and it holds 0.
+    fn takes(&self, addr: u64, held: u64) -> bool
+        ensures { result ≡ true → (self.now.depth < 64) × (self.now.above ≤ addr) × (held ≡ 0) }
+    {
+        (self.depth < 64) & ((self.above <= addr) & (held == 0))
+    }
+
+    // Row i is the innermost.
+    fn push(&mut self, i: usize, addr: u64)
+        requires { (self.old.depth < 64) × (addr < P) }
+        ensures { (self.new.rows ≡ set self.old.rows (self.old.depth + 1) i) × (self.new.depth ≡ self.old.depth + 1) × (self.new.above ≡ addr + 1) }
+    {
+        self.depth += 1;
+        self.rows[self.depth] = i;
+        self.above = addr + 1;
+    }
 }
 
 // An END: whether it is flagged, and the row behind it has the address behind LOOP row `top`.
@@ -55,10 +84,10 @@ fn decoded_role(profile: Profile, buffer: &[u64], i: usize, depth: usize, top: u
     ensures { RoleOf profile buffer.now i depth top result }
 {
     let opcode = decode_opcode(buffer, i);
-    if opcode == profile.end as u64 {
+    if opcode == u64::from(profile.end) {
         return end_role(profile, buffer, i, depth, top);
     }
-    if opcode == profile.loop_op as u64 {
+    if opcode == u64::from(profile.loop_op) {
         return RowRole::Opens;
     }
     RowRole::Other
@@ -84,65 +113,51 @@ fn left_open(profile: Profile, buffer: &[u64], next: usize, depth: usize) -> usi
     requires { 0 < depth }
     ensures { (result ≤ depth) × (depth ≤ result + 1) }
 {
-    if decode_opcode(buffer, next) == profile.repeat as u64 {
+    if decode_opcode(buffer, next) == u64::from(profile.repeat) {
         return depth;
     }
     depth - 1
 }
 
-// Whether a LOOP row can be counted: there is room on the stack, the address behind it is above those before, and it holds 0.
-fn can_open(depth: usize, above: u64, addr: u64, held: u64) -> bool
-    ensures { result ≡ true → (depth < 64) × (above ≤ addr) × (held ≡ 0) }
-{
-    (depth < 64) & ((above <= addr) & (held == 0))
-}
-
-// Counts in the LOOP rows the ENDs of their bodies, but for the last row.
-fn sweep(profile: Profile, buffer: &mut [u64], rows: usize) -> Swept
+// Counts in the LOOP rows the ENDs of their bodies, but for the last row. An error is the row where it gave up, or the last row with a LOOP row still
+// open.
+fn sweep(profile: Profile, buffer: &mut [u64], rows: usize) -> Result<(), usize>
     requires { (row_width * rows ≤ length buffer.old) × (rows ≤ most_rows) }
-    ensures { (result.next ≤ rows) × CountsIn profile buffer.old 0 result.next buffer.new
-        × (result.whole ≡ true → AllCounted profile rows buffer.old buffer.new) }
+    ensures { MatchResult result
+        (λ done. CountsIn profile buffer.old 0 (rows - 1) buffer.new × AllCounted profile rows buffer.old buffer.new)
+        (λ next. (next ≤ rows) × CountsIn profile buffer.old 0 next buffer.new) }
 {
-    let mut stack = [0usize; 65];
-    let mut depth: usize = 0;
-    let mut above: u64 = 0;
-    let mut i: usize = 0;
-    while i + 1 < rows {
-        let top = stack[depth];
-        let role = row_role(profile, buffer, i, depth, top);
-        let gave_up = Swept {
-            next: i,
-            whole: false,
-        };
-        match role {
-            RowRole::Other => {
-                i += 1;
-            }
+    let mut open = OpenLoops {
+        rows: [0; 65],
+        depth: 0,
+        above: 0,
+    };
+    let last = rows.saturating_sub(1);
+    for i in 0..last {
+        let top = open.top();
+        match row_role(profile, buffer, i, open.depth, top) {
+            RowRole::Other => {}
             RowRole::Opens => {
                 let addr = addr_at(buffer, i + 1);
                 let held = buffer[Row::WIDTH * i + Column::GROUP_COUNT];
-                if !can_open(depth, above, addr, held) {
-                    return gave_up;
+                if !open.takes(addr, held) {
+                    return Err(i);
                 }
-                above = addr + 1;
-                depth += 1;
-                stack[depth] = i;
-                i += 1;
+                open.push(i, addr);
             }
             RowRole::Ends => {
                 buffer[Row::WIDTH * top + Column::GROUP_COUNT] += 1;
-                depth = left_open(profile, buffer, i + 1, depth);
-                i += 1;
+                open.depth = left_open(profile, buffer, i + 1, open.depth);
             }
             RowRole::Unknown => {
-                return gave_up;
+                return Err(i);
             }
         }
     }
-    Swept {
-        next: i,
-        whole: depth == 0,
+    if open.depth != 0 {
+        return Err(last);
     }
+    Ok(())
 }
 
 // Puts 0 into the LOOP rows before row `end`: what a sweep that gave up there has counted is gone.
@@ -150,13 +165,9 @@ fn clear_counts(profile: Profile, buffer: &mut [u64], end: usize)
     requires { (row_width * end ≤ length buffer.old) × (end ≤ most_rows) }
     ensures { Cleared profile end buffer.old buffer.new }
 {
-    let mut i: usize = 0;
-    while i < end {
+    for i in 0..end {
         if is_loop(profile, buffer, i) {
             buffer[Row::WIDTH * i + Column::GROUP_COUNT] = 0;
-            i += 1;
-        } else {
-            i += 1;
         }
     }
 }
@@ -167,10 +178,9 @@ pub(crate) fn count_nested(profile: Profile, buffer: &mut [u64], rows: usize) ->
     ensures { (result ≡ true → AllCounted profile rows buffer.old buffer.new)
         × (result ≡ false → buffer.new ≡ buffer.old) }
 {
-    let swept = sweep(profile, buffer, rows);
-    if swept.whole {
+    let Err(next) = sweep(profile, buffer, rows) else {
         return true;
-    }
-    clear_counts(profile, buffer, swept.next);
+    };
+    clear_counts(profile, buffer, next);
     false
 }

@@ -129,9 +129,7 @@ impl<'a> LentForest<'a> {
         if batch.num_ops <= op {
             return None;
         }
-        self.ops
-            .get(batch.first_op as usize + op as usize)
-            .copied()
+        self.ops.get(batch.first_op as usize + op as usize).copied()
     }
 }
 

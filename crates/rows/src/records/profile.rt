@@ -56,16 +56,18 @@ pub fn any_big_opcode(opcodes: &[u8]) -> bool
         .fold(false, |found, opcode| found | (128 <= *opcode))
 }
 
-// Whether two of the opcodes are equal.
+// Whether two of the opcodes are equal. All pairs are looked at, as above.
 fn two_equal(opcodes: &[u8]) -> bool
     ensures { result ≡ two_equal opcodes.now }
 {
+    let mut found = false;
     for (i, opcode) in opcodes.iter().enumerate() {
-        if opcodes[i + 1..].iter().any(|other| *opcode == *other) {
-            return true;
-        }
+        let rest = &opcodes[i + 1..];
+        found |= rest
+            .iter()
+            .fold(false, |twice, other| twice | (*opcode == *other));
     }
-    false
+    found
 }
 
 // Refusal 2.

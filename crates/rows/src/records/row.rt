@@ -6,6 +6,7 @@ ghost use Rattle.rows.specs.records.Built.{system_cells, stack_cells};
 ghost use Rattle.rows.specs.records.Cells.{row_cells, put_in, copied_in, row_written};
 ghost use Rattle.rows.specs.records.Cells.{fragment_wrong};
 
+use crate::records::buffer::{buffer_wrong, fewer_rows};
 use crate::records::decoder_row::DecoderRow;
 use crate::records::state::{StackCols, SystemCols};
 use field::felt::{Felt, reduce};
@@ -138,9 +139,9 @@ pub fn write_row(
 }
 
 // Refusal 11 of the fragment.
-#[tactic(auto, unfolding(crate::specs::records::Cells::fragment_wrong))]
+#[tactic(auto, unfolding(crate::specs::records::Cells::fragment_wrong, crate::specs::records::Buffers::buffer_wrong, crate::specs::records::Buffers::fewer_rows))]
 pub fn fragment_wrong(cells: usize, rows: usize) -> bool
     ensures { result ≡ fragment_wrong cells rows }
 {
-    (0 < cells % Row::WIDTH) | ((Row::MOST < cells / Row::WIDTH) | (cells / Row::WIDTH < rows))
+    buffer_wrong(cells) | fewer_rows(cells, rows)
 }

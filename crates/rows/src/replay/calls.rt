@@ -219,33 +219,28 @@ fn ended(numbers: usize, tracer: CoreTraceGenerationTracer) -> CoreTraceGenerati
     tracer
 }
 
-// The address state that the next fragment goes on from; zeros on a refusal.
-#[tactic(auto, unfolding(crate::specs::replay::Calls::next_state))]
-fn next_state(tracer: CoreTraceGenerationTracer) -> DecoderState
-    ensures { result ≡ next_state tracer }
+// What the next fragment goes on from; zeros on a refusal.
+#[tactic(auto, unfolding(crate::specs::replay::Calls::next_state, crate::specs::replay::Calls::next_positions))]
+fn next_cursor(tracer: CoreTraceGenerationTracer) -> Cursor
+    ensures { (result.state ≡ next_state tracer) × (result.at ≡ next_positions tracer) }
 {
-    if tracer.refusal != 0 {
-        return DecoderState {
-            current_addr: 0,
-            parent_addr: 0,
+    if tracer.refusal == 0 {
+        return Cursor {
+            state: tracer.decoder_state,
+            at: tracer.at,
         };
     }
-    tracer.decoder_state
-}
-
-// The queue positions that the next fragment goes on from; zeros on a refusal.
-#[tactic(auto, unfolding(crate::specs::replay::Calls::next_positions))]
-fn next_positions(tracer: CoreTraceGenerationTracer) -> Positions
-    ensures { result ≡ next_positions tracer }
-{
-    if tracer.refusal != 0 {
-        return Positions {
+    Cursor {
+        state: DecoderState {
+            current_addr: 0,
+            parent_addr: 0,
+        },
+        at: Positions {
             addresses: 0,
             parents: 0,
             ends: 0,
-        };
+        },
     }
-    tracer.at
 }
 
 // What is answered of the tracer at the end.
@@ -256,12 +251,13 @@ fn answer(tracer: CoreTraceGenerationTracer) -> Replayed
     let last = tracer.into_final_state();
     let end = last.for_passes();
     let built = end.built;
+    let next = next_cursor(tracer);
     Replayed {
         refusal: last.refusal,
         rows: end.count as usize,
         built,
-        state: next_state(tracer),
-        at: next_positions(tracer),
+        state: next.state,
+        at: next.at,
     }
 }
 

@@ -157,8 +157,7 @@ fn operation_at(forest: &LentForest, push: u8, stored: StoredOp) -> Option<(u8, 
         block,
         stored.index,
         stored.op,
-    )
-    .ok()?;
+    ).ok()?;
     let record = block.first_batch as usize + stored.index as usize;
     let i = item_or(forest.batches.records, 12 * record + 11, 0) as usize + stored.op as usize;
     if forest.ops.len() <= i {

@@ -4,11 +4,8 @@ use Prim.Native.Nat.{◌<◌}
 use native.Mathlib.Omega.{arith}
 use native.Mathlib.Numerals.{add-one}
 use lib.ListN.{length, get_or}
-use Rattle.dump.proofs.DigitLaws.{digits-none, digit-none, digit-some, read-end, read-stop, read_more}
+use Rattle.dump.proofs.DigitLaws.{digit-none, digit-some, read-end, read-stop, read_more}
 use Rattle.dump.proofs.scan.digits_of.Goals as goal
-
-pub loop-count-init : goal.loop-count-init
-loop-count-init c = digits-none c.args.base c.args.text.now
 
 pub returns-then-base-digit : goal.returns-then-base-digit
 returns-then-base-digit c = let small : get_or c.args.text.now c.loop-count.count 0 < 256 = omega (arith, c.type_inv.text c.loop-count.count) in

@@ -11,4 +11,3 @@ invariant-loop-place l =
     (l.place ≤ 256) × (l.free ≤ 256)
     × (first (is_of l.tally l.addr) ≡ first_from (is_of l.tally l.addr) l.place (256 - l.place))
     × (first (is_free l.tally) ≡ pick (ltb l.free 256) l.free (first_from (is_free l.tally) l.place (256 - l.place)))
-

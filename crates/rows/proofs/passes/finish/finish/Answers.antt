@@ -3,7 +3,6 @@ use mathlib.Core.Path.{◌≡◌, refl, sym, ap, ◌∙◌}
 use mathlib.Core.Bool.{Bool, true, false}
 use Prim.Native.Nat.{ℕ}
 use native.Mathlib.Omega.{arith}
-use lib.ListN.{length}
 use Rattle.groups.specs.Answer.{pick, first_of}
 use Rattle.rows.specs.records.Buffers.{rows_of}
 use Rattle.rows.specs.passes.Passes.{refusal_all, loop_without_body, sum_of}

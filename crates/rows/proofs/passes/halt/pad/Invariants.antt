@@ -1,6 +1,6 @@
 -- `halt::pad` meets its contract. The loop's invariant: the rows are padded up to `row`.
 use mathlib.Core.Path.{◌≡◌}
-use Prim.Native.Nat.{◌-◌, ◌≤◌}
+use Prim.Native.Nat.{◌≤◌}
 use lib.ListN.{length}
 use Rattle.rows.specs.declared.records.profile.Profile.{Profile}
 use Rattle.rows.specs.records.DecoderRows.{zero_word, control_flow}

@@ -1,5 +1,6 @@
 -- `profile::two_equal` meets its contract.
-use mathlib.Core.Path.{◌≡◌, sym, ◌∙◌}
+use mathlib.Core.Path.{◌≡◌, refl, ◌∙◌}
+use mathlib.Core.Bool.{false, ◌||◌}
 use Prim.Native.Nat.{◌+◌}
 use native.Mathlib.Omega.{arith}
 use lib.Dec.{eqb}
@@ -7,17 +8,20 @@ use lib.ListN.{get_or, drop}
 use Rattle.std.specs.List.{list_any}
 use Rattle.std.proofs.Common.{rules, tests}
 use Rattle.std.proofs.lemmas.Iterator.{YieldsList-from_slice}
-use Rattle.std.proofs.lemmas.Iterator.Search.{any_from_yields_List}
-use Rattle.rows.proofs.records.Scanned.{rest_all, equal-found, equal-on, equal-end}
+use Rattle.std.proofs.lemmas.Iterator.Consumers.{fold_from_yields_List}
+use Rattle.field.proofs.AnyFrom.{gather-turn, gather-last}
+use Rattle.rows.specs.records.Profiles.{two_equal}
+use Rattle.rows.proofs.records.Scanned.{rest_all, scanned, equal-turn}
 use Rattle.rows.proofs.records.profile.two_equal.Goals as goal
 
-pub returns-then-any : goal.returns-then-any
-returns-then-any c = let e : c.any.result ≡ list_any (eqb (get_or c.args.opcodes.now c.loop-i.i 0)) (drop (c.loop-i.i + 1) c.args.opcodes.now) = any_from_yields_List _ _ _ _ c.any.ensures.ran (YieldsList-from_slice (drop (c.loop-i.i + 1) c.args.opcodes.now) (c.iter.ensures.rest ∙ rest_all c.args.opcodes.now (c.loop-i.i + 1))) (λ x b q k. search (rules, tests)) in
-    sym (equal-found c.args.opcodes.now c.loop-i.i (omega arith) (sym e ∙ c.if-any.true)) ∙ c.loop-i.invariant
-
 pub loop-i-preserved : goal.loop-i-preserved
-loop-i-preserved c = let e : c.any.result ≡ list_any (eqb (get_or c.args.opcodes.now c.loop-i.i 0)) (drop (c.loop-i.i + 1) c.args.opcodes.now) = any_from_yields_List _ _ _ _ c.any.ensures.ran (YieldsList-from_slice (drop (c.loop-i.i + 1) c.args.opcodes.now) (c.iter.ensures.rest ∙ rest_all c.args.opcodes.now (c.loop-i.i + 1))) (λ x b q k. search (rules, tests)) in
-    sym (equal-on c.args.opcodes.now c.loop-i.i (omega arith) (sym e ∙ c.if-any.false)) ∙ c.loop-i.invariant
+loop-i-preserved c = let s = c.args.opcodes.now in
+    let i = c.loop-i.i in
+    let e : c.fold-found.result ≡ list_any (eqb (get_or s i 0)) (drop (i + 1) s) =
+    fold_from_yields_List _ (λ twice x. twice || eqb (get_or s i 0) x) _ _ c.fold-found.ensures.ran (YieldsList-from_slice (drop (i + 1) s) (c.iter.ensures.rest ∙ rest_all s (i + 1))) (λ a x b q k. search (rules, tests))
+    ∙ scanned (eqb (get_or s i 0)) false (drop (i + 1) s) in
+    gather-turn two_equal c.loop-i.found c.fold-found.result s i (omega arith) (equal-turn s i c.fold-found.result e) c.loop-i.invariant
 
 pub returns : goal.returns
-returns c = sym (equal-end c.args.opcodes.now c.loop-i.i (omega arith)) ∙ c.loop-i.invariant
+unfolding two_equal
+returns c = gather-last two_equal c.args.opcodes.now c.loop-i.i (omega arith) refl c.loop-i.invariant

@@ -9,4 +9,3 @@ use Rattle.rows.proofs.records.row.copy_in.Given as goal
 abbrev pub invariant-loop-j : goal.invariant-loop-j
 invariant-loop-j l =
     (l.dst ≡ paste l.initial.dst l.at (reduced l.src) l.j) × (l.j ≤ length l.src) × (length l.dst ≡ length l.initial.dst) × (l.at + length l.src ≤ length l.initial.dst)
-

@@ -1,11 +1,10 @@
 -- `Fragments::not_full` meets its contract.
-use mathlib.Core.Path.{◌≡◌, sym, ◌∙◌, ap}
+use mathlib.Core.Path.{◌≡◌, sym}
 use lib.Dec.{ltb}
 use Rattle.std.specs.List.{list_any}
 use Rattle.std.proofs.Common.{rules, tests}
 use Rattle.std.proofs.lemmas.Iterator.{YieldsList-from_slice}
 use Rattle.std.proofs.lemmas.Iterator.Search.{any_from_yields_List}
-use Rattle.rows.specs.passes.Passes.{not_full}
 use Rattle.rows.proofs.passes.Counts.{full-none, full-split}
 use Rattle.rows.proofs.passes.fragments.Fragments.not_full.Goals as goal
 

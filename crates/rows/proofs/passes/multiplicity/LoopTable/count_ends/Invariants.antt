@@ -1,7 +1,7 @@
 -- Row by row, a flagged END counts at the address behind it.
 use mathlib.Core.Path.{◌≡◌}
 use Prim.Native.Nat.{ℕ, ◌+◌, ◌≤◌}
-use lib.ListN.{length, take, get_or}
+use lib.ListN.{take, get_or}
 use Rattle.rows.specs.ways.LoopCounts.{ends_in, Tallied}
 use Rattle.rows.proofs.passes.multiplicity.LoopTable.count_ends.Given as goal
 

@@ -1,7 +1,7 @@
--- `nested::can_open` meets its contract.
+-- `nested::takes` meets its contract.
 use borrow.Author.Tests.{ltb-true, leb-true, eqb-true}
 use Rattle.groups.proofs.OneGroup.{both}
-use Rattle.rows.proofs.passes.nested.can_open.Goals as goal
+use Rattle.rows.proofs.passes.nested.OpenLoops.takes.Goals as goal
 
 pub returns : goal.returns
 returns c = λ e.
