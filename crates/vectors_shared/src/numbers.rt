@@ -1,5 +1,5 @@
 // A list of numbers, read from a place on. Past its end stand zeros.
-ghost use Rattle.std.specs.Prelude.{◌≡◌, ◌%◌, ◌^◌, ◌↔◌, ℕ, IsTrue, drop, get_or, length, min};
+ghost use Rattle.std.specs.Prelude.{◌≡◌, ◌++◌, take, ◌%◌, ◌^◌, ◌↔◌, ℕ, IsTrue, drop, get_or, length, min};
 
 use field::cell::item_or;
 
@@ -128,13 +128,10 @@ impl<'a> Numbers<'a> {
         self.begins_with(told) && others.iter().all(|number| (*number).into() == stood)
     }
 
-    // How many numbers are left.
-    pub fn len(self) -> usize {
-        self.list.len()
-    }
-
     // A part: how long it is, and its numbers as they stand in the list; and the numbers behind it.
-    pub fn split_part(self) -> (&'a [u64], Self) {
+    pub fn split_part(self) -> (&'a [u64], Self)
+        ensures { result.0.now ++ result.1.list.now ≡ drop 1 self.entry.list.now }
+    {
         let numbers = self.behind(1).list;
         let (part, list) = numbers.split_at(self.at_most(0, numbers.len()));
         (part, Self { list })
@@ -164,10 +161,13 @@ pub struct Part<T, const N: usize> {
 
 impl<T: Copy, const N: usize> Part<T, N> {
     // The numbers that are lent.
-    pub fn lent(&self) -> &[T] {
+    pub fn lent(&self) -> &[T]
+        ensures { result.now ≡ take self.now.length self.now.numbers }
+    {
         &self.numbers[..self.length.min(N)]
     }
 
+    // The same, to be written.
     pub fn lent_mut(&mut self) -> &mut [T] {
         &mut self.numbers[..self.length.min(N)]
     }
