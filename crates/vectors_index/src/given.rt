@@ -2,7 +2,7 @@
 
 use rows::records::profile::Profile;
 use vectors_shared::changes::put_pairs;
-use vectors_shared::given::put_rows;
+use vectors_shared::given::fill_rows;
 use vectors_shared::numbers::Numbers;
 
 pub const MOST_CELLS: usize = 6860;
@@ -30,7 +30,7 @@ pub fn profile_of(step: u64) -> Profile {
 // The rows listed, and one cell changed.
 pub fn buffer_of(given: Numbers<'_>) -> [u64; MOST_CELLS] {
     let mut buffer = [0u64; MOST_CELLS];
-    put_rows(given.behind(6), &mut buffer);
+    fill_rows(given.behind(6), &mut buffer);
     put_pairs(given.behind(3), 1, &mut buffer);
     buffer
 }

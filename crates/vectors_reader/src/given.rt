@@ -6,7 +6,7 @@ ghost use Rattle.std.specs.Prelude.{◌≤◌};
 
 use rows::records::profile::Profile;
 use vectors_shared::changes::put_pairs;
-use vectors_shared::given::put_rows;
+use vectors_shared::given::fill_rows;
 use vectors_shared::numbers::Numbers;
 
 // The cells of a row.
@@ -28,7 +28,7 @@ pub struct Input {
 impl From<Numbers<'_>> for Input {
     fn from(list: Numbers<'_>) -> Self {
         let mut buffer = [0u64; MOST_CELLS];
-        put_rows(list.behind(23), &mut buffer);
+        fill_rows(list.behind(23), &mut buffer);
         put_pairs(list.behind(17), 3, &mut buffer);
         Self {
             profile: Profile::from(list),

@@ -27,16 +27,6 @@ impl From<Numbers<'_>> for Profile {
     }
 }
 
-// The profile that the numbers from `at` on are.
-pub fn profile_of(v: &[u64], at: usize) -> Profile {
-    Profile::from(Numbers::new(v).behind(at))
-}
-
-// Sixteen cells.
-pub fn sixteen(v: &[u64], at: usize) -> [u64; 16] {
-    Numbers::new(v).behind(at).array()
-}
-
 // Cell k of a row: the op bits, h4, in_span and group_count of the row listed, and else a number that is the row's own.
 fn cell_of(list: Numbers<'_>, row: usize, k: usize) -> u64
     requires row_bound { row < 1000 }
@@ -53,17 +43,10 @@ fn cell_of(list: Numbers<'_>, row: usize, k: usize) -> u64
 }
 
 // Fills the buffer with the rows listed, each as opcode, in_span, h4 and group_count.
-pub fn put_rows(list: Numbers<'_>, buffer: &mut [u64])
+pub fn fill_rows(list: Numbers<'_>, buffer: &mut [u64])
     requires { length buffer.old < 49000 }
 {
     for (i, cell) in buffer.iter_mut().enumerate() {
         *cell = cell_of(list, i / Row::WIDTH, i % Row::WIDTH);
     }
-}
-
-// Fills the buffer with the rows listed from `at` on.
-pub fn fill_rows(v: &[u64], at: usize, buffer: &mut [u64])
-    requires { length buffer.old < 49000 }
-{
-    put_rows(Numbers::new(v).behind(at), buffer);
 }

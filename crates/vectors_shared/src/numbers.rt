@@ -1,32 +1,43 @@
 // A list of numbers, read from a place on. Past its end stand zeros.
-ghost use Rattle.std.specs.Prelude.{◌≤◌};
+ghost use Rattle.std.specs.Prelude.{◌≡◌, ◌++◌, take, ◌%◌, ◌^◌, ◌↔◌, ℕ, IsTrue, drop, get_or, length, min};
 
 use field::cell::item_or;
 
 // What a number of a list is read as: it gets the number's low bits, as many as it has.
 pub trait FromLowBits: Copy {
-    fn from_low_bits(number: u64) -> Self;
+    ghost low_bits: { ℕ → Self };
+
+    fn from_low_bits(number: u64) -> Self
+        ensures { result ≡ low_bits number };
 }
 
 impl FromLowBits for u8 {
+    ghost low_bits = { λ number. number % 2 ^ 8 };
+
     fn from_low_bits(number: u64) -> u8 {
         (number % 0x100) as u8
     }
 }
 
 impl FromLowBits for u32 {
+    ghost low_bits = { λ number. number % 2 ^ 32 };
+
     fn from_low_bits(number: u64) -> u32 {
         (number % 0x1_0000_0000) as u32
     }
 }
 
 impl FromLowBits for u64 {
+    ghost low_bits = { λ number. number };
+
     fn from_low_bits(number: u64) -> u64 {
         number
     }
 }
 
 impl FromLowBits for usize {
+    ghost low_bits = { λ number. number };
+
     fn from_low_bits(number: u64) -> usize {
         number as usize
     }
@@ -40,39 +51,51 @@ pub struct Numbers<'a> {
 
 impl<'a> Numbers<'a> {
     // All numbers of a list.
-    pub fn new(list: &'a [u64]) -> Self {
+    pub fn new(list: &'a [u64]) -> Self
+        ensures { result.list.now ≡ list.entry.now }
+    {
         Self { list }
     }
 
     // How many numbers there are.
-    pub fn len(self) -> usize {
+    pub fn len(self) -> usize
+        ensures { result ≡ length self.entry.list.now }
+    {
         self.list.len()
     }
 
     // Whether only the zeros past the end are left.
-    pub fn is_empty(self) -> bool {
+    pub fn is_empty(self) -> bool
+        ensures { IsTrue result ↔ length self.entry.list.now ≡ 0 }
+    {
         self.list.is_empty()
     }
 
     // Number i.
-    pub fn number(self, i: usize) -> u64 {
+    pub fn number(self, i: usize) -> u64
+        ensures { result ≡ get_or self.entry.list.now i 0 }
+    {
         item_or(self.list, i, 0)
     }
 
     // Number i, as what is asked for.
-    pub fn item<T: FromLowBits>(self, i: usize) -> T {
+    pub fn item<T: FromLowBits>(self, i: usize) -> T
+        ensures { result ≡ T.low_bits (get_or self.entry.list.now i 0) }
+    {
         T::from_low_bits(self.number(i))
     }
 
     // Number i, or `most` where it is larger.
     pub fn at_most(self, i: usize, most: usize) -> usize
-        ensures { result ≤ most }
+        ensures { result ≡ min most (get_or self.entry.list.now i 0) }
     {
-        self.item::<usize>(i).min(most)
+        (self.number(i) as usize).min(most)
     }
 
     // The numbers behind the first n.
-    pub fn behind(self, n: usize) -> Self {
+    pub fn behind(self, n: usize) -> Self
+        ensures { result.list.now ≡ drop n self.entry.list.now }
+    {
         let at = n.min(self.list.len());
         Self {
             list: &self.list[at..],
@@ -106,7 +129,9 @@ impl<'a> Numbers<'a> {
     }
 
     // A part: how long it is, and its numbers as they stand in the list; and the numbers behind it.
-    pub fn split_part(self) -> (&'a [u64], Self) {
+    pub fn split_part(self) -> (&'a [u64], Self)
+        ensures { result.0.now ++ result.1.list.now ≡ drop 1 self.entry.list.now }
+    {
         let numbers = self.behind(1).list;
         let (part, list) = numbers.split_at(self.at_most(0, numbers.len()));
         (part, Self { list })
@@ -136,10 +161,13 @@ pub struct Part<T, const N: usize> {
 
 impl<T: Copy, const N: usize> Part<T, N> {
     // The numbers that are lent.
-    pub fn lent(&self) -> &[T] {
+    pub fn lent(&self) -> &[T]
+        ensures { result.now ≡ take self.now.length self.now.numbers }
+    {
         &self.numbers[..self.length.min(N)]
     }
 
+    // The same, to be written.
     pub fn lent_mut(&mut self) -> &mut [T] {
         &mut self.numbers[..self.length.min(N)]
     }

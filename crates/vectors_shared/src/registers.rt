@@ -67,16 +67,3 @@ impl From<Numbers<'_>> for OperationHelperRegisters {
         registers_of(list.number(0), list.behind(1).array())
     }
 }
-
-// The helper registers of a case by its number; the case takes the first ones of six numbers.
-pub fn registers(
-    n: u64,
-    a: u64,
-    b: u64,
-    c: u64,
-    d: u64,
-    e: u64,
-    f: u64,
-) -> OperationHelperRegisters {
-    registers_of(n, [a, b, c, d, e, f])
-}

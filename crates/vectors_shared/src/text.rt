@@ -1,7 +1,6 @@
 // A file of decimal numbers, read into an array.
-ghost use Rattle.std.specs.Prelude.{◌≤◌, ◌<◌, length, IfOk};
+ghost use Rattle.std.specs.Prelude.{◌≤◌, length, IfOk};
 
-use field::cell::item_or;
 use std::io::Read;
 use std::rt::Files;
 use std::{fs, io, str};
@@ -74,50 +73,6 @@ pub fn load(rt: &(impl Files + Eprint), name: &[u8], out: &mut [u64]) -> io::Res
             Ok(0)
         }
     }
-}
-
-// 1 where the test holds, else 0.
-pub fn one_if(holds: bool) -> u64
-    ensures { result ≤ 1 }
-{
-    u64::from(holds)
-}
-
-// The number, or `most` where it is larger.
-pub fn at_most(n: u64, most: usize) -> usize
-    ensures { result ≤ most }
-{
-    (n as usize).min(most)
-}
-
-// Number i of the record that begins at `at`, 0 past the end.
-pub fn item(v: &[u64], at: usize, i: usize) -> u64 {
-    item_or(&v[at.min(v.len())..], i, 0)
-}
-
-// How many numbers are lent of a part that begins at `at`: its length stands in the place before.
-pub fn lent(v: &[u64], at: usize, room: usize) -> usize
-    requires { 0 < at }
-    ensures { result ≤ room }
-{
-    at_most(item(v, at - 1, 0), room)
-}
-
-// The number that the low 32 bits are.
-pub fn low32(x: u64) -> u32 {
-    (x % 0x1_0000_0000) as u32
-}
-
-// The number that the low 8 bits are.
-pub fn low8(x: u64) -> u8 {
-    (x % 256) as u8
-}
-
-// How far a list is, and whether its latest vector came out right.
-#[derive(Clone, Copy)]
-pub struct Step {
-    pub right: bool,
-    pub next: usize,
 }
 
 // Writes how many vectors of a list came out right. A name is the bytes that `load` takes.
