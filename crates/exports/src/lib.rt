@@ -151,13 +151,7 @@ pub extern "C" fn core_finish(
         counts,
         built,
     };
-    answered_number(finish(
-        profile,
-        buffer,
-        &fragments,
-        *first_stack_top,
-        height,
-    ))
+    answered_number(finish(profile, buffer, &fragments, *first_stack_top, height))
 }
 
 // Storings and cycles, lent as records of 32 numbers, on a fresh tracer over one fragment.

@@ -12,7 +12,12 @@ use reader::trace::validate_keeping;
 use rows::records::profile::Profile;
 
 // Builds the index, with a list that is lent for kinds of rows, whatever it holds.
-fn build_with(profile: Profile, cells: &[u64], index: &mut [u32], kinds: &mut [u8]) -> Result<usize, TraceRefused>
+fn build_with(
+    profile: Profile,
+    cells: &[u64],
+    index: &mut [u32],
+    kinds: &mut [u8],
+) -> Result<usize, TraceRefused>
     ensures { BuildsIndex profile cells.now index.old (told_built result) index.new }
 {
     let mut table = [0u8; 256];
@@ -48,7 +53,11 @@ fn build_long(profile: Profile, cells: &[u64], index: &mut [u32]) -> Result<usiz
 
 // Builds the index: three numbers for each block, its start row, its END row and the enclosing block's start row. The reader's refusals come
 // first, then 27 for an index too short. A refusal changes nothing.
-pub fn build_index(profile: Profile, cells: &[u64], index: &mut [u32]) -> Result<usize, TraceRefused>
+pub fn build_index(
+    profile: Profile,
+    cells: &[u64],
+    index: &mut [u32],
+) -> Result<usize, TraceRefused>
     ensures { BuildsIndex profile cells.now index.old (told_built result) index.new }
 {
     if cells.len() / Row::WIDTH <= SHORT_LIST {

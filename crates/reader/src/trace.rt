@@ -116,7 +116,11 @@ pub fn validate_keeping(
 }
 
 // Reads a trace with a list that has nothing wrong of its rows.
-fn read_with(lent: &LentTrace<'_>, depths: &mut [u32], kinds: &mut [u8]) -> Result<usize, TraceRefused>
+fn read_with(
+    lent: &LentTrace<'_>,
+    depths: &mut [u32],
+    kinds: &mut [u8],
+) -> Result<usize, TraceRefused>
     requires { KeptKinds lent.now.profile lent.now.cells.now lent.now.table.now kinds.old }
     ensures { ReadsTrace lent.now.profile lent.now.cells.now depths.old (told_trace result) depths.new }
 {
@@ -168,7 +172,11 @@ fn read_long(profile: Profile, cells: &[u64], depths: &mut [u32]) -> Result<usiz
 }
 
 // Reads a trace: the number of program rows, and one depth a row; or the refusal and its row, which changes no depth.
-pub fn read_trace(profile: Profile, cells: &[u64], depths: &mut [u32]) -> Result<usize, TraceRefused>
+pub fn read_trace(
+    profile: Profile,
+    cells: &[u64],
+    depths: &mut [u32],
+) -> Result<usize, TraceRefused>
     ensures { ReadsTrace profile cells.now depths.old (told_trace result) depths.new }
 {
     if cells.len() / Row::WIDTH <= FEW_ROWS {
