@@ -173,7 +173,7 @@ def rt_types(path):
         while not re.match(r"\}|.*;$", lines[end]):
             end += 1
         d = Definition(path, m[3], m[2], 0, "", range(start + 1, end + 2), bool(m[1]))
-        d.text = "\n".join(re.sub(r"//.*|\b\w+:", "", x) for x in lines[k:end + 1])
+        d.text = "\n".join(re.sub(r"//.*|\b\w+:|<'[^<>]*>|'\w+ ", " ", x) for x in lines[k:end + 1])
         found.append(d)
     return found
 
