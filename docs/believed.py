@@ -182,7 +182,7 @@ def public_functions(path):
     """Of each public function of a file: its contract and signature as one text, and the names of its parameters."""
     text = re.sub(r"//.*", "", path.read_text())
     for m in re.finditer(r'^\s*pub (?:extern "C" )?fn ', text, re.M):
-        header = re.sub(r"<'[^<>]*>", " ", text[m.start():header_end(text, m.end())])  # without lifetimes
+        header = re.sub(r"<'[^<>]*>|&", " ", text[m.start():header_end(text, m.end())])  # without borrows and lifetimes
         yield header, set(re.findall(r"(\w+): ", header))
 
 
