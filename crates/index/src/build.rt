@@ -1,5 +1,5 @@
 // Building the index of a finished trace.
-ghost use Rattle.std.specs.Prelude.{◌≡◌};
+ghost use Rattle.std.specs.Prelude.{◌≡◌, ◌≤◌};
 ghost use Rattle.index.specs.Building.{told_built, BuildsIndex};
 
 use crate::change::count_starts;
@@ -35,19 +35,16 @@ fn build_with(
     Ok(blocks)
 }
 
-// Builds it of a trace that the smaller list holds, or any other.
-fn build_short(profile: Profile, cells: &[u64], index: &mut [u32]) -> Result<usize, TraceRefused>
+// Builds it with a list of kinds for so many rows.
+fn build_by_list<const ROWS: usize>(
+    profile: Profile,
+    cells: &[u64],
+    index: &mut [u32],
+) -> Result<usize, TraceRefused>
+    requires { ROWS ≤ 65536 }
     ensures { BuildsIndex profile cells.now index.old (told_built result) index.new }
 {
-    let mut kinds = [0u8; SHORT_LIST];
-    build_with(profile, cells, index, &mut kinds)
-}
-
-// Builds it of a longer trace, or any other.
-fn build_long(profile: Profile, cells: &[u64], index: &mut [u32]) -> Result<usize, TraceRefused>
-    ensures { BuildsIndex profile cells.now index.old (told_built result) index.new }
-{
-    let mut kinds = [0u8; LONG_LIST];
+    let mut kinds = [0u8; ROWS];
     build_with(profile, cells, index, &mut kinds)
 }
 
@@ -61,7 +58,7 @@ pub fn build_index(
     ensures { BuildsIndex profile cells.now index.old (told_built result) index.new }
 {
     if cells.len() / Row::WIDTH <= SHORT_LIST {
-        return build_short(profile, cells, index);
+        return build_by_list::<SHORT_LIST>(profile, cells, index);
     }
-    build_long(profile, cells, index)
+    build_by_list::<LONG_LIST>(profile, cells, index)
 }

@@ -129,40 +129,17 @@ fn read_with(
     Ok(rows)
 }
 
-// Reads a trace of few rows, or any other.
-fn read_few(profile: Profile, cells: &[u64], depths: &mut [u32]) -> Result<usize, TraceRefused>
-    ensures { ReadsTrace profile cells.now depths.old (told_trace result) depths.new }
-{
-    let table = table_for(profile, 0);
-    let mut kinds = [UNKNOWN; FEW_ROWS];
-    let lent = LentTrace {
-        profile,
-        cells,
-        table: &table,
-    };
-    read_with(&lent, depths, &mut kinds)
-}
-
-// Reads a trace that the smaller list holds, or any other.
-fn read_short(profile: Profile, cells: &[u64], depths: &mut [u32]) -> Result<usize, TraceRefused>
+// Reads a trace, with a list of kinds for so many of its rows.
+fn read_by_list<const ROWS: usize>(
+    profile: Profile,
+    cells: &[u64],
+    depths: &mut [u32],
+) -> Result<usize, TraceRefused>
+    requires { ROWS ≤ 65536 }
     ensures { ReadsTrace profile cells.now depths.old (told_trace result) depths.new }
 {
     let table = table_for(profile, cells.len() / Row::WIDTH);
-    let mut kinds = [UNKNOWN; SHORT_LIST];
-    let lent = LentTrace {
-        profile,
-        cells,
-        table: &table,
-    };
-    read_with(&lent, depths, &mut kinds)
-}
-
-// Reads a longer trace, or any other.
-fn read_long(profile: Profile, cells: &[u64], depths: &mut [u32]) -> Result<usize, TraceRefused>
-    ensures { ReadsTrace profile cells.now depths.old (told_trace result) depths.new }
-{
-    let table = table_for(profile, cells.len() / Row::WIDTH);
-    let mut kinds = [UNKNOWN; LONG_LIST];
+    let mut kinds = [UNKNOWN; ROWS];
     let lent = LentTrace {
         profile,
         cells,
@@ -180,10 +157,10 @@ pub fn read_trace(
     ensures { ReadsTrace profile cells.now depths.old (told_trace result) depths.new }
 {
     if cells.len() / Row::WIDTH <= FEW_ROWS {
-        return read_few(profile, cells, depths);
+        return read_by_list::<FEW_ROWS>(profile, cells, depths);
     }
     if cells.len() / Row::WIDTH <= SHORT_LIST {
-        return read_short(profile, cells, depths);
+        return read_by_list::<SHORT_LIST>(profile, cells, depths);
     }
-    read_long(profile, cells, depths)
+    read_by_list::<LONG_LIST>(profile, cells, depths)
 }
