@@ -1,4 +1,5 @@
 // Traces as value change dumps: writing one, and reading those back that are written here.
+// Cells are lent as C lends them, rows by stride; nothing is allocated, so that a row's values are an array of fixed room.
 #![tactic(auto)]
 
 mod header;

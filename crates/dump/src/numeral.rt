@@ -11,6 +11,7 @@ pub(crate) fn put_digits(base: u64, n: u64, out: &mut [u8]) -> usize
 {
     let mut at = out.len();
     let mut rest = n;
+    // By `while`: from the last digit on, of which nothing counts before.
     while base <= rest {
         at -= 1;
         out[at] = b'0' + (rest % base) as u8;

@@ -19,6 +19,7 @@ fn after_changes<'a>(text: &'a [u8], row: &mut [u64; 49]) -> Option<&'a [u8]>
 {
     let mut rest = text;
     let mut column = 0;
+    // By `while`: each line says how far it goes.
     while let Some(line) = line_from(rest, column) {
         rest = after_value(rest, line, row[line.column])?;
         row[line.column] = line.value;
@@ -44,6 +45,7 @@ pub(crate) fn count_rows(text: &[u8]) -> Option<usize>
     let mut row = [Felt::MODULUS; 49];
     let mut rest = text;
     let mut number = 0;
+    // By `while`: each row says how far it goes.
     while !rest.is_empty() {
         rest = after_row(rest, number, &mut row)?;
         if number == Row::MOST {

@@ -1,6 +1,7 @@
 // The calls for programs in other languages. Each passes its arguments on; its contract is that of the function it calls. A slice crosses
 // as a pointer and a length, an array behind a reference as a pointer, a struct by value; instead of a part of a slice its place is answered.
 // Every call takes any numbers and answers 0 or the documents' number of the refusal; a refused place is empty.
+// C asks for this form: numbers for refusals and kinds in structs and answers, slices one by one, and no allocation.
 #![tactic(auto)]
 
 ghost use Rattle.std.specs.Prelude.{◌≡◌, ◌-◌, length};

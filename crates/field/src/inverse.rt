@@ -20,6 +20,7 @@ fn euclid_inverse(x: u64) -> u64
     let mut v = x;
     let mut s: u64 = 0;
     let mut t: u64 = 1;
+    // By `while`: Euclid's steps, of which nothing counts.
     while v > 1 {
         s += u / v * t;
         u %= v;

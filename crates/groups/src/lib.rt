@@ -1,4 +1,5 @@
 // Groups in a block: the batches that a block lends, batch flags, the group of an operation, and how many groups are left.
+// Batches are lent as C lends them, numbers by stride.
 #![tactic(auto)]
 
 pub mod batch;

@@ -12,9 +12,7 @@ pub fn enclosing_block(index: &[u32], row: usize) -> Result<Option<usize>, Refus
     if index.len() % 3 != 0 {
         return Err(Refusal::BadLength);
     }
-    let mut place = index.len() / 3;
-    while 0 < place {
-        place -= 1;
+    for place in (0..index.len() / 3).rev() {
         let start = index[3 * place] as usize;
         let end = index[3 * place + 1] as usize;
         if (start <= row) & (row <= end) {

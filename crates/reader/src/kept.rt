@@ -8,7 +8,7 @@ use crate::token::{RowKind, control, op, row_kind};
 use groups::constants::{Column, Row};
 use rows::records::profile::Profile;
 
-// The number that tells no kind.
+// The number that tells no kind. Kinds are kept as bytes, since the list that `validate_keeping` is lent has bytes.
 pub(crate) const UNKNOWN: u8 = 10;
 
 // The most rows for which a table takes longer to make than it spares, as measured.

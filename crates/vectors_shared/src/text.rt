@@ -36,6 +36,7 @@ fn read_full(file: &mut impl Read, text: &mut [u8]) -> usize
     ensures { result ≤ length text.old }
 {
     let mut n = 0;
+    // By `while`: each numeral says how far it goes.
     while n < text.len() {
         match file.read(&mut text[n..]) {
             Ok(0) | Err(_) => return n,

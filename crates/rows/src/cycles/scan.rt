@@ -6,6 +6,7 @@ ghost use Rattle.rows.specs.cycles.Scans.{any_long_block, any_large_batch, scan_
 use crate::records::profile::{Profile, any_big_opcode, is_wrong};
 
 // What a scan finds: an opcode that is too big (1), a wrong profile (2), a forest past its limits (11).
+// Each flag is a finding of its own, as the definition says them.
 #[derive(Clone, Copy)]
 pub struct Scan {
     pub big: bool,

@@ -1,4 +1,5 @@
 // The lent tally of a cycle: 256 places, each an address and then its count.
+// Each place is two numbers, an address and its count, as C lends the tally; it is in the order of first use, so that it is no sorted list.
 ghost use Rattle.std.specs.Prelude.{◌≡◌, ◌<◌, ◌≤◌, length};
 ghost use Rattle.groups.specs.Constants.{most_rows};
 ghost use Rattle.groups.specs.Answer.{accepted};

@@ -196,6 +196,7 @@ fn any_by_tables(profile: Profile, buffer: &[u64], rows: usize) -> bool
         counts: [0; 4096],
     };
     let mut from: usize = 0;
+    // By `while`: each table says where the next begins.
     while from + 1 < rows {
         let next = table.fill(profile, buffer, rows, from);
         if table.any_between(profile, buffer, rows, from, next) {
@@ -217,6 +218,7 @@ fn write_by_tables(profile: Profile, buffer: &mut [u64], rows: usize)
         counts: [0; 4096],
     };
     let mut from: usize = 0;
+    // By `while`: each table says where the next begins.
     while from + 1 < rows {
         let next = table.fill(profile, buffer, rows, from);
         table.write_between(profile, buffer, rows, from, next);

@@ -173,6 +173,7 @@ fn clear_counts(profile: Profile, buffer: &mut [u64], end: usize)
 }
 
 // Each LOOP row but the last row gets the number of its body's ENDs, and none is 0. False says nothing and changes nothing.
+// A bool, as there is nothing to hand on.
 pub(crate) fn count_nested(profile: Profile, buffer: &mut [u64], rows: usize) -> bool
     requires { (row_width * rows ≤ length buffer.old) × (rows ≤ most_rows) }
     ensures { (result ≡ true → AllCounted profile rows buffer.old buffer.new)

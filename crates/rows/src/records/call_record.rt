@@ -1,6 +1,7 @@
 // A call lent as a record of 32 numbers. Number 0 says which: 0 a storing, 1 to 18 a cycle with that case of helper registers.
 // Each function here is lent the one record. Cells among its numbers are read modulo p; nothing comes of numbers that a record's kind does
 // not name.
+// A kind is a number in a record, as C writes it; here it becomes an enum. Each function is the definition of the same name.
 ghost use Rattle.std.specs.Prelude.{◌≡◌};
 ghost use Rattle.groups.specs.Constants.{stored_absent};
 ghost use Rattle.groups.specs.Refusals.{told, told_or};

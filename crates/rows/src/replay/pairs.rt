@@ -331,6 +331,7 @@ fn walk_pairs(
 {
     let rows = fragment.len() / Row::WIDTH;
     let mut w = from;
+    // By `while`: what a pair asks decides how far the next one is.
     while w.next < records.len() / 32 {
         if rows <= w.row {
             return w;

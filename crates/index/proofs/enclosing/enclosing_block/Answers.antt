@@ -19,40 +19,10 @@ loop-place-init c = let n = length c.args.index.now in
     let z : n % 3 ≡ 0 = search rules in
     (omega arith, z, none-past c.args.index.now c.args.row (n / 3) (omega arith))
 
-pub overflow_mul-start : goal.overflow_mul-start
-overflow_mul-start c = omega arith
-
-pub offset_bounds-index-place : goal.offset_bounds-index-place
-offset_bounds-index-place c = omega arith
-
-pub bounds-index-place : goal.bounds-index-place
-bounds-index-place c = omega arith
-
-pub overflow_cast-start : goal.overflow_cast-start
-overflow_cast-start c = omega (arith, c.shared_slice_known-1.given (3 * (c.loop-place.place - 1)))
-
-pub overflow_mul-end : goal.overflow_mul-end
-overflow_mul-end c = omega arith
-
-pub overflow_add-end : goal.overflow_add-end
-overflow_add-end c = omega arith
-
-pub offset_bounds-index-place-in-loop-place : goal.offset_bounds-index-place-in-loop-place
-offset_bounds-index-place-in-loop-place c = omega arith
-
-pub bounds-index-place-in-loop-place : goal.bounds-index-place-in-loop-place
-bounds-index-place-in-loop-place c = omega arith
-
-pub overflow_cast-end : goal.overflow_cast-end
-overflow_cast-end c = omega (arith, c.shared_slice_known-in-loop-place-1.given (3 * (c.loop-place.place - 1) + 1))
-
 pub returns-then-start-row : goal.returns-then-start-row
 unfolding encloses enclosing
 returns-then-start-row c = rw (eq-eqb (length c.args.index.now % 3) 0 c.loop-place.invariant.1)
     (ap accepted (sym (found_here c.args.index.now c.args.row c.loop-place.place c.loop-place-test.true c.loop-place.invariant.0 c.loop-place.invariant.2 c.if-start-row.true)))
-
-pub loop-place-smaller : goal.loop-place-smaller
-loop-place-smaller c = omega arith
 
 pub loop-place-preserved : goal.loop-place-preserved
 unfolding encloses

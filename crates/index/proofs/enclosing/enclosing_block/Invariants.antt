@@ -8,6 +8,3 @@ use Rattle.index.proofs.enclosing.enclosing_block.Given as goal
 
 abbrev pub invariant-loop-place : goal.invariant-loop-place
 invariant-loop-place l = (3 * l.place ≤ length l.index) × (length l.index % 3 ≡ 0) × (last_from l.place (drop (3 * l.place) l.index) l.row ≡ none)
-
-abbrev pub decreases-loop-place : goal.decreases-loop-place
-decreases-loop-place l = l.place
