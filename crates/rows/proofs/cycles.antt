@@ -3,3 +3,4 @@ pub mod Picks
 pub mod RowCounts
 pub mod FirstPlaces
 pub mod Tallying
+pub mod MadeByKind

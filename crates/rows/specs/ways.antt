@@ -4,3 +4,4 @@ pub mod OpenLoops
 pub mod Finisher
 pub mod Inner
 pub mod Pairs
+pub mod ContinuationKinds

@@ -59,7 +59,7 @@ pub fn part_of<T>(s: &[T], width: usize, first: u32, count: u32) -> &[T]
 impl<'a> LentForest<'a> {
     // The forest that lies there.
     #[tactic(auto, unfolding(crate::specs::replay::Calls::forest_in))]
-    pub fn part(&self, entry: DirectoryEntry) -> LentForest<'a>
+    pub(crate) fn part(&self, entry: DirectoryEntry) -> LentForest<'a>
         ensures { lent_forest result ≡ forest_in (lent_forest self.now) entry }
     {
         LentForest {
