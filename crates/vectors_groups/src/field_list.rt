@@ -3,6 +3,7 @@ use field::felt;
 use field::inverse::inverse;
 use vectors_shared::numbers::Numbers;
 
+// The result of a kind of operation. An enum of the five kinds would be made of the number here and matched here: no plainer.
 fn result(kind: u64, a: u64, b: u64) -> u64 {
     match kind {
         0 => felt::reduce(a),

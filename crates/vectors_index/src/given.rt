@@ -5,6 +5,7 @@ use vectors_shared::changes::put_pairs;
 use vectors_shared::given::fill_rows;
 use vectors_shared::numbers::Numbers;
 
+// The room is fixed, since no heap is used.
 pub const MOST_CELLS: usize = 6860;
 
 // The example's opcodes, and a step.

@@ -12,6 +12,7 @@ use vectors_shared::numbers::Numbers;
 // The cells of a row.
 const WIDTH: usize = 49;
 
+// The room is fixed, since no heap is used.
 const MOST_CELLS: usize = 6860;
 
 pub const MOST_ROWS: usize = 160;

@@ -46,8 +46,8 @@ impl Case<'_> {
 fn exchange(list: &mut [u64], a: usize, b: usize) {
     let x = item_or(list, a, 0);
     let y = item_or(list, b, 0);
-    put(y, list, a, 0);
-    put(x, list, b, 0);
+    put(y, list, a);
+    put(x, list, b);
 }
 
 // How many numbers the changes at a place change.

@@ -21,7 +21,7 @@ use rows::records::address_state::LentQueues;
 use rows::records::forest::LentForest;
 use rows::records::profile::Profile;
 use vectors_shared::changes::put_pairs;
-use vectors_shared::copies::{put, put_all};
+use vectors_shared::copies::put_all;
 use vectors_shared::numbers::{Numbers, Part};
 use vectors_shared::runner::{Step, count_right};
 
@@ -64,7 +64,7 @@ const MOST_CHANGES: usize = 200;
 // Where no more than these are left, a list ends: no vector has as many.
 const MOST_NUMBERS: usize = 692;
 
-// What a call is given.
+// What a call is given. The room for it and its parts is fixed, since no heap is used.
 #[derive(Drop)]
 struct Input {
     numbers: [u64; 1129],
@@ -208,8 +208,7 @@ fn finish_right(input: &mut Input, answer: Numbers<'_>) -> bool {
 fn tallied_right(input: &mut Input, answer: Numbers<'_>) -> bool {
     let mut expected: [u64; 514] = input.behind(TALLY + 1).array();
     if answer.number(0) == 0 {
-        put(answer.number(98), &mut expected, answer.item(97), 0);
-        put(answer.number(100), &mut expected, answer.item(99), 0);
+        put_pairs(answer.behind(97), 2, &mut expected);
     }
     finish_right(input, answer) && input.behind(TALLY + 1).begins_with(&expected)
 }

@@ -7,15 +7,16 @@ use crate::numbers::Numbers;
 // The longest run.
 const MOST_NUMBERS: usize = 900;
 
-// Puts the numbers of the run that begins the list into their places, and answers the list behind it.
+// Puts the numbers of the run that begins the list into their places, as many as there are places, and answers the list behind it.
 fn put_run<'a>(list: Numbers<'a>, to: &mut [u64]) -> Numbers<'a>
     ensures { length result.list.now ≤ length list.entry.list.now }
 {
-    let place = list.item(0);
+    let place: usize = list.item(0);
     let length = list.at_most(1, MOST_NUMBERS);
     let numbers = list.behind(2);
-    for i in 0..length {
-        put(numbers.number(i), to, place, i);
+    if let Some(places) = to.get_mut(place..) {
+        let room = length.min(places.len());
+        numbers.fill(&mut places[..room]);
     }
     numbers.behind(length)
 }
@@ -38,7 +39,7 @@ pub fn make_changes<'a>(list: Numbers<'a>, to: &mut [u64]) -> Numbers<'a>
 pub fn put_pairs(pairs: Numbers<'_>, count: usize, to: &mut [u64]) {
     let mut rest = pairs;
     for _ in 0..count {
-        put(rest.number(1), to, rest.item(0), 0);
+        put(rest.number(1), to, rest.item(0));
         rest = rest.behind(2);
     }
 }

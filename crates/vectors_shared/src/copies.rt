@@ -1,9 +1,9 @@
 // Copies of numbers into a list.
 
-// Stores x in place at + i, if there is such a place.
-pub fn put(x: u64, to: &mut [u64], at: usize, i: usize) {
-    if let Some(place) = to.get_mut(at.saturating_add(i)) {
-        *place = x;
+// Stores a number in place `at`, if there is such a place.
+pub fn put(number: u64, to: &mut [u64], at: usize) {
+    if let Some(place) = to.get_mut(at) {
+        *place = number;
     }
 }
 

@@ -152,7 +152,7 @@ impl<'a> Numbers<'a> {
     }
 }
 
-// The numbers of a part of a list, with zeros behind them.
+// A part of a list: its length, and the numbers from its first on, as many as there is room for. The room is fixed, since no heap is used.
 #[derive(Clone, Copy)]
 pub struct Part<T, const N: usize> {
     pub numbers: [T; N],

@@ -64,7 +64,7 @@ fn fail(rt: &impl Eprint, name: &[u8], error: io::Error) -> io::Result<()> {
 }
 
 // Puts the numbers of a file into `out`, and answers how many there are; 0 where the file cannot be read, which a line on standard error says.
-// A name may be any bytes, as always: a `&str` would ask more of callers. The text has fixed room, since no heap is used.
+// A name may be any bytes: a `&str` would ask more of callers. The text has fixed room, since no heap is used.
 pub fn load(rt: &(impl Files + Eprint), name: &[u8], out: &mut [u64]) -> io::Result<usize> {
     let mut text = [0u8; MOST_BYTES];
     match first_bytes(rt, name, &mut text) {
