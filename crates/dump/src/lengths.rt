@@ -1,4 +1,4 @@
-// How many bytes the lines of a buffer take.
+// How many bytes the lines of a buffer take. Each function counts what one of `lines` writes, and has its own promise; nothing is written to count.
 ghost use Rattle.std.specs.Prelude.{◌≡◌, ◌/◌, ◌≤◌, length};
 ghost use Rattle.groups.specs.Constants.{row_width, most_cells};
 ghost use Rattle.theory_dumps.specs.Numerals.{binary, decimal};

@@ -49,6 +49,7 @@ fn after_op(group: u64, index: u64) -> u64
 }
 
 // Whether the block has too many batches, or the batch or one of the others added up has too many groups.
+// The flag comes with the sum (`GroupSum`).
 #[tactic(auto, unfolding(crate::specs::Contexts::too_large))]
 fn is_too_large(block: BasicBlockNode, batch: OpBatch, above8: bool) -> bool
     ensures { result ≡ too_large block batch above8 }

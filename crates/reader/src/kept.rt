@@ -119,6 +119,7 @@ fn number_by(cells: &[u64], row: usize, table: &[u8; 256]) -> u8
 }
 
 // What a row is, by a number that tells it or nothing.
+// `kept_kind` ends as this does and does not call it: with the call, reading took 1 ns a row more.
 fn kind_told(profile: Profile, cells: &[u64], row: usize, number: u8) -> RowKind
     ensures { TellsKind profile cells.now row number → result ≡ row_kind_of (token_at profile cells.now row) }
 {

@@ -63,6 +63,7 @@ fn row_made(row: DecoderRow, here: Cursor, used: Used) -> MadeRow
     }
 }
 
+// The kinds of END and the rows below are functions of the names of their definitions: they differ in what they refuse and write, not in a value.
 #[tactic(auto, unfolding(crate::specs::cycles::Made::call_kind))]
 fn call_kind(node: MastNode) -> Option<EndBlockStackEntryKind>
     ensures { told_or wrong_node_kind result ≡ call_kind node }

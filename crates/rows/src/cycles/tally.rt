@@ -43,6 +43,7 @@ fn is_of(tally: &[u64], addr: u64, place: usize) -> bool
 }
 
 // The first place in use with the address, else the first free one; 256 where there is neither.
+// No Option: the definition answers 256, and both refusals of a place are one comparison with it.
 #[tactic(auto, unfolding(crate::specs::cycles::LentTally::place_for))]
 fn place_for(tally: &[u64], addr: u64) -> usize
     ensures value { result ≡ place_for tally.now addr }

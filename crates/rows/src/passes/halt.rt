@@ -20,6 +20,7 @@ use groups::refusal::Refusal;
 use groups::word::Word;
 
 // The four numbers from `at` on, as they stand.
+// No `word_at`, which reads modulo p: `built` may hold any numbers.
 fn word_in(cells: &[u64], at: usize) -> Word
     requires { at + 4 ≤ length cells.now }
     ensures { result ≡ word_from cells.now at }

@@ -161,6 +161,7 @@ impl LoopTable {
     }
 
     // Each LOOP row from `from` to `next` gets its count.
+    // Not one function with a closure for both: the rows are read of the buffer that the closure would write.
     fn write_between(
         &self,
         profile: Profile,

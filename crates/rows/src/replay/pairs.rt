@@ -69,6 +69,7 @@ pub struct PairEnd {
 }
 
 // The clock row's cell behind a cycle: one more, where the number is of 32 bits.
+// No `checked_add`: a clock may be any number of 64 bits, and the limit is that of 32.
 fn clk_behind(clk: u64) -> u64
     ensures { ClkBehind clk result }
 {
