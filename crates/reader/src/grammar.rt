@@ -78,6 +78,7 @@ fn ops(lent: &LentTrace<'_>, row: usize, flag: u64, kinds: &mut [u8]) -> Part
     ensures kept_kinds { KeptKinds lent.now.profile lent.now.cells.now lent.now.table.now kinds.new }
 {
     let mut at = row;
+    // By `loop`: the rows say when it ends.
     loop {
         let kind = note_kind(lent, at, kinds);
         match kind {
@@ -150,6 +151,7 @@ fn passes(lent: &LentTrace<'_>, row: usize, left: u32, flag: u64, kinds: &mut [u
     let mut at = row + 1;
     let mut count: u64 = 1;
     let mut so_far: Option<usize> = None;
+    // By `loop`: the rows say when it ends.
     loop {
         let (next, wrong) = block(lent, at, left, 1, kinds)?;
         let kind = note_kind(lent, next, kinds);

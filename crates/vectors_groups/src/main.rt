@@ -54,6 +54,7 @@ fn run_answers<F: Fn(Numbers<'_>) -> Answer>(
 }
 
 fn main(rt: HostRuntime) -> io::Result<()> {
+    // Each list is of another call.
     run_records(&rt, b"field", 4, field_list::is_right)?;
     run_answers(&rt, b"helpers", 7, helpers)?;
     run_answers(&rt, b"flags", 1, flags)?;

@@ -9,7 +9,8 @@ use crate::records::state::{StackCols, SystemCols};
 
 #[derive(Clone, Copy)]
 pub struct CoreTraceGenerationTracer {
-    // The number of a kept refusal, 0 if there is none.
+    // The number of a kept refusal, 0 if there is none. A number and no Option of a `Refusal`, here and in what is answered of a tracer: one
+    // that a caller makes may have any.
     pub refusal: u32,
     // How many rows of the fragment are written.
     pub row_write_index: usize,
