@@ -1,4 +1,4 @@
-// The records of a call, each from the numbers that begin a list.
+// The records of a call, each from the numbers that begin a list, where kinds and what is absent are numbers.
 
 use groups::word::Word;
 use rows::cycles::tracer::CoreTraceGenerationTracer;

@@ -1,4 +1,4 @@
-// The numbers of a tracer and of a final state, in the order of the lists.
+// The numbers of a tracer and of a final state, in the order of the lists, where kinds and what is absent are numbers.
 use groups::word::Word;
 use rows::cycles::tracer::{CoreTraceGenerationTracer, TracerFinalState};
 use rows::records::continuation::{Captured, Continuation, ExecutionContextInfo};

@@ -6,7 +6,7 @@ use crate::text::{load, report};
 use std::io;
 use std::rt::Runtime;
 
-// What running a vector tells: whether it came out right, and the list behind it.
+// What running a vector tells: whether it came out right, and the list behind it, which goes on in both cases.
 #[derive(Clone, Copy)]
 pub struct Step<'a> {
     pub right: bool,
