@@ -12,8 +12,7 @@ use lib.Seq.{length-take-le, get_or-set_same, get_or-set_other, drop-set-lt, tak
 use Rattle.theory_readings.specs.Tokens.{Token}
 use Rattle.theory_readings.specs.Readings.{Row}
 use Rattle.theory_indexes.specs.ways.IndexScan.{Change, begins, ends, stays, change_of, around, ended, closed, made_behind, open_behind, index_scan, one_if_begins, starts, FitsRow, open_count, Fits}
-use Rattle.index.specs.ways.Steps.{around_in, index_behind, stack_behind, progress_behind, Room}
-use Rattle.index.specs.declared.fill.Progress.{Progress}
+use Rattle.index.specs.ways.Steps.{Progress, around_in, index_behind, stack_behind, progress_behind, Room}
 
 -- LISTS
 

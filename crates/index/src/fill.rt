@@ -5,83 +5,77 @@ ghost use Rattle.theory_indexes.specs.ways.IndexScan.{begins, ends, index_scan, 
 ghost use Rattle.reader.specs.Rows.{word_in};
 ghost use Rattle.reader.specs.ways.FromRow.{rows_from};
 ghost use Rattle.reader.specs.KeptKinds.{KeptKinds};
-ghost use Rattle.index.specs.ways.Steps.{told_change, around_in, index_behind, stack_behind, progress_behind, Room};
+ghost use Rattle.index.specs.ways.Steps.{told_change, progress_of, around_in, index_behind, stack_behind, progress_behind, Room};
 
 use crate::change::{Change, change_at};
 use groups::constants::Row;
 use reader::kept::LentTrace;
 
-// How many blocks are open, and where the numbers of the next block go.
-#[derive(Clone, Copy)]
-struct Progress {
+// The open blocks, the innermost last, each by where its numbers begin; and where the numbers of the next block go.
+#[derive(Drop)]
+struct OpenBlocks {
+    places: [usize; 64],
     opened: usize,
     next: usize,
 }
 
-// The start row of the enclosing block; the root names itself. `stack` has where the numbers of each open block begin.
-fn around(row: u32, opened: usize, stack: &[usize; 64], index: &[u32]) -> u32
-    requires { (opened ≤ 64) × (0 < opened → get_or stack.now (opened - 1) 0 < length index.now) }
-    ensures { result ≡ around_in row opened stack.now index.now }
-{
-    if opened == 0 {
-        return row;
+impl OpenBlocks {
+    // The start row of the enclosing block; the root names itself.
+    #[tactic(auto, unfolding(crate::specs::ways::Steps::around_in))]
+    fn around(&self, row: u32, index: &[u32]) -> u32
+        requires { (self.now.opened ≤ 64) × (0 < self.now.opened → get_or self.now.places (self.now.opened - 1) 0 < length index.now) }
+        ensures { result ≡ around_in row self.now.opened self.now.places index.now }
+    {
+        if self.opened == 0 {
+            return row;
+        }
+        index[self.places[self.opened - 1]]
     }
-    let place = stack[opened - 1];
-    index[place]
-}
 
-// A start row: its block's numbers, the END row still 0.
-fn start_row(row: u32, s: Progress, stack: &mut [usize; 64], index: &mut [u32]) -> Progress
-    requires { Room begins s stack.old index.old }
-    ensures value { result ≡ progress_behind begins s }
-    ensures stack_after { stack.new ≡ stack_behind begins s stack.old }
-    ensures index_after { index.new ≡ index_behind begins row s stack.old index.old }
-{
-    let opened = s.opened;
-    let next = s.next;
-    let outer = around(row, opened, stack, index);
-    index[next] = row;
-    index[next + 1] = 0;
-    index[next + 2] = outer;
-    stack[opened] = next;
-    Progress {
-        opened: opened + 1,
-        next: next + 3,
+    // A start row: its block's numbers, the END row still 0.
+    #[tactic(auto, unfolding(crate::specs::ways::Steps::Room, crate::specs::ways::Steps::index_behind, crate::specs::ways::Steps::stack_behind, crate::specs::ways::Steps::progress_behind))]
+    fn start_row(&mut self, row: u32, index: &mut [u32])
+        requires { Room begins (progress_of self.old) self.old.places index.old }
+        ensures value { progress_of self.new ≡ progress_behind begins (progress_of self.old) }
+        ensures stack_after { self.new.places ≡ stack_behind begins (progress_of self.old) self.old.places }
+        ensures index_after { index.new ≡ index_behind begins row (progress_of self.old) self.old.places index.old }
+    {
+        let next = self.next;
+        let outer = self.around(row, index);
+        index[next] = row;
+        index[next + 1] = 0;
+        index[next + 2] = outer;
+        self.places[self.opened] = next;
+        self.opened += 1;
+        self.next += 3;
     }
-}
 
-// An END row: the END of the innermost open block.
-fn end_row(row: u32, s: Progress, stack: &[usize; 64], index: &mut [u32]) -> Progress
-    requires { Room ends s stack.now index.old }
-    ensures value { result ≡ progress_behind ends s }
-    ensures index_after { index.new ≡ index_behind ends row s stack.now index.old }
-{
-    let opened = s.opened - 1;
-    let place = stack[opened];
-    index[place + 1] = row;
-    Progress {
-        opened,
-        next: s.next,
+    // An END row: the END of the innermost open block.
+    #[tactic(auto, unfolding(crate::specs::ways::Steps::Room, crate::specs::ways::Steps::index_behind, crate::specs::ways::Steps::stack_behind, crate::specs::ways::Steps::progress_behind))]
+    fn end_row(&mut self, row: u32, index: &mut [u32])
+        requires { Room ends (progress_of self.old) self.old.places index.old }
+        ensures value { progress_of self.new ≡ progress_behind ends (progress_of self.old) }
+        ensures stack_after { self.new.places ≡ stack_behind ends (progress_of self.old) self.old.places }
+        ensures index_after { index.new ≡ index_behind ends row (progress_of self.old) self.old.places index.old }
+    {
+        self.opened -= 1;
+        let place = self.places[self.opened];
+        index[place + 1] = row;
     }
-}
 
-// What a row adds.
-fn step(
-    change: Change,
-    row: u32,
-    s: Progress,
-    stack: &mut [usize; 64],
-    index: &mut [u32],
-) -> Progress
-    requires { Room (told_change change) s stack.old index.old }
-    ensures value { result ≡ progress_behind (told_change change) s }
-    ensures stack_after { stack.new ≡ stack_behind (told_change change) s stack.old }
-    ensures index_after { index.new ≡ index_behind (told_change change) row s stack.old index.old }
-{
-    match change {
-        Change::Begins => start_row(row, s, stack, index),
-        Change::Ends => end_row(row, s, stack, index),
-        Change::Stays => s,
+    // What a row adds.
+    #[tactic(auto, unfolding(crate::specs::ways::Steps::index_behind, crate::specs::ways::Steps::stack_behind, crate::specs::ways::Steps::progress_behind))]
+    fn step(&mut self, change: Change, row: u32, index: &mut [u32])
+        requires { Room (told_change change) (progress_of self.old) self.old.places index.old }
+        ensures value { progress_of self.new ≡ progress_behind (told_change change) (progress_of self.old) }
+        ensures stack_after { self.new.places ≡ stack_behind (told_change change) (progress_of self.old) self.old.places }
+        ensures index_after { index.new ≡ index_behind (told_change change) row (progress_of self.old) self.old.places index.old }
+    {
+        match change {
+            Change::Begins => self.start_row(row, index),
+            Change::Ends => self.end_row(row, index),
+            Change::Stays => {}
+        }
     }
 }
 
@@ -94,10 +88,13 @@ pub(crate) fn fill(lent: &LentTrace<'_>, index: &mut [u32], kinds: &[u8])
     ensures { index.new ≡ index_scan (rows_from (word_in lent.now.profile lent.now.cells.now) 0) [] []
         ++ drop (3 * starts (rows_from (word_in lent.now.profile lent.now.cells.now) 0)) index.old }
 {
-    let mut stack = [0usize; 64];
-    let mut s = Progress { opened: 0, next: 0 };
+    let mut blocks = OpenBlocks {
+        places: [0; 64],
+        opened: 0,
+        next: 0,
+    };
     for at in 0..lent.cells.len() / Row::WIDTH {
         let change = change_at(lent, at, kinds);
-        s = step(change, at as u32, s, &mut stack, index);
+        blocks.step(change, at as u32, index);
     }
 }

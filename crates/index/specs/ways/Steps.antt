@@ -4,7 +4,15 @@ use Rattle.groups.specs.Answer.{pick}
 use Rattle.theory_indexes.specs.ways.IndexScan as rows
 use Rattle.theory_indexes.specs.ways.IndexScan.{begins, ends, stays}
 use Rattle.index.specs.declared.change.Change.{Change}
-use Rattle.index.specs.declared.fill.Progress.{Progress}
+use Rattle.index.specs.declared.fill.OpenBlocks.{OpenBlocks}
+
+-- how many blocks are open, and where the numbers of the next block go
+pub record Progress : Type 0 where
+  pub opened : ℕ
+  pub next : ℕ
+
+abbrev pub progress_of : OpenBlocks → Progress
+progress_of blocks = record { opened = blocks.opened; next = blocks.next }
 
 -- the case of a row
 abbrev pub told_change : Change → rows.Change

@@ -18,8 +18,8 @@ change_at-change-requires c = c.requires.3
 pub overflow_cast-at : goal.overflow_cast-at
 overflow_cast-at c = omega arith
 
-pub step-s-requires : goal.step-s-requires
-step-s-requires c = let w = word_in c.args.lent.now.profile c.args.lent.now.cells.now in
+pub step-requires : goal.step-requires
+step-requires c = let w = word_in c.args.lent.now.profile c.args.lent.now.cells.now in
     let h : c.loop-at.at < length w = omega (arith, rows_in c.args.lent.now.profile c.args.lent.now.cells.now) in
     room _ _ _ _ c.requires.1 c.loop-at.at (rows_from w (c.loop-at.at + 1)) _ _ _ _
     (at_row _ _ _ _ c.requires.1 _ _ _ _ _ _ _ c.change_at-change.ensures (rw (rows-cons w c.loop-at.at h) at c.loop-at.invariant.1))
@@ -28,7 +28,7 @@ pub loop-at-preserved : goal.loop-at-preserved
 loop-at-preserved c = let w = word_in c.args.lent.now.profile c.args.lent.now.cells.now in
     let h : c.loop-at.at < length w = omega (arith, rows_in c.args.lent.now.profile c.args.lent.now.cells.now) in (
       omega (arith, rows_in c.args.lent.now.profile c.args.lent.now.cells.now),
-      rw (c.step-s.ensures.value, c.step-s.ensures.stack_after, c.step-s.ensures.index_after)
+      rw (c.step.ensures.value, c.step.ensures.stack_after, c.step.ensures.index_after)
           (next_row _ _ _ _ c.requires.1 c.loop-at.at (rows_from w (c.loop-at.at + 1)) _ _ _ _
           (at_row _ _ _ _ c.requires.1 _ _ _ _ _ _ _ c.change_at-change.ensures (rw (rows-cons w c.loop-at.at h) at c.loop-at.invariant.1))),
     )

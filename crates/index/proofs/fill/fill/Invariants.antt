@@ -5,6 +5,7 @@ use lib.ListN.{length, drop}
 use Rattle.theory_indexes.specs.ways.IndexScan.{index_scan, starts}
 use Rattle.reader.specs.Rows.{word_in}
 use Rattle.reader.specs.ways.FromRow.{rows_from}
+use Rattle.index.specs.ways.Steps.{progress_of}
 use Rattle.index.proofs.StepLaws.{Building}
 use Rattle.index.proofs.fill.fill.Given as goal
 
@@ -17,6 +18,6 @@ invariant-loop-at l =
     (drop (3 * starts (rows_from (word_in l.lent.profile l.lent.cells.now) 0)) l.initial.index)
     (length l.initial.index)
     (rows_from (word_in l.lent.profile l.lent.cells.now) l.at)
-    l.s
-    l.stack
+    (progress_of l.blocks)
+    l.blocks.places
     l.index
