@@ -27,6 +27,7 @@ fn depth_at(kind: RowKind, opened: u32) -> u32
 }
 
 // The open blocks behind a row of this depth.
+#[tactic(auto, unfolding(crate::specs::ways::Levels::level_behind))]
 fn open_behind(kind: RowKind, depth: u32) -> u32
     ensures { result ≡ level_behind kind depth }
 {

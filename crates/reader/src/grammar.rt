@@ -72,6 +72,7 @@ fn close(
 }
 
 // The rows behind a SPAN: ops and RESPANs, then END.
+#[tactic(auto, unfolding(crate::specs::ways::Parts::Ahead))]
 fn ops(lent: &LentTrace<'_>, row: usize, flag: u64, kinds: &mut [u8]) -> Part
     requires { (row ≤ length lent.now.cells.now / row_width) × KeptKinds lent.now.profile lent.now.cells.now lent.now.table.now kinds.old }
     ensures ops_read { OpsRead (all_rows lent.now.cells.now) (word_in lent.now.profile lent.now.cells.now) row flag (told_part result) }

@@ -28,6 +28,7 @@ pub struct LentTrace<'a> {
 }
 
 // The number of a kind.
+#[tactic(auto, unfolding(crate::specs::KeptKinds::kind_numbered))]
 fn kind_number(kind: RowKind) -> u8
     ensures { kind_numbered result ≡ kind }
 {
@@ -46,6 +47,7 @@ fn kind_number(kind: RowKind) -> u8
 }
 
 // The kind of a number.
+#[tactic(auto, unfolding(crate::specs::KeptKinds::kind_numbered))]
 fn kind_numbered(number: u8) -> RowKind
     ensures { result ≡ kind_numbered number }
 {
@@ -64,6 +66,7 @@ fn kind_numbered(number: u8) -> RowKind
 }
 
 // The kind of a row by its opcode, with 128 more where in_span is 1.
+#[tactic(auto, unfolding(crate::specs::KeptKinds::kind_of_code))]
 fn kind_of_code(profile: Profile, code: u8) -> RowKind
     ensures { result ≡ kind_of_code profile code }
 {

@@ -9,6 +9,7 @@ use groups::refusal::Refusal;
 use rows::records::profile::{Profile, is_wrong};
 
 // The first of 2 and 11 that holds; `depths` is how many depth numbers are lent.
+#[tactic(auto, unfolding(groups::specs::Answer::first_of, theory_readings::specs::Answers::reader_refusal, rows::specs::records::Buffers::buffer_wrong))]
 pub(crate) fn refusal(profile: Profile, cells: &[u64], depths: usize) -> Result<(), Refusal>
     ensures { refusal (told result) ≡ reader_refusal profile cells.now depths }
 {

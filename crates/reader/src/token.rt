@@ -27,6 +27,7 @@ pub enum RowKind {
 }
 
 // The control row of an opcode, of the last six of the profile's other than PUSH.
+#[tactic(auto, unfolding(theory_readings::specs::Tokens::controls, crate::specs::Rows::row_kind_of, theory_readings::specs::Tokens::token_beside))]
 fn later_control(profile: Profile, opcode: u8) -> RowKind
     ensures { result ≡ row_kind_of (token_beside opcode (drop 6 (controls profile)) nothing) }
 {
@@ -52,6 +53,7 @@ fn later_control(profile: Profile, opcode: u8) -> RowKind
 }
 
 // The control row of an opcode.
+#[tactic(auto, unfolding(theory_readings::specs::Tokens::control_token, theory_readings::specs::Tokens::controls, crate::specs::Rows::row_kind_of, theory_readings::specs::Tokens::token_beside))]
 pub(crate) fn control(profile: Profile, opcode: u8) -> RowKind
     ensures { result ≡ row_kind_of (control_token profile opcode) }
 {
@@ -77,6 +79,7 @@ pub(crate) fn control(profile: Profile, opcode: u8) -> RowKind
 }
 
 // An op, where its opcode is no control row's.
+#[tactic(auto, unfolding(crate::specs::Rows::op_kind))]
 pub(crate) fn op(control: RowKind) -> RowKind
     ensures { result ≡ op_kind control }
 {

@@ -21,6 +21,7 @@ use groups::refusal::Refusal;
 use rows::records::profile::Profile;
 
 // The first row from `from` on that is no HALT, or the end.
+#[tactic(auto, unfolding(crate::specs::ways::WholeWord::HaltsRead))]
 fn halts(lent: &LentTrace<'_>, from: usize, kinds: &mut [u8]) -> usize
     requires { (from ≤ length lent.now.cells.now / row_width) × KeptKinds lent.now.profile lent.now.cells.now lent.now.table.now kinds.old }
     ensures halts_read { HaltsRead (word_in lent.now.profile lent.now.cells.now) from result }

@@ -25,9 +25,6 @@ loop-at-preserved c = let n = rows_in c.args.lent.now.profile c.args.lent.now.ce
           (scan_step (word_in c.args.lent.now.profile c.args.lent.now.cells.now) _ c.loop-at.at c.loop-at.opened c.loop-at.depths (omega arith) m c.loop-at.invariant.4),
     )
 
-pub shape_of-depths : goal.shape_of-depths
-shape_of-depths c = c.loop-at.invariant.2
-
 pub returns : goal.returns
 returns c = let q : c.loop-at.at ≡ length c.args.lent.now.cells.now / 49 = omega arith in
     let z = rw q at (scan-done (word_in c.args.lent.now.profile c.args.lent.now.cells.now) _ c.loop-at.at c.loop-at.opened c.loop-at.depths (omega (arith, rows_in c.args.lent.now.profile c.args.lent.now.cells.now)) c.loop-at.invariant.4) in

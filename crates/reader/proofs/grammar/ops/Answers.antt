@@ -15,9 +15,6 @@ use Rattle.reader.proofs.grammar.ops.Goals as goal
 pub loop-at-init : goal.loop-at-init
 loop-at-init c = (refl, c.requires.1, omega arith, search rules, λ r k. k)
 
-pub note_kind-kind-requires : goal.note_kind-kind-requires
-note_kind-kind-requires c = c.loop-at.invariant.1
-
 pub overflow_add-at : goal.overflow_add-at
 overflow_add-at c = let op_row : c.loop-at.at < length c.args.lent.now.cells.now / 49 = omega (arith, rows_in c.args.lent.now.profile c.args.lent.now.cells.now, row_inside (word_in c.args.lent.now.profile c.args.lent.now.cells.now) c.loop-at.at c.note_kind-kind.result c.note_kind-kind.ensures.value (op-something c.note_kind-kind.result c.in-Op.in-Op-own.keys1)) in let h = op_row in omega arith
 

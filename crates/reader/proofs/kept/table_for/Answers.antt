@@ -4,6 +4,3 @@ use Rattle.reader.proofs.kept.table_for.Goals as goal
 
 pub returns-then-rows-le-FEW_ROWS : goal.returns-then-rows-le-FEW_ROWS
 returns-then-rows-le-FEW_ROWS c = table-unknown _
-
-pub returns : goal.returns
-returns c = c.table_of.ensures

@@ -15,9 +15,6 @@ use Rattle.reader.proofs.trace.halts.Goals as goal
 pub loop-at-init : goal.loop-at-init
 loop-at-init c = (refl, c.requires.1, omega arith, search rules, λ b. refl)
 
-pub note_kind-kind-requires : goal.note_kind-kind-requires
-note_kind-kind-requires c = c.loop-at.invariant.1
-
 pub returns-in_default : goal.returns-in_default
 unfolding HaltsRead
 returns-in_default c = let n = rows_in c.args.lent.now.profile c.args.lent.now.cells.now in

@@ -4,6 +4,3 @@ use Rattle.reader.proofs.trace.validate.Goals as goal
 
 pub tell_trace-requires : goal.tell_trace-requires
 tell_trace-requires c = kinds-none _ _ _ 0 c.table_for-table.ensures
-
-pub returns : goal.returns
-returns c = c.tell_trace.ensures.tells_trace
