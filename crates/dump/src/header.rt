@@ -64,6 +64,7 @@ $upscope $end\n\
 $enddefinitions $end\n";
 
 // Puts them at the start of a text and answers their bytes.
+#[tactic(auto, unfolding(theory_dumps::specs::Dumps::bytes, theory_dumps::specs::Dumps::columns, theory_dumps::specs::Dumps::header, theory_dumps::specs::Dumps::var_lines))]
 pub(crate) fn put_header(text: &mut [u8]) -> usize
     ensures { Put text.old 0 header text.new result }
 {

@@ -43,6 +43,7 @@ fn put_line<const N: usize>(
 }
 
 // The line of a value, as `b101 !`.
+#[tactic(auto, unfolding(theory_dumps::specs::Dumps::value_line))]
 pub(crate) fn put_value(text: &mut [u8], at: usize, column: usize, value: u64) -> usize
     requires { (at ≤ 2305843009213693952) × (column < row_width) }
     ensures { Put text.old at (value_line column value) text.new result }
@@ -58,6 +59,7 @@ pub(crate) fn put_value(text: &mut [u8], at: usize, column: usize, value: u64) -
 }
 
 // The time line of a row, as `#0`.
+#[tactic(auto, unfolding(theory_dumps::specs::Dumps::time_line))]
 pub(crate) fn put_time(text: &mut [u8], at: usize, row: usize) -> usize
     requires { at ≤ 2305843009213693952 }
     ensures { Put text.old at (time_line row) text.new result }

@@ -1,7 +1,0 @@
--- `header::put_header` meets its contract: the bytes are those of the header, by computation.
-use Rattle.theory_dumps.specs.Dumps.{header, bytes, var_lines, columns}
-use Rattle.dump.proofs.header.put_header.Goals as goal
-
-pub returns : goal.returns
-unfolding bytes columns header var_lines
-returns c = c.put_bytes.ensures
