@@ -54,6 +54,7 @@ impl LentBatches<'_> {
     }
 
     // Batch `index` of the block. None, refused with 5: the block has no such batch, or its records do not lie whole in the slices.
+    #[inline(always)]
     pub fn batch_at(&self, block: BasicBlockNode, index: u32) -> Option<OpBatch>
         ensures { told_or no_such_batch result ≡ batch_at self.now.records.now self.now.groups.now block index }
     {

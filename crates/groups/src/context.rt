@@ -59,6 +59,7 @@ fn is_too_large(block: BasicBlockNode, batch: OpBatch, above8: bool) -> bool
 
 // The context at an operation whose place in the batch is known, or 8 or 11.
 #[tactic(auto, unfolding(crate::specs::Contexts::context_in_group, crate::specs::Contexts::op_context, crate::specs::Contexts::consumed))]
+#[inline(always)]
 fn in_group(
     push: u8,
     batches: &LentBatches,
@@ -95,6 +96,7 @@ fn in_group(
 impl BasicBlockContext {
     // The context at operation `op` of batch `index`, or the lowest number of 5, 6, 8 and 11 that holds.
     #[tactic(auto, unfolding(crate::specs::Contexts::context_at_op))]
+    #[inline(always)]
     pub fn new_at_op(
         push: u8,
         batches: &LentBatches,
@@ -114,7 +116,8 @@ impl BasicBlockContext {
         in_group(push, batches, block, index, batch, place)
     }
 
-    // What the row of operation `op` of batch `index` shows, refused as `new_at_op` refuses.
+    // What the row of operation `op` of batch `index` shows, refused as `new_at_op` refuses. With that, `batch_at` and `in_group` inlined, no
+    // more of the batch is read than is kept.
     #[tactic(auto, unfolding(crate::specs::Contexts::cells_at_op))]
     pub fn cells_at_op(
         push: u8,
