@@ -8,7 +8,8 @@ use native.Mathlib.Omega.{arith}
 use borrow.Author.Tests.{eqb-true, eqb-false, le-ltb, lt-ltb, ltb-true, ltb-false}
 use lib.Dec.{eqb, ltb}
 use lib.ListN.{length, get_or, drop, take, length-append, drop_of_length-le}
-use lib.Seq.{drop-cons, take_at}
+use lib.Seq.{drop-cons, take_at, length-take-le}
+use Rattle.std.proofs.lemmas.List.{take_all}
 use Rattle.groups.specs.Answer.{pick}
 use Rattle.rows.proofs.passes.Checks.{neither}
 use Rattle.theory_dumps.specs.Numerals.{decimal, numeral_within}
@@ -100,6 +101,46 @@ fits digits text e = omega (arith, ap (λ (l : List ℕ). length l) e, length-ap
 
 pub digits-within : (base : ℕ) (text : List ℕ) → length (digits_in base text) ≤ length text
 digits-within base text = fits (digits_in base text) text (digits-front base text)
+
+-- the digits that the first bytes of a text begin with
+pub digits-take : (base n : ℕ) (text : List ℕ) → digits_in base (take n text) ≡ take n (digits_in base text)
+unfolding digits_in
+digits-take base zero [] = refl
+digits-take base zero (d ∷ text) = refl
+digits-take base (suc n) [] = refl
+digits-take base (suc n) (d ∷ text) = go (no_digit base d) (digits-take base n text)
+  where
+    go : (t : Bool) → digits_in base (take n text) ≡ take n (digits_in base text) → pick t [] (d ∷ digits_in base (take n text)) ≡ take (suc n) (pick t [] (d ∷ digits_in base text))
+    go true e = refl
+    go false e = ap (λ (l : List ℕ). d ∷ l) e
+
+-- digits of the first bytes of a text: nine bytes, or all where there are fewer
+module _ (text : List ℕ) (looked count value : ℕ) (all : looked ≤ 8 → length text ≤ looked) (d : DigitsRead 10 (digits_in 10 (take looked text)) count value) where
+  looked-count : count ≡ length (take looked (digits_in 10 text))
+  looked-count = d.is_count ∙ ap (λ (l : List ℕ). length l) (digits-take 10 looked text)
+
+  whole-digits : length (digits_in 10 text) ≤ looked → take looked (digits_in 10 text) ≡ digits_in 10 text
+  whole-digits h = take_all looked (digits_in 10 text) h
+
+  pub looked-many : 8 < count → 8 < length (digits_in 10 text)
+  looked-many m = go (ltb looked (length (digits_in 10 text))) refl
+    where
+      go : (t : Bool) → ltb looked (length (digits_in 10 text)) ≡ t → 8 < length (digits_in 10 text)
+      go true e = let l : looked < length (digits_in 10 text) = ltb-true looked _ e in omega (arith, looked-count, length-take-le looked (digits_in 10 text) (omega (arith, l)))
+      go false e = let l : length (digits_in 10 text) ≤ looked = ltb-false looked _ e in omega (arith, looked-count, ap (λ (l : List ℕ). length l) (whole-digits l))
+
+  pub looked-few : count ≤ 8 → DigitsRead 10 (digits_in 10 text) count value
+  looked-few m = go (ltb looked (length (digits_in 10 text))) refl
+    where
+      go : (t : Bool) → ltb looked (length (digits_in 10 text)) ≡ t → DigitsRead 10 (digits_in 10 text) count value
+      go true e =
+          let l : looked < length (digits_in 10 text) = ltb-true looked _ e in
+          let n : count ≡ looked = looked-count ∙ length-take-le looked (digits_in 10 text) (omega (arith, l)) in
+          let w : length text ≤ looked = all (omega (arith, n, m)) in
+          absurd (omega (arith, w, l, digits-within 10 text))
+      go false e =
+          let l : length (digits_in 10 text) ≤ looked = ltb-false looked _ e in
+          rw (digits-take 10 looked text, whole-digits l) at d
 
 -- SCANNING THEM
 

@@ -58,6 +58,10 @@ pub(crate) fn line_from(text: &[u8], first: usize) -> Option<Line>
     requires { first ≤ row_width }
     ensures { MatchOption result (NoLineFrom text.now first) (λ line. LineFrom text.now first line.column line.value line.count) }
 {
+    // behind the last column no line is looked for
+    if first == Row::WIDTH {
+        return None;
+    }
     let [b'b', behind @ ..] = text else {
         return None;
     };
