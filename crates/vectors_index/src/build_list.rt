@@ -2,7 +2,7 @@
 // changed cell as its place and its number, how many rows are listed, and the rows, each as opcode, in_span, h4 and group_count. Then what
 // building answers: number, row, blocks; where it is accepted, the index, and for each row listed and one past them what looking it up tells.
 
-use crate::given::{MOST_CELLS, buffer_of, profile_of};
+use crate::given::{MOST_CELLS, fill, profile_of};
 use crate::lookup_list::told;
 use index::build::build_index;
 use index::enclosing::enclosing_block;
@@ -19,7 +19,8 @@ const STOOD: u32 = 900;
 
 // Builds the index, as many cells and numbers being lent as is said, and answers number, row and blocks.
 fn build(given: Numbers<'_>, index: &mut [u32; MOST_NUMBERS]) -> [u64; 3] {
-    let buffer = buffer_of(given);
+    let mut buffer = [0u64; MOST_CELLS];
+    fill(given, &mut buffer);
     let cells = given.at_most(0, MOST_CELLS);
     let numbers = given.at_most(1, MOST_NUMBERS);
     let profile = profile_of(given.number(2));

@@ -28,10 +28,8 @@ pub fn profile_of(step: u64) -> Profile {
     }
 }
 
-// The rows listed, and one cell changed.
-pub fn buffer_of(given: Numbers<'_>) -> [u64; MOST_CELLS] {
-    let mut buffer = [0u64; MOST_CELLS];
-    fill_rows(given.behind(6), &mut buffer);
-    put_pairs(given.behind(3), 1, &mut buffer);
-    buffer
+// Fills a buffer with the rows listed, and changes one cell.
+pub fn fill(given: Numbers<'_>, buffer: &mut [u64; MOST_CELLS]) {
+    fill_rows(given.behind(6), buffer);
+    put_pairs(given.behind(3), 1, buffer);
 }

@@ -13,24 +13,29 @@ use vectors_shared::numbers::Numbers;
 const WIDTH: usize = 49;
 
 // The room is fixed, since no heap is used.
-const MOST_CELLS: usize = 6860;
+pub const MOST_CELLS: usize = 6860;
 
 pub const MOST_ROWS: usize = 160;
 
-#[derive(Drop)]
-pub struct Input {
+// Fills a buffer with the rows listed, and makes the changes of single cells.
+pub fn fill(list: Numbers<'_>, buffer: &mut [u64; MOST_CELLS]) {
+    fill_rows(list.behind(23), buffer);
+    put_pairs(list.behind(17), 3, buffer);
+}
+
+// An input, with the buffer that is filled with its rows.
+#[derive(Clone, Copy)]
+pub struct Input<'a> {
     pub profile: Profile,
     pub depths: usize,
     pub asked: usize,
     cells: usize,
-    buffer: [u64; MOST_CELLS],
+    buffer: &'a [u64; MOST_CELLS],
 }
 
-impl From<Numbers<'_>> for Input {
-    fn from(list: Numbers<'_>) -> Self {
-        let mut buffer = [0u64; MOST_CELLS];
-        fill_rows(list.behind(23), &mut buffer);
-        put_pairs(list.behind(17), 3, &mut buffer);
+impl<'a> Input<'a> {
+    // What the numbers say, and a buffer.
+    pub fn new(list: Numbers<'_>, buffer: &'a [u64; MOST_CELLS]) -> Self {
         Self {
             profile: Profile::from(list),
             depths: list.item(15),
@@ -39,9 +44,7 @@ impl From<Numbers<'_>> for Input {
             buffer,
         }
     }
-}
 
-impl Input {
     // The cells that are lent.
     pub fn lent(&self) -> &[u64] {
         &self.buffer[..self.cells.min(MOST_CELLS)]

@@ -2,7 +2,7 @@
 // the trace answers: number, row, program rows and, where it is accepted, the depth of each row; then the view of the row asked for: its
 // length, its first and its last cell. Changes: how many runs there are, and for each its first place, its length, and its numbers.
 
-use crate::given::{Input, MOST_ROWS};
+use crate::given::{Input, MOST_CELLS, MOST_ROWS, fill};
 use field::cell::item_or;
 use reader::trace::read_trace;
 use reader::view::row;
@@ -17,7 +17,7 @@ const BASE: usize = 583;
 const STOOD: u32 = 900;
 
 // Whether reading the input's trace answers the number, row and program rows that begin the list, and then as many depths.
-fn reading_right(input: &Input, answer: Numbers<'_>, listed: usize) -> bool {
+fn reading_right(input: Input<'_>, answer: Numbers<'_>, listed: usize) -> bool {
     let mut depths = [STOOD; MOST_ROWS];
     let lent = input.depths.min(MOST_ROWS);
     let told = match read_trace(input.profile, input.lent(), &mut depths[..lent]) {
@@ -28,7 +28,7 @@ fn reading_right(input: &Input, answer: Numbers<'_>, listed: usize) -> bool {
 }
 
 // Whether the row asked for has the length, the first and the last cell that begin the list.
-fn view_right(input: &Input, answer: Numbers<'_>) -> bool {
+fn view_right(input: Input<'_>, answer: Numbers<'_>) -> bool {
     let view = row(input.lent(), input.asked);
     answer.begins_with(&[view.len() as u64, item_or(view, 0, 0), item_or(view, 48, 0)])
 }
@@ -37,7 +37,10 @@ fn view_right(input: &Input, answer: Numbers<'_>) -> bool {
 fn vector<'a>(list: Numbers<'a>, rest: Numbers<'a>) -> Step<'a> {
     let mut numbers: [u64; BASE] = list.behind(1).array();
     let answer = make_changes(rest, &mut numbers);
-    let input = Input::from(Numbers::new(&numbers));
+    let given = Numbers::new(&numbers);
+    let mut buffer = [0u64; MOST_CELLS];
+    fill(given, &mut buffer);
+    let input = Input::new(given, &buffer);
     let listed = if answer.number(0) == 0 {
         input.rows()
     } else {
@@ -45,7 +48,7 @@ fn vector<'a>(list: Numbers<'a>, rest: Numbers<'a>) -> Step<'a> {
     };
     let view = answer.behind(3 + listed);
     Step {
-        right: reading_right(&input, answer, listed) && view_right(&input, view),
+        right: reading_right(input, answer, listed) && view_right(input, view),
         rest: view.behind(3),
     }
 }

@@ -183,21 +183,26 @@ fn following_right(number: u64, following: u64, list: Numbers<'_>) -> bool {
 
 fn finish_right(input: &mut Input, answer: Numbers<'_>) -> bool {
     let tracer = tracer_of(input.behind(TRACER));
-    let mut fragment: Part<u64, 200> = input.behind(FRAGMENT).part();
-    let mut tally: Part<u64, 514> = input.behind(TALLY).part();
-    let stood = fragment.numbers;
-    let done = input.finish(tracer, tally.lent_mut(), fragment.lent_mut());
+    // Filled in place: a `Part` of so many numbers would be copied for each vector.
+    let mut fragment = [0u64; 200];
+    input.behind(FRAGMENT + 1).fill(&mut fragment);
+    let cells = input.behind(FRAGMENT).at_most(0, 200);
+    let mut tally = [0u64; 514];
+    input.behind(TALLY + 1).fill(&mut tally);
+    let counts = input.behind(TALLY).at_most(0, 514);
+    let stood = fragment;
+    let done = input.finish(tracer, &mut tally[..counts], &mut fragment[..cells]);
     let number = u64::from(done.refusal);
     let after = tracer_numbers(done.tracer);
     input.put(TRACER, &after);
-    input.put(FRAGMENT + 1, &fragment.numbers);
-    input.put(TALLY + 1, &tally.numbers);
+    input.put(FRAGMENT + 1, &fragment);
+    input.put(TALLY + 1, &tally);
     answer.number(0) == number
         && fragment_right(
             number,
             tracer.row_write_index,
             stood,
-            &fragment.numbers,
+            &fragment,
             answer.behind(1),
         )
         && tracer_right(number, tracer_numbers(tracer), &after, answer.behind(50))

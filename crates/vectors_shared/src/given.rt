@@ -32,13 +32,17 @@ fn cell_of(list: Numbers<'_>, row: usize, k: usize) -> u64
     requires row_bound { row < 1000 }
     requires k_bound { k < 49 }
 {
-    let numbers = list.behind(4 * row);
+    let own = (1000 * row + k) as u64;
+    // Most columns are none of those listed, which lie between these two.
+    if k < 7 || Column::GROUP_COUNT < k {
+        return own;
+    }
     match k {
-        7..=13 => numbers.number(0) >> (k - 7) & 1,
-        Column::H4 => numbers.number(2),
-        Column::IN_SPAN => numbers.number(1),
-        Column::GROUP_COUNT => numbers.number(3),
-        _ => (1000 * row + k) as u64,
+        7..=13 => list.number(4 * row) >> (k - 7) & 1,
+        Column::H4 => list.number(4 * row + 2),
+        Column::IN_SPAN => list.number(4 * row + 1),
+        Column::GROUP_COUNT => list.number(4 * row + 3),
+        _ => own,
     }
 }
 

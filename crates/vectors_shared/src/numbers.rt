@@ -1,5 +1,5 @@
 // A list of numbers, read from a place on. Past its end stand zeros.
-ghost use Rattle.std.specs.Prelude.{◌≡◌, ◌++◌, take, ◌%◌, ◌^◌, ◌↔◌, ℕ, IsTrue, drop, get_or, length, min};
+ghost use Rattle.std.specs.Prelude.{◌≡◌, ◌≤◌, ◌++◌, take, ◌%◌, ◌^◌, ◌↔◌, ℕ, IsTrue, drop, get_or, length, min};
 
 use field::cell::item_or;
 
@@ -144,7 +144,9 @@ impl<'a> Numbers<'a> {
     }
 
     // A part: how long it is, and its numbers, of which as many are lent as it is long and there is room for.
-    pub fn part<T: FromLowBits, const N: usize>(self) -> Part<T, N> {
+    pub fn part<T: FromLowBits, const N: usize>(self) -> Part<T, N>
+        ensures { result.length ≤ N }
+    {
         Part {
             numbers: self.behind(1).array(),
             length: self.at_most(0, N),
