@@ -72,6 +72,9 @@ module _ (x u v s t : ℕ) (b : Bezout x u v s t) where
   pub step-v : Bezout x u (v % u) s (t + v / u * s)
   step-v = record { bu = b.bu; bv = bez-v; sum = sum-v; common = λ d f g. b.common d f ((dvd-mod_iff d f).0 g) }
 
+  pub fits-u : 0 < v → s + u / v * t ≤ P
+  fits-u h = omega (arith, sum-u, le-mul_of_pos_right (s + u / v * t) h)
+
   pub fits-v : 0 < u → t + v / u * s ≤ P
   fits-v h = omega (arith, sum-v, le-mul_of_pos_right (t + v / u * s) h)
 

@@ -91,10 +91,11 @@ loop-i-preserved c = let was = c.loop-i.invariant in
 
 pub returns : goal.returns
 returns c = let loops = c.loop-i.open in
-    let end : c.loop-i.i ≡ c.args.rows - 1 = omega arith in (
+    let end : c.loop-i.i ≡ c.args.rows - 1 = omega arith in
+    let none : loops.depth ≡ 0 = omega (arith, c.if-open-ne0.false) in (
       rw (← end) c.loop-i.invariant.3,
       (
         sym (counted-all c.args.profile c.args.buffer.now c.loop-i.buffer loops.rows loops.depth loops.above c.loop-i.i c.args.rows c.loop-i.invariant.4 c.loop-i.invariant.3.alike (omega arith) (omega arith)) ∙ c.loop-i.invariant.5,
-        ended-all c.args.profile c.args.buffer.now c.args.rows loops.rows c.loop-i.i (omega arith) (rw c.if-open-ne0.false at c.loop-i.invariant.6),
+        ended-all c.args.profile c.args.buffer.now c.args.rows loops.rows c.loop-i.i (omega arith) (rw none at c.loop-i.invariant.6),
       ),
     )
