@@ -142,6 +142,9 @@ def bound_in(definition, scope):
 
 
 def is_case(target, token):
+    """Whether a name in a pattern is a case's, of a type of this repository or of the toolchain, and no variable."""
+    if isinstance(target, tuple):
+        return True
     return isinstance(target, Definition) and ("." in token or token in target.cases or target.kind != "function")
 
 
