@@ -116,8 +116,8 @@ impl BasicBlockContext {
         in_group(push, batches, block, index, batch, place)
     }
 
-    // What the row of operation `op` of batch `index` shows, refused as `new_at_op` refuses. With that, `batch_at` and `in_group` inlined, no
-    // more of the batch is read than is kept.
+    // What the row of operation `op` of batch `index` shows, refused as `new_at_op` refuses. With that, `batch_at` and `in_group` inlined, of
+    // the batch's eight cells that of the operation's group alone is read.
     #[tactic(auto, unfolding(crate::specs::Contexts::cells_at_op))]
     pub fn cells_at_op(
         push: u8,

@@ -138,7 +138,9 @@ impl<'a> Numbers<'a> {
     }
 
     // A part, as `part` reads it, and the numbers behind it.
-    pub fn split_copy<T: FromLowBits, const N: usize>(self) -> (Part<T, N>, Self) {
+    pub fn split_copy<T: FromLowBits, const N: usize>(self) -> (Part<T, N>, Self)
+        ensures { result.0.length ≤ N }
+    {
         let (_, rest) = self.split_part();
         (self.part(), rest)
     }

@@ -1,4 +1,4 @@
--- What the answers of a start and of an END say of the queues' entries.
+-- What the answers of a start and of an END say of the queues' entries, and what refused helpers say.
 use mathlib.Core.Bool.{Bool, true, false}
 use mathlib.Core.List.{List}
 use mathlib.Core.Path.{◌≡◌, refl}
@@ -8,7 +8,10 @@ use lib.ListN.{length}
 use Rattle.std.specs.Prelude.{Result, Ok, Err}
 use Rattle.field.specs.Cells.{cell_at}
 use Rattle.groups.specs.Answer.{Answer, accepted, refused, and_then, pick}
+use Rattle.groups.specs.Helpers.{all_below, read_registers, u32_values, helpers_of, helpers_of_cells, helpers_answer}
 use Rattle.groups.specs.Refusals.{number_of, told}
+use Rattle.groups.specs.declared.helpers.OperationHelperRegisters.{OperationHelperRegisters}
+use Rattle.groups.specs.declared.helpers.UserOpHelpers.{UserOpHelpers}
 use Rattle.groups.specs.declared.refusal.Refusal.{Refusal}
 use Rattle.rows.specs.declared.records.address_state.DecoderState.{DecoderState}
 use Rattle.rows.specs.declared.records.address_state.Positions.{Positions}
@@ -70,3 +73,14 @@ module _ (ends : List ℕ) (at : Positions) (state moved : DecoderState) (answer
   end_moved addr next h =
       let a : ◌≡◌ {A = Answer (ℕ × Positions)} (accepted (addr, next)) (end_answer ends at) = rw h at step.0 in
       end-moved ends at next state moved addr a step.1
+
+-- of any test that the helpers go by
+told-nine : (fits : Bool) (helpers : UserOpHelpers) (n : ℕ) → refused n ≡ pick fits (accepted helpers) (refused 9) → pick fits (accepted helpers) (refused 9) ≡ refused 9
+told-nine true helpers n e = cc
+told-nine false helpers n e = refl
+
+-- refused helpers: the number is 9
+pub helpers-refused : (r : OperationHelperRegisters) (answer : Result UserOpHelpers Refusal) → told answer ≡ helpers_answer r → (refusal : Refusal) → answer ≡ Err refusal → helpers_answer r ≡ refused 9
+unfolding helpers_answer helpers_of_cells
+helpers-refused r answer step refusal e =
+    told-nine (all_below 4294967296 (u32_values (read_registers r))) (helpers_of (read_registers r)) (number_of refusal) (rw e at step)
