@@ -51,6 +51,8 @@ fn too_deep(kind: RowKind, row: usize) -> TraceRefused
 }
 
 // The END of a block; `flag` is what its h4 has to be, `wrong` the lowest wrong row of the block's parts.
+// Inlined, so that `block` writes each number of its answer whole: who reads one that was written in pieces waits for them all.
+#[inline(always)]
 fn close(
     lent: &LentTrace<'_>,
     row: usize,
@@ -78,10 +80,12 @@ fn ops(lent: &LentTrace<'_>, row: usize, flag: u64, kinds: &mut [u8]) -> Part
     ensures ops_read { OpsRead (all_rows lent.now.cells.now) (word_in lent.now.profile lent.now.cells.now) row flag (told_part result) }
     ensures kept_kinds { KeptKinds lent.now.profile lent.now.cells.now lent.now.table.now kinds.new }
 {
+    // By a copy, what is lent is not read again behind each store to `kinds`.
+    let trace = *lent;
     let mut at = row;
     // By `loop`: the rows say when it ends.
     loop {
-        let kind = note_kind(lent, at, kinds);
+        let kind = note_kind(&trace, at, kinds);
         match kind {
             RowKind::Op | RowKind::Respan => {
                 at += 1;
