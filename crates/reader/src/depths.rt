@@ -44,7 +44,7 @@ pub(crate) fn fill(lent: &LentTrace<'_>, depths: &mut [u32], kinds: &[u8])
     ensures { depths.new ≡ levels 0 (word_in lent.now.profile lent.now.cells.now)
         ++ drop (length lent.now.cells.now / row_width) depths.old }
 {
-    // By a copy, as in `ops`: there is a store to `depths` for each row.
+    // By a copy, as in `grammar::ops`: there is a store to `depths` for each row.
     let trace = *lent;
     let mut opened: u32 = 0;
     for at in 0..lent.cells.len() / Row::WIDTH {

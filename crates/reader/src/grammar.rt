@@ -51,7 +51,7 @@ fn too_deep(kind: RowKind, row: usize) -> TraceRefused
 }
 
 // The END of a block; `flag` is what its h4 has to be, `wrong` the lowest wrong row of the block's parts.
-// Inlined, so that `block` writes each number of its answer whole: who reads one that was written in pieces waits for them all.
+// Inlined, so that `block` writes each number of its answer whole: who reads one that was written in pieces waits for each of them.
 #[inline(always)]
 fn close(
     lent: &LentTrace<'_>,

@@ -27,7 +27,7 @@ fn halts(lent: &LentTrace<'_>, from: usize, kinds: &mut [u8]) -> usize
     ensures halts_read { HaltsRead (word_in lent.now.profile lent.now.cells.now) from result }
     ensures kept_kinds { KeptKinds lent.now.profile lent.now.cells.now lent.now.table.now kinds.new }
 {
-    // By a copy, as in `ops`.
+    // By a copy, as in `grammar::ops`.
     let trace = *lent;
     for at in from..lent.cells.len() / Row::WIDTH {
         let kind = note_kind(&trace, at, kinds);
